@@ -1,0 +1,38 @@
+-- The domain of a node. Guide: JSON Faceting Domain Changes.
+use Rattle.std.specs.Prelude.{List, Bool, not, ◌&&◌, ◌||◌, if◌then◌else◌, ◌==◌}
+use Rattle.std.specs.List.{filter, list_any, list_all}
+use Rattle.fc_spec.specs.Lists.{is_empty}
+use Rattle.fc_spec.specs.Query.{Query}
+use Rattle.fc_spec.specs.Matching.{matches}
+use Rattle.fc_spec.specs.World.{World, Place, places, same_block}
+use Rattle.fc_spec.specs.Request.{Request, BlockStep, stay, parents, children, DomainChange}
+use Rattle.fc_spec.specs.Base.{base}
+
+-- the two are one place
+abbrev pub same_place : Place → Place → Bool
+same_place p q = (p.shard == q.shard) && (p.position == q.position)
+
+-- y is the parent of p's block, and p a child in it
+abbrev pub is_parent_of : Place → Place → Bool
+is_parent_of y p = y.parent && not p.parent && same_block y p
+
+-- the children whose parent is in Y and matches q
+abbrev pub children_of : World → Query → List Place → List Place
+children_of W q Y = filter (λ p. list_any (λ y. is_parent_of y p && matches q y.document) Y) (places W)
+
+-- the parents that match q and are in Y themselves or have a child in Y
+abbrev pub parents_of : World → Query → List Place → List Place
+parents_of W q Y = filter (λ p. p.parent && matches q p.document && list_any (λ y. same_place p y || is_parent_of p y) Y) (places W)
+
+abbrev pub moved : World → BlockStep → List Place → List Place
+moved W stay Y = Y
+moved W (parents q) Y = parents_of W q Y
+moved W (children q) Y = children_of W q Y
+
+-- the places of Z whose document matches every one of the filters
+abbrev pub filtered : List Query → List Place → List Place
+filtered filters Z = filter (λ p. list_all (λ q. matches q p.document) filters) Z
+
+-- what the change makes of the domain X: exclusion first, then the block step, then the domain's filters
+abbrev pub domain : Request → World → DomainChange → List Place → List Place
+domain r W change X = filtered change.filters (moved W change.block (if is_empty change.exclude then X else base r W change.exclude))

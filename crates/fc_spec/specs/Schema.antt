@@ -1,0 +1,19 @@
+-- Schemas. Guide: Fields and Schema Design, "Field Types".
+use Rattle.std.specs.Prelude.{ℕ, List}
+use Rattle.fc_spec.specs.Val.{Text}
+
+-- at most one text, texts, at most one integer, integers
+pub data FieldType : Type 0 where
+  string : FieldType
+  strings : FieldType
+  plong : FieldType
+  plongs : FieldType
+
+pub record Field : Type 0 where
+  pub name : Text
+  pub kind : FieldType
+
+-- the number of shards, and the fields: `id` first, the others in the byte order of their names; a field's number is its place
+pub record Schema : Type 0 where
+  pub shards : ℕ
+  pub fields : List Field
