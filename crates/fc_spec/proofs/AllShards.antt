@@ -1,21 +1,17 @@
 -- Every place of a world is on one of its shards.
-use Rattle.std.proofs.Common.{◌≡◌, ℕ, zero, suc, ◌+◌, ◌<◌, ◌≤◌, List, [], ◌∷◌, ◌++◌, length, Bool, true, ◌==◌, arith, inl, inr}
+use Rattle.std.proofs.Common.{◌≡◌, ℕ, zero, suc, ◌+◌, ◌<◌, ◌≤◌, List, [], ◌∷◌, length, true, ◌==◌, arith, inl, inr}
 use Rattle.std.specs.List.{list_any, range_with_len}
 use Rattle.std.proofs.lemmas.Bool.{eq-eqb, or_left, or_right, cases_eq}
 use Rattle.fc_spec.specs.Document.{Document, Block}
 use Rattle.fc_spec.specs.Lists.{numbers_below}
 use Rattle.fc_spec.specs.World.{World, places, places_from, shard_places, block_places}
-use Rattle.fc_spec.proofs.Members.{Every}
+use Rattle.fc_spec.proofs.Members.{Every, every_append}
 use Rattle.fc_spec.proofs.Shards.{is_on}
 
 -- a number of a range is in it
 in_range : (n a s : ℕ) → a ≤ s → s < a + n → list_any (λ i. i == s) (range_with_len a n) ≡ true
 in_range zero a s low high = absurd (omega arith)
 in_range (suc n) a s low high = elim (cases_eq a s) [ inl e ↦ or_left (a == s) (list_any (λ i. i == s) (range_with_len (a + 1) n)) (eq-eqb a s e) | inr e ↦ or_right (a == s) (list_any (λ i. i == s) (range_with_len (a + 1) n)) (in_range n (a + 1) s (omega arith) (omega arith)) ]
-
-every_append : {X : Type 0} (p : X → Bool) (xs ys : List X) → Every p xs → Every p ys → Every p (xs ++ ys)
-every_append p [] ys e f = f
-every_append p (x ∷ xs) ys e f = (e.0, every_append p xs ys e.1 f)
 
 block_on : (H : List ℕ) (s b p : ℕ) (ds : List Document) (d : Document) → list_any (λ i. i == s) H ≡ true → Every (is_on H) (block_places s b p ds d)
 block_on H s b p [] d h = (h, tt)

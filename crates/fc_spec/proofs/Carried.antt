@@ -3,7 +3,7 @@ use Rattle.std.proofs.Common.{◌≡◌, ℕ, List, length, Bool, true, false, c
 use Rattle.std.proofs.lemmas.Bool.{false≢true, or_cases}
 use Rattle.fc_spec.specs.Lists.{is_empty, numbers_below}
 use Rattle.fc_spec.specs.World.{World, Place, places, on_shards}
-use Rattle.fc_spec.specs.Request.{Stat, Terms, Kind, terms, range, query, DomainChange, Nodes, Request}
+use Rattle.fc_spec.specs.Request.{Terms, Kind, terms, range, query, DomainChange, Nodes, Request}
 use Rattle.fc_spec.specs.Base.{base, meets_base}
 use Rattle.fc_spec.specs.Domain.{domain, moved, filtered}
 use Rattle.fc_spec.specs.Buckets.{Key, value, missing, gap, before, between, after, whole, in_bucket, bucket_places}
@@ -50,14 +50,14 @@ refining_cases : (t : Terms) → is_refining (terms t) ≡ true → (t.refine �
 refining_cases t h = elim (or_cases t.refine (is_none t.limit) h) [ inl e ↦ inl e | inr e ↦ inr (no_limit_is_None t.limit e) ]
 
 -- a bucket's shards hold all places of its key
-pub carried_holds : (r : Request) (W : World) (kind : Kind) (ss : List Stat) (H : List ℕ) (Y : List Place) (key : Key) → is_refining kind ≡ true → Every (is_on H) Y
-    → on_shards (carried (over_places r W) kind ss H Y key) (bucket_places kind key Y) ≡ bucket_places kind key Y
-carried_holds r W (terms t) ss H Y (value v) h on = known_holds r W t ss H Y v (refining_cases t h) on
-carried_holds r W (terms t) ss H Y missing h on = on_shards_every H (bucket_places (terms t) missing Y) (every_filter (is_on H) (λ p. in_bucket (terms t) missing p.document) Y on)
-carried_holds r W (terms t) ss H Y (gap i) h on = on_shards_every H (bucket_places (terms t) (gap i) Y) (every_filter (is_on H) (λ p. in_bucket (terms t) (gap i) p.document) Y on)
-carried_holds r W (terms t) ss H Y before h on = on_shards_every H (bucket_places (terms t) before Y) (every_filter (is_on H) (λ p. in_bucket (terms t) before p.document) Y on)
-carried_holds r W (terms t) ss H Y between h on = on_shards_every H (bucket_places (terms t) between Y) (every_filter (is_on H) (λ p. in_bucket (terms t) between p.document) Y on)
-carried_holds r W (terms t) ss H Y after h on = on_shards_every H (bucket_places (terms t) after Y) (every_filter (is_on H) (λ p. in_bucket (terms t) after p.document) Y on)
-carried_holds r W (terms t) ss H Y whole h on = on_shards_every H (bucket_places (terms t) whole Y) (every_filter (is_on H) (λ p. in_bucket (terms t) whole p.document) Y on)
-carried_holds r W (range g) ss H Y key h on = on_shards_every H (bucket_places (range g) key Y) (every_filter (is_on H) (λ p. in_bucket (range g) key p.document) Y on)
-carried_holds r W (query q) ss H Y key h on = on_shards_every H (bucket_places (query q) key Y) (every_filter (is_on H) (λ p. in_bucket (query q) key p.document) Y on)
+pub carried_holds : (r : Request) (W : World) (kind : Kind) (inner : Nodes) (H : List ℕ) (Y : List Place) (key : Key) → is_refining kind ≡ true → Every (is_on H) Y
+    → on_shards (carried (over_places r W) kind inner H Y key) (bucket_places kind key Y) ≡ bucket_places kind key Y
+carried_holds r W (terms t) inner H Y (value v) h on = known_holds r W t inner H Y v (refining_cases t h) on
+carried_holds r W (terms t) inner H Y missing h on = on_shards_every H (bucket_places (terms t) missing Y) (every_filter (is_on H) (λ p. in_bucket (terms t) missing p.document) Y on)
+carried_holds r W (terms t) inner H Y (gap i) h on = on_shards_every H (bucket_places (terms t) (gap i) Y) (every_filter (is_on H) (λ p. in_bucket (terms t) (gap i) p.document) Y on)
+carried_holds r W (terms t) inner H Y before h on = on_shards_every H (bucket_places (terms t) before Y) (every_filter (is_on H) (λ p. in_bucket (terms t) before p.document) Y on)
+carried_holds r W (terms t) inner H Y between h on = on_shards_every H (bucket_places (terms t) between Y) (every_filter (is_on H) (λ p. in_bucket (terms t) between p.document) Y on)
+carried_holds r W (terms t) inner H Y after h on = on_shards_every H (bucket_places (terms t) after Y) (every_filter (is_on H) (λ p. in_bucket (terms t) after p.document) Y on)
+carried_holds r W (terms t) inner H Y whole h on = on_shards_every H (bucket_places (terms t) whole Y) (every_filter (is_on H) (λ p. in_bucket (terms t) whole p.document) Y on)
+carried_holds r W (range g) inner H Y key h on = on_shards_every H (bucket_places (range g) key Y) (every_filter (is_on H) (λ p. in_bucket (range g) key p.document) Y on)
+carried_holds r W (query q) inner H Y key h on = on_shards_every H (bucket_places (query q) key Y) (every_filter (is_on H) (λ p. in_bucket (query q) key p.document) Y on)

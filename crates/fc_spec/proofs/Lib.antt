@@ -6,6 +6,7 @@ pub mod Ascending
 pub mod FoundValues
 pub mod Unlimited
 pub mod Carried
+pub mod PrintedKeys
 pub mod ExactPaths
 pub mod NoLimits
 pub mod Permuted

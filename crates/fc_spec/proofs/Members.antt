@@ -1,5 +1,5 @@
 -- Members of lists, tests of them, and filters.
-use Rattle.std.proofs.Common.{◌≡◌, ◌⊎◌, List, [], ◌∷◌, ◌++◌, Bool, true, false, cond, ◌||◌, ◌&&◌, refl, sym, ◌∙◌, ap, inl, inr}
+use Rattle.std.proofs.Common.{◌≡◌, ◌⊎◌, List, [], ◌∷◌, ◌++◌, map, Bool, true, false, cond, ◌||◌, ◌&&◌, refl, sym, ◌∙◌, ap, inl, inr}
 use Rattle.std.specs.List.{filter, list_any, flat_map}
 use Rattle.std.proofs.lemmas.Bool.{false≢true, or_cases, or_left, or_right}
 
@@ -92,3 +92,17 @@ list_any-filter t q (x ∷ xs) = go (q x) (list_any-filter t q xs)
     go : (b : Bool) → list_any t (filter q xs) ≡ list_any (λ x. q x && t x) xs → list_any t (cond b (x ∷ filter q xs) (filter q xs)) ≡ ((b && t x) || list_any (λ x. q x && t x) xs)
     go true h = ap (λ b. t x || b) h
     go false h = h
+
+-- what the members of lists pass, those of the joined list pass
+pub every_append : {X : Type 0} (p : X → Bool) (xs ys : List X) → Every p xs → Every p ys → Every p (xs ++ ys)
+every_append p [] ys e f = f
+every_append p (x ∷ xs) ys e f = (e.0, every_append p xs ys e.1 f)
+
+pub every_flat_map : {X Y : Type 0} (p : Y → Bool) (f : X → List Y) (xs : List X) → ((x : X) → Every p (f x)) → Every p (flat_map f xs)
+every_flat_map p f [] h = tt
+every_flat_map p f (x ∷ xs) h = every_append p (f x) (flat_map f xs) (h x) (every_flat_map p f xs h)
+
+-- what the images of the members pass, the members of the image pass
+pub every_map : {X Y : Type 0} (p : Y → Bool) (f : X → Y) (xs : List X) → Every (λ x. p (f x)) xs → Every p (map f xs)
+every_map p f [] e = tt
+every_map p f (x ∷ xs) e = (e.0, every_map p f xs e.1)

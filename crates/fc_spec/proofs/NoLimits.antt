@@ -3,7 +3,7 @@ use Rattle.std.proofs.Common.{◌≡◌, ℕ, suc, List, [], ◌∷◌, ◌++◌
 use Rattle.std.proofs.lemmas.Bool.{and_parts, or_right}
 use Rattle.fc_spec.specs.Lists.{numbers_below}
 use Rattle.fc_spec.specs.World.{World, Place, on_shards}
-use Rattle.fc_spec.specs.Request.{Stat, Kind, terms, range, query, Nodes, no_nodes, statistic, facet, Request, stats_of}
+use Rattle.fc_spec.specs.Request.{Kind, terms, range, query, Nodes, no_nodes, statistic, facet, Request, stats_of}
 use Rattle.fc_spec.specs.Base.{root_domain}
 use Rattle.fc_spec.specs.Domain.{domain}
 use Rattle.fc_spec.specs.Buckets.{Key, bucket_places}
@@ -14,13 +14,13 @@ use Rattle.fc_spec.specs.Paths.{is_refining}
 use Rattle.fc_spec.specs.Shape.{has_no_limit, no_limits}
 use Rattle.fc_spec.specs.Exact.{exact, exact_keys, exact_facets}
 use Rattle.fc_spec.specs.Reading.{over_places}
-use Rattle.fc_spec.specs.Distributed.{carried, printed_keys}
+use Rattle.fc_spec.specs.Distributed.{carried, printed_keys, dist_facets}
 use Rattle.fc_spec.specs.WithoutLimits.{IsExactWithoutLimits, IsSingleOnOneShard}
 use Rattle.fc_spec.proofs.Members.{Every}
 use Rattle.fc_spec.proofs.Shards.{is_on, every_on_shards}
 use Rattle.fc_spec.proofs.Unlimited.{chosen_entries_all}
 use Rattle.fc_spec.proofs.Carried.{AreAllowed, no_limit_is_None, domain_is}
-use Rattle.fc_spec.proofs.ExactPaths.{dist_domain, part_is, told_facets, first_allowed, rest_allowed, inner_allowed, root_is}
+use Rattle.fc_spec.proofs.ExactPaths.{dist_domain, part_is, first_allowed, rest_allowed, inner_allowed, root_is}
 
 unlimited_refines : (kind : Kind) → has_no_limit kind ≡ true → is_refining kind ≡ true
 unlimited_refines (terms t) h = or_right t.refine (is_none t.limit) h
@@ -28,34 +28,33 @@ unlimited_refines (range g) h = refl
 unlimited_refines (query q) h = refl
 
 -- the keys printed over places on the shards are those of a single index
-keys_are : (r : Request) (W : World) (kind : Kind) (ss : List Stat) (H : List ℕ) (Y : List Place) → has_no_limit kind ≡ true → Every (is_on H) Y → printed_keys (over_places r W) kind ss H Y ≡ exact_keys kind ss Y
-keys_are r W (terms t) ss H Y h on = ap (terms_keys t) (chosen_entries_all r W t ss H Y (no_limit_is_None t.limit h) on)
-keys_are r W (range g) ss H Y h on = refl
-keys_are r W (query q) ss H Y h on = refl
+keys_are : (r : Request) (W : World) (kind : Kind) (inner : Nodes) (H : List ℕ) (Y : List Place) → has_no_limit kind ≡ true → Every (is_on H) Y → printed_keys (over_places r W) kind inner H Y ≡ exact_keys kind (stats_of inner) Y
+keys_are r W (terms t) inner H Y h on = ap (terms_keys t) (chosen_entries_all r W t inner H Y (no_limit_is_None t.limit h) on)
+keys_are r W (range g) inner H Y h on = refl
+keys_are r W (query q) inner H Y h on = refl
 
 -- the facets of a bucket whose part on its shards is Q are the exact ones over Q
-pub facets_are : (r : Request) (W : World) (nodes : Nodes) (n : ℕ) (H : List ℕ) (X Q : List Place) → no_limits nodes ≡ true → AreAllowed W H nodes → on_shards H X ≡ Q
-    → told_facets r W nodes n H X Q ≡ exact_facets r W nodes Q
-facets_are r W no_nodes n H X Q unlimited allowed e = refl
-facets_are r W (statistic name s rest) n H X Q unlimited allowed e = ap (statistic_part (length Q == 0) name (shown (value_over s Q))) (facets_are r W rest (suc n) H X Q unlimited allowed e)
-facets_are r W (facet f inner rest) n H X Q unlimited allowed e =
+pub facets_are : (r : Request) (W : World) (nodes : Nodes) (n m : ℕ) (H : List ℕ) (X Q : List Place) → no_limits nodes ≡ true → AreAllowed W H nodes → on_shards H X ≡ Q
+    → dist_facets (over_places r W) nodes n m H X ≡ exact_facets r W nodes Q
+facets_are r W no_nodes n m H X Q unlimited allowed e = refl
+facets_are r W (statistic name s rest) n m H X Q unlimited allowed e =
+    let more = facets_are r W rest (suc n) (suc m) H X Q unlimited allowed e in
+    λ i. statistic_part (length (e i) == 0) name (shown (value_over s (e i))) (more i)
+facets_are r W (facet f inner rest) n m H X Q unlimited allowed e =
     let parts = and_parts (has_no_limit f.kind && no_limits inner) (no_limits rest) unlimited in
     let limits = and_parts (has_no_limit f.kind) (no_limits inner) parts.0 in
     let Y = dist_domain r W f H X in
-    let D = domain r W f.change Q in
-    let K = λ (k : Key). carried (over_places r W) f.kind (stats_of inner) H Y k in
-    let is = part_is r W f (stats_of inner) H X Q (first_allowed W H f inner rest allowed) e (unlimited_refines f.kind limits.0) in
-    let insides = λ (k : Key). ap (told_facets r W inner 0 (K k) (bucket_places f.kind k Y)) (is k) ∙ facets_are r W inner 0 (K k) (bucket_places f.kind k Y) (bucket_places f.kind k D) limits.1 (inner_allowed W H (K k) f inner rest allowed) (is k) in
-    let keys = keys_are r W f.kind (stats_of inner) H Y limits.0 (every_on_shards H (domain r W f.change (on_shards H X))) ∙ ap (exact_keys f.kind (stats_of inner)) (domain_is r W f.change H X Q (first_allowed W H f inner rest allowed) e) in
-    let more = facets_are r W rest (suc n) H X Q parts.1 (rest_allowed W H f inner rest allowed) e in
-    λ i. facet_part (length Q == 0) f (with_buckets f.name f.kind (λ k. length (is k i)) (λ k. insides k i) (keys i) (more i)) (more i)
+    let K = λ (k : Key). carried (over_places r W) f.kind inner H Y k in
+    let is = part_is r W f inner H X Q (first_allowed W H f inner rest allowed) e (unlimited_refines f.kind limits.0) in
+    let insides = λ (k : Key). facets_are r W inner 0 0 (K k) (bucket_places f.kind k Y) (bucket_places f.kind k (domain r W f.change Q)) limits.1 (inner_allowed W H (K k) f inner rest allowed) (is k) in
+    let keys = keys_are r W f.kind inner H Y limits.0 (every_on_shards H (domain r W f.change (on_shards H X))) ∙ ap (exact_keys f.kind (stats_of inner)) (domain_is r W f.change H X Q (first_allowed W H f inner rest allowed) e) in
+    let more = facets_are r W rest (suc n) m H X Q parts.1 (rest_allowed W H f inner rest allowed) e in
+    λ i. facet_part (length (e i) == 0) f (with_buckets f.name f.kind (λ k. length (is k i)) (λ k. insides k i) (keys i) (more i)) (more i)
 
 pub exact_without_limits : IsExactWithoutLimits
 exact_without_limits r W unlimited outermost =
-    let H = numbers_below (length W) in
-    let Q = root_domain r W in
-    (λ i. bucket None (length (root_is r W i)) (told_facets r W r.nodes 0 H Q (root_is r W i)))
-    ∙ ap (bucket None (length Q)) (facets_are r W r.nodes 0 H Q Q unlimited (inr (outermost, refl)) (root_is r W))
+    let same = facets_are r W r.nodes 0 0 (numbers_below (length W)) (root_domain r W) (root_domain r W) unlimited (inr (outermost, refl)) (root_is r W) in
+    λ i. bucket None (length (root_is r W i)) (same i)
 
 append_nothing : {X : Type 0} (xs : List X) → xs ++ [] ≡ xs
 append_nothing [] = refl

@@ -15,7 +15,7 @@ has_tag_in tags f = list_any (λ t. list_any (same_text t) tags) f.tags
 abbrev pub meets_base : Request → List Text → Document → Bool
 meets_base r tags d = matches r.query d && list_all (λ f. has_tag_in tags f || matches f.query d) r.filters
 
--- the places of the world whose document does
+-- the places of the world whose document meets the query and the filters without these tags
 abbrev pub base : Request → World → List Text → List Place
 base r W tags = filter (λ p. meets_base r tags p.document) (places W)
 

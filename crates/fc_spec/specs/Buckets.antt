@@ -1,5 +1,5 @@
 -- Which places a bucket holds. Guide: JSON Facet API, "Types of Facets".
-use Rattle.std.specs.Prelude.{ℕ, List, Bool, true, false, ◌&&◌, Option, None, Some, nat_eq}
+use Rattle.std.specs.Prelude.{ℕ, List, Bool, true, false, ◌&&◌, Option, None, Some, nat_eq, nat_lt}
 use Rattle.std.specs.List.{filter, list_any, starts_with}
 use Rattle.fc_spec.specs.Val.{Text, Val, text, long, has_val}
 use Rattle.fc_spec.specs.Document.{Document, values_of}
@@ -7,7 +7,7 @@ use Rattle.fc_spec.specs.Lists.{is_empty}
 use Rattle.fc_spec.specs.Matching.{matches}
 use Rattle.fc_spec.specs.World.{Place}
 use Rattle.fc_spec.specs.Request.{Terms, Range, Kind, terms, range, query}
-use Rattle.fc_spec.specs.Gaps.{in_gap, in_before, in_after, in_between}
+use Rattle.fc_spec.specs.Gaps.{gap_count, in_gap, in_before, in_after, in_between}
 
 -- what tells the buckets of a node apart
 pub data Key : Type 0 where
@@ -39,9 +39,28 @@ in_range g between (long x) = in_between g x
 in_range g after (long x) = in_after g x
 in_range g _ _ = false
 
+-- it is the key of a query facet's bucket
 abbrev pub is_whole : Key → Bool
 is_whole whole = true
 is_whole _ = false
+
+-- the key is one of the facet's: a value that begins with the prefix, and missing where asked; a gap that is there, and those beside the gaps that are asked for; the whole
+abbrev pub is_terms_key : Terms → Key → Bool
+is_terms_key t (value v) = has_prefix t.prefix v
+is_terms_key t missing = t.missing
+is_terms_key t _ = false
+
+abbrev pub is_range_key : Range → Key → Bool
+is_range_key g (gap i) = nat_lt i (gap_count g)
+is_range_key g before = g.before
+is_range_key g between = g.between
+is_range_key g after = g.after
+is_range_key g _ = false
+
+abbrev pub is_key_of : Kind → Key → Bool
+is_key_of (terms t) key = is_terms_key t key
+is_key_of (range g) key = is_range_key g key
+is_key_of (query q) key = is_whole key
 
 -- the document is in the bucket
 abbrev pub in_bucket : Kind → Key → Document → Bool

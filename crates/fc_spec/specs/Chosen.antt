@@ -2,23 +2,24 @@
 use Rattle.std.specs.Prelude.{ℕ, List, map, None, if◌then◌else◌}
 use Rattle.std.specs.List.{filter, flat_map}
 use Rattle.fc_spec.specs.Val.{Val, has_val, distinct}
-use Rattle.fc_spec.specs.Request.{Stat, Terms, terms}
+use Rattle.fc_spec.specs.Request.{Terms, terms, Nodes, stats_of}
 use Rattle.fc_spec.specs.Buckets.{value}
 use Rattle.fc_spec.specs.Ranks.{Entry, below_rank, bound_of}
-use Rattle.fc_spec.specs.Reading.{Reading}
+use Rattle.fc_spec.specs.Reading.{Reading, stats_on}
 
-module _ {B D : Type 0} (R : Reading B D) (t : Terms) (ss : List Stat) (H : List ℕ) (Y : D) where
+-- of a terms facet with its nested nodes, in a domain on the shards H
+module _ {B D : Type 0} (R : Reading B D) (t : Terms) (inner : Nodes) (H : List ℕ) (Y : D) where
   -- the values that some shard of H offers, in index order
   abbrev pub candidates : List Val
-  candidates = distinct (flat_map (λ i. R.offered_by t ss Y i) H)
+  candidates = distinct (flat_map (λ i. R.offered_by t inner Y i) H)
 
   -- the shards of H that offer the value
   abbrev pub offering : Val → List ℕ
-  offering v = filter (λ i. has_val v (R.offered_by t ss Y i)) H
+  offering v = filter (λ i. has_val v (R.offered_by t inner Y i)) H
 
-  -- the value with the statistics of its part on these shards
+  -- the value with the count and the statistics of its part on these shards
   abbrev pub entry_on : List ℕ → Val → Entry
-  entry_on shards v = record { val = v; stats = R.stats_on ss shards (R.bucket_at (terms t) Y (value v)) }
+  entry_on shards v = record { val = v; stats = stats_on R (stats_of inner) shards (R.bucket_at (terms t) Y (value v)) }
 
   -- with refine and a limit the candidates whose rank, over the shards that offer them, is below the bound; else every candidate
   abbrev pub chosen : List Val

@@ -11,6 +11,7 @@ pub data DocFault : Type 0 where
   long_term : DocFault
   deep_children : DocFault
 
+-- how a fault line names it
 abbrev pub detail_of : DocFault → Text
 detail_of unknown_field = codes "unknown-field"
 detail_of wrong_type = codes "wrong-type"

@@ -24,6 +24,7 @@ children_of W q Y = filter (λ p. list_any (λ y. is_parent_of y p && matches q 
 abbrev pub parents_of : World → Query → List Place → List Place
 parents_of W q Y = filter (λ p. p.parent && matches q p.document && list_any (λ y. same_place p y || is_parent_of p y) Y) (places W)
 
+-- what a block step makes of Y
 abbrev pub moved : World → BlockStep → List Place → List Place
 moved W stay Y = Y
 moved W (parents q) Y = parents_of W q Y

@@ -1,4 +1,4 @@
--- The buckets of a range facet. Guide: JSON Facet API, "Range Facet" (`hardend`, `other`, `include`).
+-- The buckets of a range facet, whose end is at least its start and whose gap is at least 1. Guide: JSON Facet API, "Range Facet" (`hardend`, `other`, `include`).
 use Rattle.std.specs.Prelude.{ℕ, ◌+◌, ◌-◌, ℤ, pos, ◌+ℤ◌, ◌-ℤ◌, ◌*ℤ◌, unsigned_abs, int_lt, Bool, not, ◌&&◌, ◌||◌, ◌==◌, if◌then◌else◌}
 use Rattle.std.specs.Int.{div_ceil}
 use Rattle.std.specs.Ordering.{int_eq}
@@ -8,6 +8,7 @@ use Rattle.fc_spec.specs.Request.{Range}
 abbrev pub gap_count : Range → ℕ
 gap_count g = div_ceil (unsigned_abs (g.end -ℤ g.start)) (unsigned_abs g.gap)
 
+-- it is the number of the last gap bucket
 abbrev pub is_last_gap : Range → ℕ → Bool
 is_last_gap g i = gap_count g == i + 1
 

@@ -13,10 +13,12 @@ abbrev pub integer_data : ℤ → Data
 integer_data (pos n) = natural_data n
 integer_data (negsuc n) = json_number (negative (negsuc n))
 
+-- a text or an integer
 abbrev pub val_data : Val → Data
 val_data (text t) = string t
 val_data (long n) = integer_data n
 
+-- the members with `val`, where there is one
 abbrev pub put_val : Option Val → Members → Members
 put_val None ms = ms
 put_val (Some v) ms = put (codes "val") (val_data v) ms
@@ -35,7 +37,7 @@ put_beside as_between d ms = put (codes "between") d ms
 put_beside as_after d ms = put (codes "after") d ms
 
 abbrev mutual
-  -- `val` where it has one, `count`, and each facet by its name
+  -- `val` where it has one, `count`, and each facet by its name; the names differ and are neither of these two
   pub bucket_data : Bucket → Data
   bucket_data (bucket val count facets) = object (put_facets facets (put_val val (put (codes "count") (natural_data count) no_members)))
 
@@ -45,12 +47,12 @@ abbrev mutual
   put_facets (one name b more) ms = put_facets more (put name (bucket_data b) ms)
   put_facets (many name row more) ms = put_facets more (put name (object (put_row row (put (codes "buckets") (array (listed_items row)) no_members))) ms)
 
-  -- the list of buckets
+  -- the buckets of the list, in their order
   pub listed_items : Row → Items
   listed_items no_parts = no_items
   listed_items (part spot b row) = item_at spot (bucket_data b) (listed_items row)
 
-  -- those that stand beside it
+  -- with the buckets beside the list, at most one in each spot
   pub put_row : Row → Members → Members
   put_row no_parts ms = ms
   put_row (part spot b row) ms = put_row row (put_beside spot (bucket_data b) ms)

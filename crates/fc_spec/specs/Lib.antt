@@ -27,6 +27,7 @@ pub mod RequestFault
 pub mod Json
 pub mod Lines
 pub mod Script
+pub mod Phases
 pub mod Outputs
 pub mod CombiningLaw
 pub mod SortingLaw

@@ -19,6 +19,7 @@ is_below unbounded x = true
 is_below (including v) x = is_le (val_cmp x v)
 is_below (excluding v) x = is_lt (val_cmp x v)
 
+-- the two are one
 abbrev pub same_need : Need → Need → Bool
 same_need must must = true
 same_need must_not must_not = true

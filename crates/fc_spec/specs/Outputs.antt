@@ -1,29 +1,16 @@
 -- Legal generations, and the outputs of a script.
-use Rattle.std.specs.Prelude.{◌≡◌, ℕ, List, [], ◌∷◌, ◌++◌, length, map, Bool, ◌&&◌, ◌==◌, nat_le, IsTrue, slice_index, Option, None, Some, Result, Ok, Err}
-use Rattle.std.specs.List.{filter, filter_map, list_all, enumerate_from}
+use Rattle.std.specs.Prelude.{◌≡◌, ℕ, List, [], ◌∷◌, ◌++◌, length, map, Bool, ◌&&◌, ◌==◌, nat_le, IsTrue, slice_index, Result, Ok, Err}
+use Rattle.std.specs.List.{filter, list_all}
 use Rattle.fc_spec.specs.Val.{Text, same_text}
 use Rattle.fc_spec.specs.Lists.{numbers_below}
 use Rattle.fc_spec.specs.Request.{Request}
 use Rattle.fc_spec.specs.RequestFault.{RequestFault}
-use Rattle.fc_spec.specs.Script.{Line, asks, Script, phase_of, commits_up_to, commits_before, world}
+use Rattle.fc_spec.specs.Script.{Script, commits_up_to, commits_before, world}
+use Rattle.fc_spec.specs.Phases.{Search, searches}
 use Rattle.fc_spec.specs.Distributed.{distributed}
 use Rattle.fc_spec.specs.Lines.{reply_line, error_line}
 
--- a search: its phase, its session and what it asks
-pub record Search (A : Type 0) : Type 0 where
-  pub phase : ℕ
-  pub session : Text
-  pub request : A
-
-abbrev pub search_at : {A : Type 0} → ℕ → Line A → Option (Search A)
-search_at phase (asks session a) = Some (record { phase = phase; session = session; request = a })
-search_at phase _ = None
-
--- the searches of a script, in script order
-abbrev pub searches : {A : Type 0} → List (Line A) → List (Search A)
-searches lines = filter_map (λ n. search_at (phase_of lines n.0) n.1) (enumerate_from 0 lines)
-
--- the number of a shard: at least its commits in earlier phases, at most those up to the end of this phase, and at least each number that an earlier reply of the session showed
+-- the number of a shard is legal: at least its commits in earlier phases and each number that an earlier reply of the session showed, at most its commits up to the end of the phase
 abbrev pub legal_on : {A : Type 0} → Script A → List (List ℕ) → (phase : ℕ) → List ℕ → (shard : ℕ) → Bool
 legal_on S earlier phase g s =
     nat_le (commits_before S.lines s phase) (slice_index g s) && nat_le (slice_index g s) (commits_up_to S.lines s phase) && list_all (λ e. nat_le (slice_index e s) (slice_index g s)) earlier
@@ -40,11 +27,15 @@ Seen = Text × List ℕ
 abbrev pub shown_to : Text → List Seen → List (List ℕ)
 shown_to session seen = map (λ x. x.1) (filter (λ x. same_text session x.0) seen)
 
--- the text is the line of a search, and then what the rest is to be: with a request its reply over some legal generations, which the rest has seen; with a fault its error line
-abbrev pub IsLineThen : Script (Result Request RequestFault) → List Seen → (phase : ℕ) → (session : Text) → Result Request RequestFault → (List Seen → Text → Type 0) → Text → Type 0
-IsLineThen S seen phase session (Ok r) Rest t =
+-- the text is a reply line of the search over some legal generations, and then what the rest is to be, which has seen them
+abbrev pub IsReplyThen : Script (Result Request RequestFault) → List Seen → (phase : ℕ) → (session : Text) → Request → (List Seen → Text → Type 0) → Text → Type 0
+IsReplyThen S seen phase session r Rest t =
     (g : List ℕ) × (rest : Text) × IsTrue (legal S (shown_to session seen) phase g)
     × (t ≡ reply_line (distributed r (world S g)) g session ++ rest) × Rest (seen ++ (session, g) ∷ []) rest
+
+-- the text is the line of a search, and then what the rest is to be: of a request a reply line, of a fault its error line, which shows no numbers
+abbrev pub IsLineThen : Script (Result Request RequestFault) → List Seen → (phase : ℕ) → (session : Text) → Result Request RequestFault → (List Seen → Text → Type 0) → Text → Type 0
+IsLineThen S seen phase session (Ok r) Rest t = IsReplyThen S seen phase session r Rest t
 IsLineThen S seen phase session (Err f) Rest t = (rest : Text) × (t ≡ error_line f session ++ rest) × Rest seen rest
 
 -- the text is the lines of these searches, one for each in script order, after lines that showed some numbers

@@ -16,12 +16,12 @@ abbrev pub path_places : Request → World → Path → List Place
 path_places r W at_root = root_domain r W
 path_places r W (into path f key) = bucket_places f.kind key (domain r W f.change (path_places r W path))
 
--- a terms facet that refines or has no limit; any other facet
+-- it is a terms facet that refines or has no limit, or a facet of another kind
 abbrev pub is_refining : Kind → Bool
 is_refining (terms t) = t.refine || is_none t.limit
 is_refining _ = true
 
--- every terms facet on the path does
+-- every terms facet on the path refines or has no limit
 abbrev pub is_refined : Path → Bool
 is_refined at_root = true
 is_refined (into path f key) = is_refined path && is_refining f.kind

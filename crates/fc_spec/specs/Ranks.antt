@@ -51,7 +51,7 @@ rank s V e = count_by (λ w. is_ahead s w e) V
 abbrev pub below_rank : Sort → Option ℕ → List Entry → List Entry
 below_rank s bound V = filter (λ e. is_within bound (rank s V e)) V
 
--- the entries of n ranks from one on, in the order of ranks
+-- the entries of the rank `from`, of the next rank and so on: of n ranks, in their order
 abbrev pub of_ranks : Sort → List Entry → ℕ → ℕ → List Entry
 of_ranks s V from n = flat_map (λ k. filter (λ e. rank s V e == k) V) (range_with_len from n)
 

@@ -52,7 +52,7 @@ abbrev pub with_number : Text → Option ℤ → Facets → Facets
 with_number name None more = more
 with_number name (Some n) more = number name n more
 
--- the facets with those buckets of a facet before them: of a query facet its one bucket, of another the row of its keys
+-- the facets with the buckets of one more before them: of a query facet its one bucket, whatever the keys, of another facet the row of the keys
 abbrev pub with_buckets : Text → Kind → (count : Key → ℕ) → (inside : Key → Facets) → List Key → Facets → Facets
 with_buckets name (terms t) count inside keys more = many name (row_of (terms t) count inside keys) more
 with_buckets name (range g) count inside keys more = many name (row_of (range g) count inside keys) more

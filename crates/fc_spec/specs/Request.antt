@@ -8,7 +8,7 @@ pub record Filter : Type 0 where
   pub tags : List Text
   pub query : Query
 
--- from children to their parents, from parents to their children, or neither; which parents are looked at
+-- nothing; to the parents that match, from themselves or their children; to the children, from the parents that match
 pub data BlockStep : Type 0 where
   stay : BlockStep
   parents : Query → BlockStep
@@ -26,6 +26,7 @@ pub data SortKey : Type 0 where
   by_index : SortKey
   by_statistic : ℕ → SortKey
 
+-- and in which direction
 pub record Sort : Type 0 where
   pub by : SortKey
   pub descending : Bool
@@ -43,7 +44,7 @@ pub record Terms : Type 0 where
   pub overrequest : ℕ
   pub overrefine : ℕ
 
--- a range facet over integers. Guide: JSON Facet API, "Range Facet"
+-- a range facet over integers: end is at least start, gap at least 1. Guide: JSON Facet API, "Range Facet"
 pub record Range : Type 0 where
   pub field : ℕ
   pub start : ℤ
@@ -58,7 +59,7 @@ pub record Range : Type 0 where
   pub edge : Bool
   pub outer : Bool
 
--- Guide: JSON Facet API, "Stat Facet Functions"
+-- the kinds of statistic. Guide: JSON Facet API, "Stat Facet Functions"
 pub data StatKind : Type 0 where
   sum : StatKind
   min : StatKind
@@ -66,6 +67,7 @@ pub data StatKind : Type 0 where
   countvals : StatKind
   missing : StatKind
 
+-- a statistic of a field
 pub record Stat : Type 0 where
   pub of : StatKind
   pub field : ℕ
@@ -76,6 +78,7 @@ pub data Kind : Type 0 where
   range : Range → Kind
   query : Query → Kind
 
+-- a facet: its name, what it does to its domain, its kind
 pub record Facet : Type 0 where
   pub name : Text
   pub change : DomainChange
@@ -87,6 +90,7 @@ pub data Nodes : Type 0 where
   statistic : Text → Stat → Nodes → Nodes
   facet : Facet → Nodes → Nodes → Nodes
 
+-- the root domain's query and filters, and the outermost nodes
 pub record Request : Type 0 where
   pub query : Query
   pub filters : List Filter

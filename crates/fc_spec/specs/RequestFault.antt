@@ -21,6 +21,7 @@ pub data QFault : Type 0 where
   nested_exclude : QFault
   too_large : QFault
 
+-- its number
 abbrev pub fault_number : QFault → ℕ
 fault_number not_an_object = 1
 fault_number unknown_key = 2
@@ -39,6 +40,7 @@ fault_number reserved_name = 14
 fault_number nested_exclude = 15
 fault_number too_large = 16
 
+-- its name
 abbrev pub fault_name : QFault → Text
 fault_name not_an_object = codes "not-an-object"
 fault_name unknown_key = codes "unknown-key"

@@ -9,6 +9,7 @@ pub data FieldType : Type 0 where
   plong : FieldType
   plongs : FieldType
 
+-- a field
 pub record Field : Type 0 where
   pub name : Text
   pub kind : FieldType

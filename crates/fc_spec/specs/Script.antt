@@ -19,6 +19,7 @@ pub record Script (A : Type 0) : Type 0 where
   pub schema : Schema
   pub lines : List (Line A)
 
+-- the line ends a phase
 abbrev pub is_sync : {A : Type 0} → Line A → Bool
 is_sync sync = true
 is_sync _ = false
@@ -51,7 +52,7 @@ abbrev pub commits_before : {A : Type 0} → List (Line A) → (shard p : ℕ) �
 commits_before lines shard zero = 0
 commits_before lines shard (suc p) = commits_up_to lines shard p
 
--- the blocks added to a shard after its j-th commit and before the next, j counted from 0
+-- the blocks added to a shard after exactly j of its commits
 abbrev pub batch_of : {A : Type 0} → List (Line A) → (shard j : ℕ) → Batch
 batch_of lines shard j = filter_map (λ n. if earlier (commits_shard shard) lines n.0 == j then added_to shard n.1 else None) (enumerate_from 0 lines)
 

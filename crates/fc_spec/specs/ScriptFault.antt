@@ -20,6 +20,7 @@ pub data LineFault : Type 0 where
   too_many_commits : LineFault
   too_many_syncs : LineFault
 
+-- its number
 abbrev pub line_fault_number : LineFault → ℕ
 line_fault_number not_json = 1
 line_fault_number no_schema = 2
@@ -36,6 +37,7 @@ line_fault_number too_long = 12
 line_fault_number too_many_commits = 13
 line_fault_number too_many_syncs = 14
 
+-- its name
 abbrev pub line_fault_name : LineFault → Text
 line_fault_name not_json = codes "not-json"
 line_fault_name no_schema = codes "no-schema"

@@ -3,6 +3,7 @@ use Rattle.std.specs.Prelude.{Bool, true, ◌&&◌, is_none}
 use Rattle.fc_spec.specs.Lists.{is_empty}
 use Rattle.fc_spec.specs.Request.{Kind, terms, Nodes, no_nodes, statistic, facet}
 
+-- it is no terms facet with a limit
 abbrev pub has_no_limit : Kind → Bool
 has_no_limit (terms t) = is_none t.limit
 has_no_limit _ = true

@@ -18,17 +18,20 @@ pub record Stats : Type 0 where
   pub count : ℕ
   pub values : List StatValue
 
--- the values of the field at the places: one for each pair of a place and a value of its document
+-- the values of the field at the places: one for each pair of a place and a value of its document, whose values are different
 abbrev pub pair_values : ℕ → List Place → List Val
 pair_values field X = flat_map (λ p. values_of p.document field) X
 
+-- the integer that a value is
 abbrev pub as_long : Val → Option ℤ
 as_long (long n) = Some n
 as_long (text t) = None
 
+-- the integers among the values of the pairs: in an integer field, all of them
 abbrev pub longs_of : ℕ → List Place → List ℤ
 longs_of field X = filter_map as_long (pair_values field X)
 
+-- all added up
 abbrev pub total_of : List ℤ → ℤ
 total_of [] = pos 0
 total_of (x ∷ xs) = x +ℤ total_of xs
@@ -44,6 +47,7 @@ greater None b = b
 greater (Some a) None = Some a
 greater (Some a) (Some b) = Some (int_max a b)
 
+-- the least and the greatest, absent where there is none
 abbrev pub least_of : List ℤ → Option ℤ
 least_of [] = None
 least_of (x ∷ xs) = lesser (Some x) (least_of xs)
@@ -60,6 +64,7 @@ statistic_in max field X = extreme (greatest_of (longs_of field X))
 statistic_in countvals field X = number (pos (length (pair_values field X)))
 statistic_in missing field X = number (pos (count_by (λ p. is_empty (values_of p.document field)) X))
 
+-- a statistic of a node over places
 abbrev pub value_over : Stat → List Place → StatValue
 value_over s X = statistic_in s.of s.field X
 
@@ -72,6 +77,7 @@ abbrev pub shown : StatValue → Option ℤ
 shown (number n) = Some n
 shown (extreme o) = o
 
+-- the number that a statistic adds to a sum
 abbrev pub amount : StatValue → ℤ
 amount v = unwrap_or (shown v) (pos 0)
 

@@ -19,6 +19,7 @@ pub data Val : Type 0 where
 abbrev pub text_cmp : Text → Text → Ordering
 text_cmp = slice_cmp nat_cmp
 
+-- the two texts are one
 abbrev pub same_text : Text → Text → Bool
 same_text a b = is_eq (text_cmp a b)
 
@@ -29,6 +30,7 @@ val_cmp (long a) (text b) = Less
 val_cmp (text a) (long b) = Greater
 val_cmp (text a) (text b) = text_cmp a b
 
+-- the two values are one
 abbrev pub same_val : Val → Val → Bool
 same_val a b = is_eq (val_cmp a b)
 

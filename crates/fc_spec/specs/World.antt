@@ -16,17 +16,17 @@ pub record Place : Type 0 where
   pub parent : Bool
   pub document : Document
 
--- the places of a block from a position on: its children, then their parent
+-- the places of a block that begins at the position p: its children, then their parent
 abbrev pub block_places : (shard block position : ℕ) → List Document → Document → List Place
 block_places s b p [] parent = record { shard = s; position = p; block = b; parent = true; document = parent } ∷ []
 block_places s b p (d ∷ ds) parent = record { shard = s; position = p; block = b; parent = false; document = d } ∷ block_places s b (p + 1) ds parent
 
--- those of a shard's blocks, from a number of a block and a position on
+-- the places of a list of blocks of a shard, of which the first has the number b and begins at the position p
 abbrev pub shard_places : (shard block position : ℕ) → List Block → List Place
 shard_places s b p [] = []
 shard_places s b p (x ∷ xs) = block_places s b p x.children x.parent ++ shard_places s (b + 1) (p + length x.children + 1) xs
 
--- those of the shards from one on
+-- the places of a list of shards, of which the first has the number s
 abbrev pub places_from : ℕ → World → List Place
 places_from s [] = []
 places_from s (blocks ∷ rest) = shard_places s 0 0 blocks ++ places_from (s + 1) rest
@@ -39,7 +39,7 @@ places W = places_from 0 W
 abbrev pub same_block : Place → Place → Bool
 same_block p q = (p.shard == q.shard) && (p.block == q.block)
 
--- those on the shards of a list
+-- the places of X on some shards, each named once
 abbrev pub on_shards : List ℕ → List Place → List Place
 on_shards shards X = filter (λ p. list_any (λ i. i == p.shard) shards) X
 
