@@ -20,3 +20,4 @@ pub mod SortedEntries
 pub mod LeastAndGreatest
 pub mod Statistics
 pub mod StatisticsOfParts
+pub mod rows
