@@ -1,5 +1,5 @@
 -- Without limits the distributed reply is the exact reply: by recursion over the request's nodes.
-use Rattle.std.proofs.Common.{◌≡◌, ℕ, suc, List, [], ◌∷◌, ◌++◌, length, true, ◌&&◌, ◌==◌, None, is_none, refl, sym, ◌∙◌, ap, inr}
+use Rattle.std.proofs.Common.{◌≡◌, ℕ, suc, List, length, true, ◌&&◌, ◌==◌, None, is_none, refl, ◌∙◌, ap, inr}
 use Rattle.std.proofs.lemmas.Bool.{and_parts, or_right}
 use Rattle.fc_spec.specs.Lists.{numbers_below}
 use Rattle.fc_spec.specs.World.{World, Place, on_shards}
@@ -12,10 +12,10 @@ use Rattle.fc_spec.specs.Reply.{bucket, with_buckets}
 use Rattle.fc_spec.specs.Printed.{terms_keys, statistic_part, facet_part}
 use Rattle.fc_spec.specs.Paths.{is_refining}
 use Rattle.fc_spec.specs.Shape.{has_no_limit, no_limits}
-use Rattle.fc_spec.specs.Exact.{exact, exact_keys, exact_facets}
+use Rattle.fc_spec.specs.Exact.{exact_keys, exact_facets}
 use Rattle.fc_spec.specs.Reading.{over_places}
 use Rattle.fc_spec.specs.Distributed.{carried, printed_keys, dist_facets}
-use Rattle.fc_spec.specs.WithoutLimits.{IsExactWithoutLimits, IsSingleOnOneShard}
+use Rattle.fc_spec.specs.WithoutLimits.{IsExactWithoutLimits}
 use Rattle.fc_spec.proofs.Members.{Every}
 use Rattle.fc_spec.proofs.Shards.{is_on, every_on_shards}
 use Rattle.fc_spec.proofs.Unlimited.{chosen_entries_all}
@@ -55,10 +55,3 @@ pub exact_without_limits : IsExactWithoutLimits
 exact_without_limits r W unlimited outermost =
     let same = facets_are r W r.nodes 0 0 (numbers_below (length W)) (root_domain r W) (root_domain r W) unlimited (inr (outermost, refl)) (root_is r W) in
     λ i. bucket None (length (root_is r W i)) (same i)
-
-append_nothing : {X : Type 0} (xs : List X) → xs ++ [] ≡ xs
-append_nothing [] = refl
-append_nothing (x ∷ xs) = ap (λ ys. x ∷ ys) (append_nothing xs)
-
-pub single_on_one_shard : IsSingleOnOneShard
-single_on_one_shard r blocks unlimited outermost = exact_without_limits r (blocks ∷ []) unlimited outermost ∙ ap (λ b. exact r (b ∷ [])) (sym (append_nothing blocks))

@@ -23,7 +23,7 @@ pub every_on_shards : (H : List ℕ) (X : List Place) → Every (is_on H) (on_sh
 every_on_shards H X = every_own_filter (is_on H) X
 
 -- what is on the shard of a place on the shards is there too
-on_same_shard : (H : List ℕ) (y p : Place) → y.shard ≡ p.shard → is_on H y ≡ true → is_on H p ≡ true
+pub on_same_shard : (H : List ℕ) (y p : Place) → y.shard ≡ p.shard → is_on H y ≡ true → is_on H p ≡ true
 on_same_shard H y p e h = subst (λ s. list_any (λ i. i == s) H ≡ true) e h
 
 -- where a test finds only places on a place's own shard, it finds none beside the shards
@@ -33,7 +33,7 @@ found_on_shards H t p Y local e h = let r = passing_member t Y h in on_same_shar
 same_block_shard : (y p : Place) → same_block y p ≡ true → y.shard ≡ p.shard
 same_block_shard y p h = eqb-true y.shard p.shard (and_parts (y.shard == p.shard) (y.block == p.block) h).0
 
-parent_shard : (y p : Place) → is_parent_of y p ≡ true → y.shard ≡ p.shard
+pub parent_shard : (y p : Place) → is_parent_of y p ≡ true → y.shard ≡ p.shard
 parent_shard y p h = same_block_shard y p (and_parts (y.parent && not p.parent) (same_block y p) h).1
 
 same_place_shard : (p y : Place) → same_place p y ≡ true → y.shard ≡ p.shard
@@ -45,7 +45,7 @@ children_on_shards W q H Y e = every_from_members (is_on H) (children_of W q Y) 
     (λ y h. parent_shard y p (and_parts (is_parent_of y p) (matches q y.document) h).0) e
     (filter_member (λ p. list_any (λ y. is_parent_of y p && matches q y.document) Y) (places W) p m).1)
 
-own_or_child_shard : (p y : Place) → (same_place p y || is_parent_of p y) ≡ true → y.shard ≡ p.shard
+pub own_or_child_shard : (p y : Place) → (same_place p y || is_parent_of p y) ≡ true → y.shard ≡ p.shard
 own_or_child_shard p y h = elim (or_cases (same_place p y) (is_parent_of p y) h) [ inl a ↦ same_place_shard p y a | inr b ↦ sym (parent_shard p y b) ]
 
 pub parents_on_shards : (W : World) (q : Query) (H : List ℕ) (Y : List Place) → Every (is_on H) Y → Every (is_on H) (parents_of W q Y)

@@ -3,10 +3,12 @@ use Rattle.std.specs.Prelude.{◌≡◌, ℕ, List, [], ◌∷◌, ◌++◌, len
 use Rattle.std.specs.List.{filter, list_all}
 use Rattle.fc_spec.specs.Val.{Text, same_text}
 use Rattle.fc_spec.specs.Lists.{numbers_below}
+use Rattle.fc_spec.specs.World.{World}
 use Rattle.fc_spec.specs.Request.{Request}
 use Rattle.fc_spec.specs.RequestFault.{RequestFault}
 use Rattle.fc_spec.specs.Script.{Script, commits_up_to, commits_before, world}
 use Rattle.fc_spec.specs.Phases.{Search, searches}
+use Rattle.fc_spec.specs.Reply.{Bucket}
 use Rattle.fc_spec.specs.Distributed.{distributed}
 use Rattle.fc_spec.specs.Lines.{reply_line, error_line}
 
@@ -27,22 +29,29 @@ Seen = Text × List ℕ
 abbrev pub shown_to : Text → List Seen → List (List ℕ)
 shown_to session seen = map (λ x. x.1) (filter (λ x. same_text session x.0) seen)
 
+-- a reply for each request and world
+abbrev pub Replies : Type 0
+Replies = Request → World → Bucket
+
 -- the text is a reply line of the search over some legal generations, and then what the rest is to be, which has seen them
-abbrev pub IsReplyThen : Script (Result Request RequestFault) → List Seen → (phase : ℕ) → (session : Text) → Request → (List Seen → Text → Type 0) → Text → Type 0
-IsReplyThen S seen phase session r Rest t =
-    (g : List ℕ) × (rest : Text) × IsTrue (legal S (shown_to session seen) phase g)
-    × (t ≡ reply_line (distributed r (world S g)) g session ++ rest) × Rest (seen ++ (session, g) ∷ []) rest
+abbrev pub IsReplyThen : Replies → Script (Result Request RequestFault) → List Seen → (phase : ℕ) → (session : Text) → Request → (List Seen → Text → Type 0) → Text → Type 0
+IsReplyThen reply S seen phase session r Rest t =
+    (g : List ℕ) × (rest : Text) × IsTrue (legal S (shown_to session seen) phase g) × (t ≡ reply_line (reply r (world S g)) g session ++ rest) × Rest (seen ++ (session, g) ∷ []) rest
 
 -- the text is the line of a search, and then what the rest is to be: of a request a reply line, of a fault its error line, which shows no numbers
-abbrev pub IsLineThen : Script (Result Request RequestFault) → List Seen → (phase : ℕ) → (session : Text) → Result Request RequestFault → (List Seen → Text → Type 0) → Text → Type 0
-IsLineThen S seen phase session (Ok r) Rest t = IsReplyThen S seen phase session r Rest t
-IsLineThen S seen phase session (Err f) Rest t = (rest : Text) × (t ≡ error_line f session ++ rest) × Rest seen rest
+abbrev pub IsLineThen : Replies → Script (Result Request RequestFault) → List Seen → (phase : ℕ) → (session : Text) → Result Request RequestFault → (List Seen → Text → Type 0) → Text → Type 0
+IsLineThen reply S seen phase session (Ok r) Rest t = IsReplyThen reply S seen phase session r Rest t
+IsLineThen reply S seen phase session (Err f) Rest t = (rest : Text) × (t ≡ error_line f session ++ rest) × Rest seen rest
 
 -- the text is the lines of these searches, one for each in script order, after lines that showed some numbers
-abbrev pub AreLinesOf : Script (Result Request RequestFault) → List Seen → List (Search (Result Request RequestFault)) → Text → Type 0
-AreLinesOf S seen [] t = t ≡ []
-AreLinesOf S seen (q ∷ qs) t = IsLineThen S seen q.phase q.session q.request (λ now rest. AreLinesOf S now qs rest) t
+abbrev pub AreLinesOf : Replies → Script (Result Request RequestFault) → List Seen → List (Search (Result Request RequestFault)) → Text → Type 0
+AreLinesOf reply S seen [] t = t ≡ []
+AreLinesOf reply S seen (q ∷ qs) t = IsLineThen reply S seen q.phase q.session q.request (λ now rest. AreLinesOf reply S now qs rest) t
 
--- the text is an output of the script
+-- the text is an output of the script with these replies
+abbrev pub IsOutputBy : Replies → Script (Result Request RequestFault) → Text → Type 0
+IsOutputBy reply S t = AreLinesOf reply S [] (searches S.lines) t
+
+-- the text is an output of the script: with the distributed replies
 abbrev pub IsOutput : Script (Result Request RequestFault) → Text → Type 0
-IsOutput S t = AreLinesOf S [] (searches S.lines) t
+IsOutput S t = IsOutputBy distributed S t

@@ -1,6 +1,5 @@
 -- Where no terms facet has a limit, the distributed reply is that of a single index.
-use Rattle.std.specs.Prelude.{◌≡◌, List, [], ◌∷◌, IsTrue}
-use Rattle.fc_spec.specs.Document.{Block}
+use Rattle.std.specs.Prelude.{◌≡◌, IsTrue}
 use Rattle.fc_spec.specs.World.{World, single}
 use Rattle.fc_spec.specs.Request.{Request}
 use Rattle.fc_spec.specs.Shape.{no_limits, outermost_exclusions}
@@ -11,7 +10,10 @@ use Rattle.fc_spec.specs.Distributed.{distributed}
 abbrev pub IsExactWithoutLimits : Type 0
 IsExactWithoutLimits = (r : Request) (W : World) → IsTrue (no_limits r.nodes) → IsTrue (outermost_exclusions r.nodes) → distributed r W ≡ exact r W
 
--- so on one shard it is a single index's
-abbrev pub IsSingleOnOneShard : Type 0
-IsSingleOnOneShard = (r : Request) (blocks : List Block) → IsTrue (no_limits r.nodes) → IsTrue (outermost_exclusions r.nodes)
-    → distributed r (blocks ∷ []) ≡ exact r (single (blocks ∷ []))
+-- the exact reply does not depend on how the blocks are cut into shards
+abbrev pub IsExactOverSingle : Type 0
+IsExactOverSingle = (r : Request) (W : World) → exact r W ≡ exact r (single W)
+
+-- so it is that of the single index with all the blocks
+abbrev pub IsSingleWithoutLimits : Type 0
+IsSingleWithoutLimits = (r : Request) (W : World) → IsTrue (no_limits r.nodes) → IsTrue (outermost_exclusions r.nodes) → distributed r W ≡ exact r (single W)

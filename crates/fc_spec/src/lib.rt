@@ -5,9 +5,17 @@
 #![tactic(auto)]
 
 ghost use Rattle.fc_spec.specs.CombiningLaw.{CombinesLists, CombinesParts};
-ghost use Rattle.fc_spec.specs.SortingLaw.{PagesAreCuts, RanksAreFronts};
-ghost use Rattle.fc_spec.specs.WithoutLimits.{IsExactWithoutLimits, IsSingleOnOneShard};
+ghost use Rattle.fc_spec.specs.Merging.{MergesIntoReply};
 ghost use Rattle.fc_spec.specs.RefinedPaths.{AreRefinedPathsExact};
+ghost use Rattle.fc_spec.specs.RoundsEnd.{NothingLacksBeyond, RoundsAreFew, RoundsComplete, SearchesEnd};
+ghost use Rattle.fc_spec.specs.ShardAlone.{AnswersFromItsBlocks};
+ghost use Rattle.fc_spec.specs.SortingLaw.{PagesAreCuts, RanksAreFronts};
+ghost use Rattle.fc_spec.specs.SpellingLaw.{HasOneSpelling};
+ghost use Rattle.fc_spec.specs.WithoutLimits.{
+  IsExactOverSingle,
+  IsExactWithoutLimits,
+  IsSingleWithoutLimits,
+};
 
 /// The statistics of two disjoint lists of places, combined, are those of both together.
 pub fn statistics_combine()
@@ -21,13 +29,37 @@ pub fn ranks_are_sorting()
     ensures fronts { RanksAreFronts }
 {}
 
-/// Without limits the distributed reply is the exact reply over the same world, and on one shard a single index's.
+/// Without limits the distributed reply is the exact reply over the same world, and that of a single index.
 pub fn without_limits()
     ensures same_world { IsExactWithoutLimits }
-    ensures one_shard { IsSingleOnOneShard }
+    ensures any_shards { IsExactOverSingle }
+    ensures single_index { IsSingleWithoutLimits }
 {}
 
 /// Under facets that refine or have no limit, printed buckets are exact over all shards.
 pub fn refined_paths_are_exact()
     ensures { AreRefinedPathsExact }
+{}
+
+/// A shard's answer is made from its own blocks.
+pub fn shards_answer_alone()
+    ensures { AnswersFromItsBlocks }
+{}
+
+/// Answers that lack nothing merge into the distributed reply.
+pub fn answers_merge()
+    ensures { MergesIntoReply }
+{}
+
+/// Rounds complete one depth after another, and end with the distributed reply.
+pub fn rounds_end()
+    ensures complete { RoundsComplete }
+    ensures beyond { NothingLacksBeyond }
+    ensures end { SearchesEnd }
+    ensures few { RoundsAreFew }
+{}
+
+/// No two messages have the same bytes, and no bytes of a message are the front of another's.
+pub fn messages_have_one_spelling()
+    ensures { HasOneSpelling }
 {}

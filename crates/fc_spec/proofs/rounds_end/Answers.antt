@@ -1,0 +1,16 @@
+use Rattle.fc_spec.proofs.Beyond.{nothing_lacks_beyond}
+use Rattle.fc_spec.proofs.RoundComplete.{rounds_complete}
+use Rattle.fc_spec.proofs.SearchEnds.{searches_end, rounds_are_few}
+use Rattle.fc_spec.proofs.rounds_end.Goals as goal
+
+pub returns-clause-complete : goal.returns-clause-complete
+returns-clause-complete c = rounds_complete
+
+pub returns-clause-beyond : goal.returns-clause-beyond
+returns-clause-beyond c = nothing_lacks_beyond
+
+pub returns-clause-end : goal.returns-clause-end
+returns-clause-end c = searches_end
+
+pub returns-clause-few : goal.returns-clause-few
+returns-clause-few c = rounds_are_few
