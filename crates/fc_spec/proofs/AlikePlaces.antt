@@ -42,7 +42,7 @@ pub value_renumbered : (n : Numbers) (s : Stat) (X : List Place) → value_over 
 value_renumbered n s X = statistic_renumbered n s.of s.field X
 
 -- the count and the statistics of a node
-stats_renumbered : (n : Numbers) (ss : List Stat) (X : List Place) → stats_over ss (map (renumbered n) X) ≡ stats_over ss X
+pub stats_renumbered : (n : Numbers) (ss : List Stat) (X : List Place) → stats_over ss (map (renumbered n) X) ≡ stats_over ss X
 stats_renumbered n ss X = λ i. record { count = length_renumbered n X i; values = map (λ s. value_renumbered n s X i) ss }
 
 -- the values that a terms facet finds
@@ -53,7 +53,7 @@ values_renumbered n t X = λ i. filter (λ v. not (none v i)) (distinct (pair_va
     none v = (λ i. length (bucket_renumbered n (terms t) (value v) X i) == 0) ∙ (λ i. length_renumbered n (value_places t v X) i == 0)
 
 -- each value with the statistics of its places
-entries_renumbered : (n : Numbers) (t : Terms) (ss : List Stat) (X : List Place) → entries_in t ss (map (renumbered n) X) ≡ entries_in t ss X
+pub entries_renumbered : (n : Numbers) (t : Terms) (ss : List Stat) (X : List Place) → entries_in t ss (map (renumbered n) X) ≡ entries_in t ss X
 entries_renumbered n t ss X = λ i. map (λ v. record { val = v; stats = same v i }) (values_renumbered n t X i)
   where
     same : (v : Val) → stats_over ss (value_places t v (map (renumbered n) X)) ≡ stats_over ss (value_places t v X)

@@ -1,21 +1,28 @@
--- A shard's answer is made from its own blocks.
-use Rattle.std.proofs.Common.{◌≡◌, ℕ, zero, suc, ◌+◌, ◌<◌, List, [], ◌∷◌, ◌++◌, length, Bool, true, false, cond, ◌||◌, ◌&&◌, Option, None, Some, refl, sym, ◌∙◌, ap, subst, arith}
-use Rattle.std.specs.List.{filter, list_any, list_all, slice_get}
-use Rattle.std.proofs.lemmas.Bool.{eq-eqb, ne_eqb}
+-- A shard's answer is made from its own blocks, and its number plays no part.
+use Rattle.std.proofs.Common.{◌≡◌, ℕ, zero, suc, ◌+◌, ◌<◌, List, [], ◌∷◌, ◌++◌, map, length, Bool, true, false, cond, not, ◌||◌, ◌&&◌, ◌==◌, Option, None, Some, refl, sym, ◌∙◌, ap, subst, inl, inr, arith}
+use Rattle.std.specs.List.{filter, list_all, slice_get}
+use Rattle.std.proofs.lemmas.Bool.{false≢true, or_cases, eqb-true, eq-eqb, ne_eqb}
+use Rattle.std.proofs.lemmas.List.{map-append}
 use Rattle.fc_spec.specs.Document.{Document, Block}
 use Rattle.fc_spec.specs.Lists.{is_empty}
 use Rattle.fc_spec.specs.Matching.{matches}
 use Rattle.fc_spec.specs.World.{World, Place, places, places_from, shard_places, block_places, on_shards}
-use Rattle.fc_spec.specs.Request.{Request, BlockStep, stay, parents, children, DomainChange, Facet, Nodes, no_nodes, statistic, facet, stats_of}
+use Rattle.fc_spec.specs.Request.{Stat, Request, BlockStep, stay, parents, children, DomainChange, Kind, terms, range, query, Facet, Nodes, no_nodes, statistic, facet, stats_of}
 use Rattle.fc_spec.specs.Base.{base, meets_base, root_domain}
 use Rattle.fc_spec.specs.Domain.{domain, moved, filtered, same_place, is_parent_of}
-use Rattle.fc_spec.specs.Buckets.{Key, whole, bucket_places}
+use Rattle.fc_spec.specs.Buckets.{Key, value, missing, whole, in_bucket, bucket_places}
 use Rattle.fc_spec.specs.Statistics.{stats_over}
+use Rattle.fc_spec.specs.Printed.{asked, range_keys}
+use Rattle.fc_spec.specs.Ranks.{below_rank, bound_of}
+use Rattle.fc_spec.specs.Values.{entries_in}
 use Rattle.fc_spec.specs.Message.{Partials, no_partials, partial, row, Way, Want, way_of, Ask, first, more}
-use Rattle.fc_spec.specs.Answer.{partials_of, answer_keys, answer_domain, answer_rows, facet_at, Spot, spot_in, spot_at, way_spot, answer_bucket, answer_wants, answer}
+use Rattle.fc_spec.specs.Answer.{not_empty, partials_of, answer_keys, answer_domain, answer_rows, facet_at, Spot, spot_in, spot_at, way_spot, answer_bucket, answer_wants, answer}
 use Rattle.fc_spec.specs.ShardAlone.{AnswersFromItsBlocks}
-use Rattle.fc_spec.proofs.Shards.{is_on}
-use Rattle.fc_spec.proofs.Locality.{filter-filter, moved_local, bucket_local}
+use Rattle.fc_spec.proofs.MappedLists.{filter-map, list_any-map}
+use Rattle.fc_spec.proofs.Shards.{is_on, every_on_shards}
+use Rattle.fc_spec.proofs.Locality.{filter-filter, filter_twice, moved_local}
+use Rattle.fc_spec.proofs.Renumbered.{Numbers, renumbered, filter_renumbered}
+use Rattle.fc_spec.proofs.AlikePlaces.{length_renumbered, bucket_renumbered, stats_renumbered, entries_renumbered}
 use Rattle.fc_spec.proofs.HeldAnswers.{part}
 
 filter-append : {X : Type 0} (p : X → Bool) (xs ys : List X) → filter p (xs ++ ys) ≡ filter p xs ++ filter p ys
@@ -81,81 +88,159 @@ part_from i s (suc k) (b ∷ rest) e =
 pub part_of_places : (i : ℕ) (W : World) → part i (places W) ≡ of_blocks i (slice_get W i)
 part_of_places i W = part_from i 0 i W (omega arith)
 
--- two worlds with the same places at shard i
-abbrev pub SameAt : World → World → ℕ → Type 0
-SameAt V W i = part i (places V) ≡ part i (places W)
+-- ---- the same blocks at another shard
 
--- a filter of all places has the same part in both
-filtered_same : (V W : World) (i : ℕ) (q : Place → Bool) → SameAt V W i → part i (filter q (places V)) ≡ part i (filter q (places W))
-filtered_same V W i q same = filter-filter (is_on (i ∷ [])) q (places V) ∙ ap (filter q) same ∙ sym (filter-filter (is_on (i ∷ [])) q (places W))
+-- the place at shard j, the rest as before
+abbrev pub to_shard : ℕ → Numbers
+to_shard j = record { shard = λ p. j; position = λ p. p.position; block = λ p. p.block }
 
-moved_same : (V W : World) (i : ℕ) (b : BlockStep) (Y : List Place) → SameAt V W i → part i (moved V b Y) ≡ part i (moved W b Y)
-moved_same V W i stay Y same = refl
-moved_same V W i (parents q) Y same = filtered_same V W i (λ p. p.parent && matches q p.document && list_any (λ y. same_place p y || is_parent_of p y) Y) same
-moved_same V W i (children q) Y same = filtered_same V W i (λ p. list_any (λ y. is_parent_of y p && matches q y.document) Y) same
+-- the places at shard j
+abbrev pub put : ℕ → List Place → List Place
+put j X = map (renumbered (to_shard j)) X
 
--- so has a domain, over sets with the same part
-domain_same : (r : Request) (V W : World) (i : ℕ) (change : DomainChange) (X Y : List Place) → SameAt V W i → part i X ≡ part i Y → part i (domain r V change X) ≡ part i (domain r W change Y)
-domain_same r V W i change X Y same e = go (is_empty change.exclude)
+block_put : (i j b p : ℕ) (ds : List Document) (d : Document) → block_places j b p ds d ≡ put j (block_places i b p ds d)
+block_put i j b p [] d = refl
+block_put i j b p (c ∷ cs) d = ap (λ xs. record { shard = j; position = p; block = b; parent = false; document = c } ∷ xs) (block_put i j b (p + 1) cs d)
+
+shard_put : (i j b p : ℕ) (xs : List Block) → shard_places j b p xs ≡ put j (shard_places i b p xs)
+shard_put i j b p [] = refl
+shard_put i j b p (x ∷ xs) =
+    (λ k. block_put i j b p x.children x.parent k ++ shard_put i j (b + 1) (p + length x.children + 1) xs k)
+    ∙ sym (map-append (renumbered (to_shard j)) (block_places i b p x.children x.parent) (shard_places i (b + 1) (p + length x.children + 1) xs))
+
+blocks_put : (i j : ℕ) (o : Option (List Block)) → of_blocks j o ≡ put j (of_blocks i o)
+blocks_put i j None = refl
+blocks_put i j (Some blocks) = shard_put i j 0 0 blocks
+
+-- the part of Y at shard j is that of X at shard i, but for the number of the shard
+abbrev pub Alike : ℕ → ℕ → List Place → List Place → Type 0
+Alike i j X Y = part j Y ≡ put j (part i X)
+
+-- two worlds with the same places at shard i of the one and shard j of the other
+abbrev pub SameAt : ℕ → ℕ → World → World → Type 0
+SameAt i j V W = Alike i j (places V) (places W)
+
+-- a place at shard i has its number
+at_shard : (i : ℕ) (p : Place) → is_on (i ∷ []) p ≡ true → i ≡ p.shard
+at_shard i p h = elim (or_cases (i == p.shard) false h) [ inl e ↦ eqb-true i p.shard e | inr e ↦ absurd (false≢true e) ]
+
+-- two places at shard i are on one shard, as they are when put at shard j
+shards_put : (i j : ℕ) (x y : Place) → is_on (i ∷ []) x ≡ true → is_on (i ∷ []) y ≡ true → (j == j) ≡ (x.shard == y.shard)
+shards_put i j x y h k = eq-eqb j j refl ∙ sym (eq-eqb x.shard y.shard (sym (at_shard i x h) ∙ at_shard i y k))
+
+-- a filter of all places has alike parts in both, where the tests agree on the places at shard i
+filtered_alike : (V W : World) (i j : ℕ) (s t : Place → Bool) → SameAt i j V W → ((p : Place) → is_on (i ∷ []) p ≡ true → t (renumbered (to_shard j) p) ≡ s p) → Alike i j (filter s (places V)) (filter t (places W))
+filtered_alike V W i j s t same agree =
+    filter-filter (is_on (j ∷ [])) t (places W) ∙ ap (filter t) same ∙ filter-map (renumbered (to_shard j)) (is_on (i ∷ [])) t s (part i (places V)) agree (every_on_shards (i ∷ []) (places V))
+    ∙ ap (put j) (sym (filter-filter (is_on (i ∷ [])) s (places V)))
+
+-- so has a block step from the places at shard i, and these at shard j
+moved_put : (V W : World) (i j : ℕ) (b : BlockStep) (P : List Place) → SameAt i j V W → Alike i j P (put j (part i P)) → Alike i j (moved V b (part i P)) (moved W b (put j (part i P)))
+moved_put V W i j stay P same alike = alike ∙ ap (put j) (sym (filter_twice (is_on (i ∷ [])) P))
+moved_put V W i j (parents q) P same alike = filtered_alike V W i j _ _ same (λ p h.
+    ap (λ b. p.parent && matches q p.document && b)
+    (list_any-map (renumbered (to_shard j)) (is_on (i ∷ [])) (λ y. same_place (renumbered (to_shard j) p) y || is_parent_of (renumbered (to_shard j) p) y) (λ y. same_place p y || is_parent_of p y) (part i P)
+    (λ y k m. (shards_put i j p y h k m && (p.position == y.position)) || (p.parent && not y.parent && (shards_put i j p y h k m && (p.block == y.block)))) (every_on_shards (i ∷ []) P)))
+moved_put V W i j (children q) P same alike = filtered_alike V W i j _ _ same (λ p h.
+    list_any-map (renumbered (to_shard j)) (is_on (i ∷ [])) (λ y. is_parent_of y (renumbered (to_shard j) p) && matches q y.document) (λ y. is_parent_of y p && matches q y.document) (part i P)
+    (λ y k m. (y.parent && not p.parent && (shards_put i j y p k h m && (y.block == p.block))) && matches q y.document) (every_on_shards (i ∷ []) P))
+
+-- a block step keeps parts alike
+moved_alike : (V W : World) (i j : ℕ) (b : BlockStep) (P Q : List Place) → SameAt i j V W → Alike i j P Q → Alike i j (moved V b P) (moved W b Q)
+moved_alike V W i j b P Q same alike =
+    sym (moved_local W b (j ∷ []) Q) ∙ ap (λ Z. part j (moved W b Z)) alike ∙ moved_put V W i j b P same (ap (part j) (sym alike) ∙ filter_twice (is_on (j ∷ [])) Q ∙ alike) ∙ ap (put j) (moved_local V b (i ∷ []) P)
+
+-- a filter by documents keeps parts alike
+documents_alike : (i j : ℕ) (t : Place → Bool) (P Q : List Place) → ((p : Place) → t (renumbered (to_shard j) p) ≡ t p) → Alike i j P Q → Alike i j (filter t P) (filter t Q)
+documents_alike i j t P Q same alike =
+    filter-filter (is_on (j ∷ [])) t Q ∙ ap (filter t) alike ∙ filter_renumbered (to_shard j) t (part i P) same ∙ ap (put j) (sym (filter-filter (is_on (i ∷ [])) t P))
+
+-- so does the change of a domain
+domain_alike : (r : Request) (V W : World) (i j : ℕ) (change : DomainChange) (X Y : List Place) → SameAt i j V W → Alike i j X Y → Alike i j (domain r V change X) (domain r W change Y)
+domain_alike r V W i j change X Y same alike = go (is_empty change.exclude)
   where
-    test : Place → Bool
-    test p = list_all (λ q. matches q p.document) change.filters
+    from_parts : (P Q : List Place) → Alike i j P Q → Alike i j (filtered change.filters (moved V change.block P)) (filtered change.filters (moved W change.block Q))
+    from_parts P Q k = documents_alike i j (λ p. list_all (λ q. matches q p.document) change.filters) (moved V change.block P) (moved W change.block Q) (λ p. refl) (moved_alike V W i j change.block P Q same k)
 
-    -- what moves from two sets with the same part has the same part
-    from_parts : (P Q : List Place) → part i P ≡ part i Q → part i (filtered change.filters (moved V change.block P)) ≡ part i (filtered change.filters (moved W change.block Q))
-    from_parts P Q k =
-        filter-filter (is_on (i ∷ [])) test (moved V change.block P)
-        ∙ ap (filter test) (sym (moved_local V change.block (i ∷ []) P) ∙ ap (λ Z. part i (moved V change.block Z)) k ∙ moved_local V change.block (i ∷ []) Q ∙ moved_same V W i change.block Q same)
-        ∙ sym (filter-filter (is_on (i ∷ [])) test (moved W change.block Q))
+    go : (b : Bool) → Alike i j (filtered change.filters (moved V change.block (cond b X (base r V change.exclude)))) (filtered change.filters (moved W change.block (cond b Y (base r W change.exclude))))
+    go true = from_parts X Y alike
+    go false = from_parts (base r V change.exclude) (base r W change.exclude) (documents_alike i j (λ p. meets_base r change.exclude p.document) (places V) (places W) (λ p. refl) same)
 
-    go : (b : Bool) → part i (filtered change.filters (moved V change.block (cond b X (base r V change.exclude)))) ≡ part i (filtered change.filters (moved W change.block (cond b Y (base r W change.exclude))))
-    go true = from_parts X Y e
-    go false = from_parts (base r V change.exclude) (base r W change.exclude) (filtered_same V W i (λ p. meets_base r change.exclude p.document) same)
+-- the part of a part
+part_alike : (i j : ℕ) (X Y : List Place) → Alike i j X Y → Alike i j (part i X) (part j Y)
+part_alike i j X Y alike = filter_twice (is_on (j ∷ [])) Y ∙ alike ∙ ap (put j) (sym (filter_twice (is_on (i ∷ [])) X))
 
-rows_same : (r : Request) (V W : World) (i : ℕ) (nodes : Nodes) (X : List Place) → SameAt V W i → answer_rows r V i nodes X ≡ answer_rows r W i nodes X
-rows_same r V W i no_nodes X same = refl
-rows_same r V W i (statistic name s rest) X same = ap (row no_partials) (rows_same r V W i rest X same)
-rows_same r V W i (facet f inner rest) X same =
-    let Y = domain_same r V W i f.change X X same refl in
-    let first = ap (λ D. partials_of (λ k. stats_over (stats_of inner) (bucket_places f.kind k D)) (λ k. answer_rows r V i inner (bucket_places f.kind k D)) (answer_keys f.kind inner D i)) Y
-    ∙ (λ j. partials_of (λ k. stats_over (stats_of inner) (bucket_places f.kind k (answer_domain r W i f X))) (λ k. rows_same r V W i inner (bucket_places f.kind k (answer_domain r W i f X)) same j) (answer_keys f.kind inner (answer_domain r W i f X) i)) in
-    λ j. row (first j) (rows_same r V W i rest X same j)
+-- the same keys are not empty
+not_empty_put : (j : ℕ) (kind : Kind) (D : List Place) (keys : List Key) → not_empty kind (put j D) keys ≡ not_empty kind D keys
+not_empty_put j kind D keys = λ k. filter (λ key. not (same key k == 0)) keys
+  where
+    same : (key : Key) → length (bucket_places kind key (put j D)) ≡ length (bucket_places kind key D)
+    same key = ap length (bucket_renumbered (to_shard j) kind key D) ∙ length_renumbered (to_shard j) (bucket_places kind key D)
 
--- two spots with the same nodes, whose places have the same part
-abbrev pub AlikeSpots : ℕ → Spot → Spot → Type 0
-AlikeSpots i s t = (s.nodes ≡ t.nodes) × (part i s.places ≡ part i t.places)
+-- the same keys are answered
+keys_put : (i j : ℕ) (kind : Kind) (inner : Nodes) (D : List Place) → Alike i j D (put j D) → answer_keys kind inner (put j D) j ≡ answer_keys kind inner D i
+keys_put i j (terms t) inner D alike =
+    let entries = ap (entries_in t (stats_of inner)) alike ∙ entries_renumbered (to_shard j) t (stats_of inner) (part i D) in
+    λ k. map value (map (λ e. e.val) (below_rank t.sort (bound_of t.offset t.limit t.overrequest) (entries k))) ++ not_empty_put j (terms t) D (asked t.missing missing) k
+keys_put i j (range g) inner D alike = not_empty_put j (range g) D (range_keys g)
+keys_put i j (query q) inner D alike = refl
 
-spot_in_same : (r : Request) (V W : World) (i : ℕ) (key : Key) (X Y : List Place) (f : Option (Facet × Nodes)) → SameAt V W i → part i X ≡ part i Y → AlikeSpots i (spot_in r V key X f) (spot_in r W key Y f)
-spot_in_same r V W i key X Y None same e = (refl, refl)
-spot_in_same r V W i key X Y (Some f) same e =
-    (refl, bucket_local (f.0).kind key (i ∷ []) (domain r V (f.0).change X) ∙ ap (bucket_places (f.0).kind key) (domain_same r V W i (f.0).change X Y same e) ∙ sym (bucket_local (f.0).kind key (i ∷ []) (domain r W (f.0).change Y)))
+-- the statistics of a bucket are the same
+bucket_stats_put : (j : ℕ) (kind : Kind) (ss : List Stat) (D : List Place) (key : Key) → stats_over ss (bucket_places kind key (put j D)) ≡ stats_over ss (bucket_places kind key D)
+bucket_stats_put j kind ss D key = ap (stats_over ss) (bucket_renumbered (to_shard j) kind key D) ∙ stats_renumbered (to_shard j) ss (bucket_places kind key D)
 
-spot_same : (r : Request) (V W : World) (i : ℕ) (way : Way) (s t : Spot) → SameAt V W i → AlikeSpots i s t → AlikeSpots i (spot_at r V way s) (spot_at r W way t)
-spot_same r V W i [] s t same alike = alike
-spot_same r V W i (step ∷ way) s t same alike =
-    spot_same r V W i way (spot_in r V step.key s.places (facet_at step.node s.nodes)) (spot_in r W step.key t.places (facet_at step.node t.nodes)) same
-    (subst (λ nodes. AlikeSpots i (spot_in r V step.key s.places (facet_at step.node s.nodes)) (spot_in r W step.key t.places (facet_at step.node nodes))) alike.0 (spot_in_same r V W i step.key s.places t.places (facet_at step.node s.nodes) same alike.1))
+rows_alike : (r : Request) (V W : World) (i j : ℕ) (nodes : Nodes) (X Y : List Place) → SameAt i j V W → Alike i j X Y → answer_rows r W j nodes Y ≡ answer_rows r V i nodes X
+rows_alike r V W i j no_nodes X Y same alike = refl
+rows_alike r V W i j (statistic name s rest) X Y same alike = ap (row no_partials) (rows_alike r V W i j rest X Y same alike)
+rows_alike r V W i j (facet f inner rest) X Y same alike =
+    let D = answer_domain r V i f X in
+    let over : answer_domain r W j f Y ≡ put j D = domain_alike r V W i j f.change X Y same alike in
+    let own : Alike i j D (answer_domain r W j f Y) = part_alike i j (domain r V f.change X) (domain r W f.change Y) over in
+    let put_alike : Alike i j D (put j D) = subst (Alike i j D) over own in
+    let insides = λ (key : Key). rows_alike r V W i j inner (bucket_places f.kind key D) (bucket_places f.kind key (put j D)) same (documents_alike i j (λ p. in_bucket f.kind key p.document) D (put j D) (λ p. refl) put_alike) in
+    let first = ap (λ E. partials_of (λ k. stats_over (stats_of inner) (bucket_places f.kind k E)) (λ k. answer_rows r W j inner (bucket_places f.kind k E)) (answer_keys f.kind inner E j)) over
+    ∙ (λ m. partials_of (λ k. bucket_stats_put j f.kind (stats_of inner) D k m) (λ k. insides k m) (keys_put i j f.kind inner D put_alike m)) in
+    λ m. row (first m) (rows_alike r V W i j rest X Y same alike m)
 
-way_same : (r : Request) (V W : World) (i : ℕ) (way : Way) → SameAt V W i → AlikeSpots i (way_spot r V way) (way_spot r W way)
-way_same r V W i way same =
-    spot_same r V W i way (record { nodes = r.nodes; places = root_domain r V }) (record { nodes = r.nodes; places = root_domain r W }) same (refl, filtered_same V W i (λ p. meets_base r [] p.document) same)
+-- two spots with the same nodes, whose parts are alike
+abbrev pub AlikeSpots : ℕ → ℕ → Spot → Spot → Type 0
+AlikeSpots i j s t = (s.nodes ≡ t.nodes) × Alike i j s.places t.places
 
-bucket_same : (r : Request) (V W : World) (i : ℕ) (way : Way) (key : Key) (rest other : Partials) → SameAt V W i → rest ≡ other → answer_bucket r V i way key rest ≡ answer_bucket r W i way key other
-bucket_same r V W i way key rest other same e =
-    let alike = way_same r V W i way same in
-    (λ j. partial key (stats_over (stats_of (alike.0 j)) (alike.1 j)) (answer_rows r V i (alike.0 j) (alike.1 j)) (e j))
-    ∙ ap (λ rows. partial key (stats_over (stats_of (way_spot r W way).nodes) (part i (way_spot r W way).places)) rows other) (rows_same r V W i (way_spot r W way).nodes (part i (way_spot r W way).places) same)
+spot_in_alike : (r : Request) (V W : World) (i j : ℕ) (key : Key) (X Y : List Place) (f : Option (Facet × Nodes)) → SameAt i j V W → Alike i j X Y → AlikeSpots i j (spot_in r V key X f) (spot_in r W key Y f)
+spot_in_alike r V W i j key X Y None same alike = (refl, refl)
+spot_in_alike r V W i j key X Y (Some f) same alike =
+    (refl, documents_alike i j (λ p. in_bucket (f.0).kind key p.document) (domain r V (f.0).change X) (domain r W (f.0).change Y) (λ p. refl) (domain_alike r V W i j (f.0).change X Y same alike))
 
-wants_same : (r : Request) (V W : World) (i : ℕ) (ws : List Want) → SameAt V W i → answer_wants r V i ws ≡ answer_wants r W i ws
-wants_same r V W i [] same = refl
-wants_same r V W i (w ∷ ws) same = bucket_same r V W i (way_of w) w.key (answer_wants r V i ws) (answer_wants r W i ws) same (wants_same r V W i ws same)
+spot_alike : (r : Request) (V W : World) (i j : ℕ) (way : Way) (s t : Spot) → SameAt i j V W → AlikeSpots i j s t → AlikeSpots i j (spot_at r V way s) (spot_at r W way t)
+spot_alike r V W i j [] s t same alike = alike
+spot_alike r V W i j (step ∷ way) s t same alike =
+    spot_alike r V W i j way (spot_in r V step.key s.places (facet_at step.node s.nodes)) (spot_in r W step.key t.places (facet_at step.node t.nodes)) same
+    (subst (λ nodes. AlikeSpots i j (spot_in r V step.key s.places (facet_at step.node s.nodes)) (spot_in r W step.key t.places (facet_at step.node nodes))) alike.0 (spot_in_alike r V W i j step.key s.places t.places (facet_at step.node s.nodes) same alike.1))
+
+way_alike : (r : Request) (V W : World) (i j : ℕ) (way : Way) → SameAt i j V W → AlikeSpots i j (way_spot r V way) (way_spot r W way)
+way_alike r V W i j way same =
+    spot_alike r V W i j way (record { nodes = r.nodes; places = root_domain r V }) (record { nodes = r.nodes; places = root_domain r W }) same
+    (refl, documents_alike i j (λ p. meets_base r [] p.document) (places V) (places W) (λ p. refl) same)
+
+bucket_alike : (r : Request) (V W : World) (i j : ℕ) (way : Way) (key : Key) (rest other : Partials) → SameAt i j V W → rest ≡ other → answer_bucket r W j way key rest ≡ answer_bucket r V i way key other
+bucket_alike r V W i j way key rest other same e =
+    let s = way_spot r V way in
+    let t = way_spot r W way in
+    let alike : AlikeSpots i j s t = way_alike r V W i j way same in
+    let stats = ap (stats_over (stats_of s.nodes)) (alike.1) ∙ stats_renumbered (to_shard j) (stats_of s.nodes) (part i s.places) in
+    let rows = rows_alike r V W i j s.nodes (part i s.places) (part j t.places) same (part_alike i j s.places t.places (alike.1)) in
+    ap (λ nodes. partial key (stats_over (stats_of nodes) (part j t.places)) (answer_rows r W j nodes (part j t.places)) rest) (sym (alike.0)) ∙ (λ m. partial key (stats m) (rows m) (e m))
+
+wants_alike : (r : Request) (V W : World) (i j : ℕ) (ws : List Want) → SameAt i j V W → answer_wants r W j ws ≡ answer_wants r V i ws
+wants_alike r V W i j [] same = refl
+wants_alike r V W i j (w ∷ ws) same = bucket_alike r V W i j (way_of w) w.key (answer_wants r W j ws) (answer_wants r V i ws) same (wants_alike r V W i j ws same)
 
 pub answers_from_its_blocks : AnswersFromItsBlocks
-answers_from_its_blocks r V W i e ask = go ask
+answers_from_its_blocks r V W i j e ask = sym (go ask)
   where
-    same : SameAt V W i
-    same = part_of_places i V ∙ ap (of_blocks i) e ∙ sym (part_of_places i W)
+    same : SameAt i j V W
+    same = part_of_places j W ∙ ap (of_blocks j) (sym e) ∙ blocks_put i j (slice_get V i) ∙ ap (put j) (sym (part_of_places i V))
 
-    go : (a : Ask) → answer r V i a ≡ answer r W i a
-    go first = bucket_same r V W i [] whole no_partials no_partials same refl
-    go (more ws) = wants_same r V W i ws same
+    go : (a : Ask) → answer r W j a ≡ answer r V i a
+    go first = bucket_alike r V W i j [] whole no_partials no_partials same refl
+    go (more ws) = wants_alike r V W i j ws same

@@ -1,4 +1,4 @@
--- A round that answers what lacks at a depth completes it, and keeps the depths below.
+-- Answers that tell of what lacks at a depth complete it, and keep the depths below.
 use Rattle.std.proofs.Common.{◌≡◌, ◌⊎◌, ℕ, zero, suc, ◌+◌, ◌<◌, ◌≤◌, List, [], ◌∷◌, ◌++◌, append_assoc, map, length, true, not, ◌==◌, Option, None, Some, is_some, is_none, refl, sym, ◌∙◌, ap, subst, inl, inr, arith}
 use Rattle.std.specs.List.{AllByRecursion, filter}
 use Rattle.std.proofs.lemmas.Bool.{eq-eqb, ne_eqb, cases_lt}
@@ -14,7 +14,7 @@ use Rattle.fc_spec.specs.Merged.{over_held}
 use Rattle.fc_spec.specs.Lacks.{Lack, wanted, untold, lacks}
 use Rattle.fc_spec.specs.Rounds.{Sent, told_in, wants_of, sent_by, later_round}
 use Rattle.fc_spec.specs.Merging.{IsAnswer, HasRoots}
-use Rattle.fc_spec.specs.RoundsEnd.{RoundsComplete}
+use Rattle.fc_spec.specs.RoundsEnd.{LacksNothingBelow, RoundsComplete, RoundsAnswer}
 use Rattle.fc_spec.proofs.Members.{Member, every_from_members, every_member, filter_member, member_of_filter}
 use Rattle.fc_spec.proofs.HeldAnswers.{IsTold}
 use Rattle.fc_spec.proofs.HeldFurther.{held_among_more, held_among_later, all_append, answers_told, wants_held}
@@ -113,15 +113,37 @@ by_those_below P (suc n) step d less = last (cases_lt d n) (by_those_below P n (
     last (inl low) ih = ih d low
     last (inr high) ih = step d less (λ c h. ih c (omega arith))
 
+-- what is wanted stays at the shards that are asked
+lacks_at_shards : (r : Request) (n : ℕ) (A : List Told) (e : ℕ) (l : Lack) → Member l (lacks r n A e) → Member l.shard (numbers_below n)
+lacks_at_shards r n A e l m =
+    let all = wanted (over_held A) e r.nodes 0 (numbers_below n) [] [] in
+    (wanted_among (over_held A) r.nodes e 0 (numbers_below n) [] [] l (filter_member (λ k. is_none (held A k.shard (way_of k.want))) all l m).0)
+
 pub rounds_complete : RoundsComplete
-rounds_complete r W sent e round outermost answers roots none =
-    by_those_below (λ d. lacks r (length W) (told_in (sent ++ later)) d ≡ []) (e + 1) (λ d less below.
-    subst (λ T. lacks r (length W) T d ≡ []) (sym (told_in-append sent later))
-    (told_complete r W (told_in sent) (told_in later) e outermost (answers_told r W sent answers)
-    (all_append (IsTold r W) (told_in sent) (told_in later) (answers_told r W sent answers) (answers_told r W later (later_round_answers r W round (lacks r (length W) (told_in sent) e)))) roots none
-    (λ l m. later_round_holds r W round (lacks r (length W) (told_in sent) e) l
-    (wanted_among (over_held (told_in sent)) r.nodes e 0 (numbers_below (length W)) [] [] l (filter_member (λ k. is_none (held (told_in sent) k.shard (way_of k.want))) (wanted (over_held (told_in sent)) e r.nodes 0 (numbers_below (length W)) [] []) l m).0) m)
-    d less (λ c h. subst (λ T. lacks r (length W) T c ≡ []) (told_in-append sent later) (below c h))))
+rounds_complete r W sent extra e outermost answers further roots none holds =
+    by_those_below (λ d. lacks r (length W) (told_in (sent ++ extra)) d ≡ []) (e + 1) (λ d less below.
+    subst (λ T. lacks r (length W) T d ≡ []) (sym (told_in-append sent extra))
+    (told_complete r W (told_in sent) (told_in extra) e outermost (answers_told r W sent answers)
+    (all_append (IsTold r W) (told_in sent) (told_in extra) (answers_told r W sent answers) (answers_told r W extra further)) roots none
+    (λ l m. every_member (λ k. is_some (held (told_in extra) k.shard (way_of k.want))) lacking l (all_told (told_in extra) lacking holds) m)
+    d less (λ c h. subst (λ T. lacks r (length W) T c ≡ []) (told_in-append sent extra) (below c h))))
   where
-    later : List Sent
-    later = later_round r W round (lacks r (length W) (told_in sent) e)
+    lacking : List Lack
+    lacking = lacks r (length W) (told_in sent) e
+
+pub rounds_answer : RoundsAnswer
+rounds_answer r W A e round = (
+  later_round_answers r W round lacking,
+  none_untold (told_in (later_round r W round lacking)) lacking
+      (every_from_members (λ l. is_some (held (told_in (later_round r W round lacking)) l.shard (way_of l.want))) lacking (λ l m. later_round_holds r W round lacking l (lacks_at_shards r (length W) A e l m) m)),
+)
+  where
+    lacking : List Lack
+    lacking = lacks r (length W) A e
+
+-- where answers lack nothing below a depth, the round that answers what lacks there completes it
+pub round_completes : (r : Request) (W : World) (sent : List Sent) (e round : ℕ) → outermost_exclusions r.nodes ≡ true → AllByRecursion (IsAnswer r W) sent → HasRoots (length W) (told_in sent)
+    → LacksNothingBelow r (length W) sent e → LacksNothingBelow r (length W) (sent ++ later_round r W round (lacks r (length W) (told_in sent) e)) (e + 1)
+round_completes r W sent e round outermost answers roots none =
+    let round_answers = rounds_answer r W (told_in sent) e round in
+    rounds_complete r W sent (later_round r W round (lacks r (length W) (told_in sent) e)) e outermost answers round_answers.0 roots none round_answers.1

@@ -19,7 +19,7 @@ use Rattle.fc_spec.proofs.HeldFurther.{all_append, held_among_more, held_among_l
 use Rattle.fc_spec.proofs.PrintedKnown.{nothing_is_empty}
 use Rattle.fc_spec.proofs.MergedReply.{answers_merge_into_reply}
 use Rattle.fc_spec.proofs.Beyond.{nothing_lacks_beyond}
-use Rattle.fc_spec.proofs.RoundComplete.{told_in-append, later_round_answers, rounds_complete}
+use Rattle.fc_spec.proofs.RoundComplete.{told_in-append, later_round_answers, round_completes}
 
 -- what is next: nothing lacks at these depths, or the least at which something does
 abbrev pub IsNext : Request → ℕ → List Told → ℕ → ℕ → List Lack → Type 0
@@ -67,7 +67,7 @@ ends_from r W (suc left) done round sent outermost bound answers roots none = go
         (ih (sent ++ later_round r W round all) (all_append (IsAnswer r W) sent (later_round r W round all) answers (later_round_answers r W round all))
         (λ i h. subst (λ T. is_some (held T i []) ≡ true) (sym (told_in-append sent (later_round r W round all))) (held_among_more (told_in sent) (told_in (later_round r W round all)) i [] (roots i h)))
         (λ d less. subst (λ a. lacks r (length W) (told_in (sent ++ later_round r W round a)) d ≡ []) (sym goes_on.1)
-        (rounds_complete r W sent goes_on.0 round outermost answers roots (λ c h. goes_on.3 c (omega arith) h) d (deeper d less (cases_lt goes_on.0 done)))))
+        (round_completes r W sent goes_on.0 round outermost answers roots (λ c h. goes_on.3 c (omega arith) h) d (deeper d less (cases_lt goes_on.0 done)))))
       where
         deeper : (d : ℕ) → d < done + 1 → (goes_on.0 < done) ⊎ (done ≤ goes_on.0) → d < goes_on.0 + 1
         deeper d less (inl shallow) = absurd (false≢true (sym goes_on.2 ∙ ap is_empty (goes_on.1 ∙ none goes_on.0 shallow)))

@@ -17,7 +17,7 @@ pub record Told : Type 0 where
   pub way : Way
   pub bucket : Bucket
 
--- the top buckets of a message for an ask, the first for the root, another for the want that it answers
+-- the top buckets that a message tells of: of a first ask the root's bucket; of wants each bucket, for its want
 abbrev pub told_root : ℕ → Partials → List Told
 told_root i no_partials = []
 told_root i (partial key stats rows rest) = record { shard = i; way = []; bucket = record { stats = stats; rows = rows } } ∷ []

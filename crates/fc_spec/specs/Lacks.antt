@@ -20,7 +20,7 @@ pub record Lack : Type 0 where
 abbrev pub asks_again : Terms → Bool
 asks_again t = t.refine && is_some t.limit
 
--- the bucket of the n-th node's value v, in the bucket where a way leads
+-- the bucket of a key of the n-th node, in the bucket where a way leads
 abbrev pub want_of : Way → ℕ → Key → Want
 want_of way n key = record { path = way; node = n; key = key }
 
@@ -32,7 +32,7 @@ each_of H w = map (λ i. record { shard = i; want = w }) H
 abbrev pub wanted_values : {B D : Type 0} → Reading B D → Terms → Nodes → ℕ → List ℕ → D → Way → List Lack
 wanted_values R t inner n H Y way = flat_map (λ v. each_of H (want_of way n (value v))) (chosen R t inner H Y)
 
--- what is wanted at a facet, of terms facets with e terms facets between: here where it asks again, else under its buckets
+-- what is wanted at a facet, of terms facets with e terms facets between: at depth 0 a terms facet's own chosen values, and nothing where it does not ask again; else what is wanted under its buckets
 abbrev pub wanted_at : {B D : Type 0} → Reading B D → Kind → Nodes → (e n : ℕ) → List ℕ → D → Way → (under : ℕ → List Lack) → List Lack
 wanted_at R (terms t) inner zero n H Y way under = if asks_again t then wanted_values R t inner n H Y way else []
 wanted_at R (terms t) inner (suc e) n H Y way under = under e

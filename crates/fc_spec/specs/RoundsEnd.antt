@@ -1,4 +1,4 @@
--- Rounds complete one depth after another, and end with the distributed reply.
+-- Answers complete one depth after another, and rounds end with the distributed reply.
 use Rattle.std.specs.Prelude.{◌≡◌, ℕ, ◌+◌, ◌<◌, ◌≤◌, List, [], ◌++◌, length, IsTrue}
 use Rattle.std.specs.List.{AllByRecursion}
 use Rattle.fc_spec.specs.World.{World}
@@ -6,7 +6,8 @@ use Rattle.fc_spec.specs.Request.{Request}
 use Rattle.fc_spec.specs.Shape.{outermost_exclusions}
 use Rattle.fc_spec.specs.Distributed.{distributed}
 use Rattle.fc_spec.specs.Merged.{merged}
-use Rattle.fc_spec.specs.Lacks.{lacks, terms_depth}
+use Rattle.fc_spec.specs.Held.{Told}
+use Rattle.fc_spec.specs.Lacks.{untold, lacks, terms_depth}
 use Rattle.fc_spec.specs.Rounds.{Sent, told_in, later_round, search_rounds}
 use Rattle.fc_spec.specs.Merging.{IsAnswer, HasRoots, LacksNothing}
 
@@ -14,10 +15,15 @@ use Rattle.fc_spec.specs.Merging.{IsAnswer, HasRoots, LacksNothing}
 abbrev pub LacksNothingBelow : Request → ℕ → List Sent → ℕ → Type 0
 LacksNothingBelow r n sent e = (d : ℕ) → d < e → lacks r n (told_in sent) d ≡ []
 
--- where answers lack nothing below a depth, the round that answers what lacks there completes it and keeps the depths below
+-- where answers lack nothing below a depth, any further answers that tell of each bucket that lacks there complete it and keep the depths below
 abbrev pub RoundsComplete : Type 0
-RoundsComplete = (r : Request) (W : World) (sent : List Sent) (e round : ℕ) → IsTrue (outermost_exclusions r.nodes) → AllByRecursion (IsAnswer r W) sent → HasRoots (length W) (told_in sent)
-    → LacksNothingBelow r (length W) sent e → LacksNothingBelow r (length W) (sent ++ later_round r W round (lacks r (length W) (told_in sent) e)) (e + 1)
+RoundsComplete = (r : Request) (W : World) (sent extra : List Sent) (e : ℕ) → IsTrue (outermost_exclusions r.nodes) → AllByRecursion (IsAnswer r W) sent → AllByRecursion (IsAnswer r W) extra → HasRoots (length W) (told_in sent)
+    → LacksNothingBelow r (length W) sent e → untold (told_in extra) (lacks r (length W) (told_in sent) e) ≡ [] → LacksNothingBelow r (length W) (sent ++ extra) (e + 1)
+
+-- a round that asks for what lacks at a depth, whatever is told, is made of answers and tells of each bucket that lacks there
+abbrev pub RoundsAnswer : Type 0
+RoundsAnswer = (r : Request) (W : World) (A : List Told) (e round : ℕ) → AllByRecursion (IsAnswer r W) (later_round r W round (lacks r (length W) A e))
+    × (untold (told_in (later_round r W round (lacks r (length W) A e))) (lacks r (length W) A e) ≡ [])
 
 -- deeper than the request's terms facets nothing lacks
 abbrev pub NothingLacksBeyond : Type 0

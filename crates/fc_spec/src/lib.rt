@@ -7,7 +7,7 @@
 ghost use Rattle.fc_spec.specs.CombiningLaw.{CombinesLists, CombinesParts};
 ghost use Rattle.fc_spec.specs.Merging.{MergesIntoReply};
 ghost use Rattle.fc_spec.specs.RefinedPaths.{AreRefinedPathsExact};
-ghost use Rattle.fc_spec.specs.RoundsEnd.{NothingLacksBeyond, RoundsAreFew, RoundsComplete, SearchesEnd};
+ghost use Rattle.fc_spec.specs.RoundsEnd.{NothingLacksBeyond, RoundsAnswer, RoundsAreFew, RoundsComplete, SearchesEnd};
 ghost use Rattle.fc_spec.specs.ShardAlone.{AnswersFromItsBlocks};
 ghost use Rattle.fc_spec.specs.SortingLaw.{PagesAreCuts, RanksAreFronts};
 ghost use Rattle.fc_spec.specs.SpellingLaw.{HasOneSpelling};
@@ -41,7 +41,7 @@ pub fn refined_paths_are_exact()
     ensures { AreRefinedPathsExact }
 {}
 
-/// A shard's answer is made from its own blocks.
+/// A shard's answer is made from its own blocks, and its number plays no part.
 pub fn shards_answer_alone()
     ensures { AnswersFromItsBlocks }
 {}
@@ -51,9 +51,11 @@ pub fn answers_merge()
     ensures { MergesIntoReply }
 {}
 
-/// Rounds complete one depth after another, and end with the distributed reply.
+/// Answers that tell of what lacks complete one depth after another; rounds are such answers, and end with the
+/// distributed reply.
 pub fn rounds_end()
     ensures complete { RoundsComplete }
+    ensures answer { RoundsAnswer }
     ensures beyond { NothingLacksBeyond }
     ensures end { SearchesEnd }
     ensures few { RoundsAreFew }

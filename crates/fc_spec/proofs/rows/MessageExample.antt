@@ -1,11 +1,12 @@
 -- The bytes of a message of one bucket, and two lists of bytes beside it that are no message's.
 use Rattle.std.specs.Prelude.{◌≡◌, ℕ, List, [], ◌∷◌, ◌++◌}
-use Rattle.std.proofs.Common.{refl, ap, ◌∙◌, arith}
+use Rattle.std.proofs.Common.{refl, sym, ap, ◌∙◌, arith}
 use Rattle.std.proofs.lemmas.List.{append-nil}
 use Rattle.fc_spec.specs.Buckets.{whole}
 use Rattle.fc_spec.specs.Message.{Partials, no_partials, partial, no_rows}
 use Rattle.fc_spec.specs.MessageBytes.{message_bytes}
 use Rattle.fc_spec.specs.SpellingLaw.{FitsMessage}
+use Rattle.fc_spec.specs.Nesting.{Spells}
 use Rattle.fc_spec.proofs.MessageSpelling.{one_spelling}
 
 -- two places in the whole, no statistics and no nodes
@@ -47,3 +48,14 @@ front_is_none m h e = let rest = (one_spelling m message (0 ∷ []) [] h fits (a
 -- nor are those bytes with one more
 pub longer_is_none : (m : Partials) → FitsMessage m → message_bytes m ≡ bytes ++ 0 ∷ [] → ⊥
 longer_is_none m h e = let rest = (one_spelling m message [] (0 ∷ []) h fits (append-nil (message_bytes m) ∙ e)).1 in cc
+
+-- the bytes spell the message
+pub spelled : Spells bytes message
+spelled = (refl, (fits, (refl, tt, tt), omega arith))
+
+-- the front spells none, nor do the bytes with one more
+pub front_not_spelled : (m : Partials) → Spells front m → ⊥
+front_not_spelled m spelling = front_is_none m (spelling.1.0) (sym (spelling.0))
+
+pub longer_not_spelled : (m : Partials) → Spells (bytes ++ 0 ∷ []) m → ⊥
+longer_not_spelled m spelling = longer_is_none m (spelling.1.0) (sym (spelling.0))
