@@ -49,3 +49,7 @@ pub mod Nesting
 pub mod ShardAlone
 pub mod Merging
 pub mod RoundsEnd
+pub mod ScriptLines
+pub mod SchemaReading
+pub mod FirstForm
+pub mod Totals

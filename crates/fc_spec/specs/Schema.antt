@@ -1,6 +1,6 @@
 -- Schemas. Guide: Fields and Schema Design, "Field Types".
-use Rattle.std.specs.Prelude.{ℕ, List}
-use Rattle.fc_spec.specs.Val.{Text}
+use Rattle.std.specs.Prelude.{ℕ, List, Option, position}
+use Rattle.fc_spec.specs.Val.{Text, same_text}
 
 -- at most one text, texts, at most one integer, integers
 pub data FieldType : Type 0 where
@@ -18,3 +18,7 @@ pub record Field : Type 0 where
 pub record Schema : Type 0 where
   pub shards : ℕ
   pub fields : List Field
+
+-- the number of the field of this name
+abbrev pub field_named : Schema → Text → Option ℕ
+field_named s name = position (λ f. same_text name f.name) s.fields
