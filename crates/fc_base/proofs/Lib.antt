@@ -1,0 +1,8 @@
+pub mod FieldsByName
+pub mod GatheredFields
+pub mod Members
+pub mod NamesDiffer
+pub mod OrFault
+pub mod SchemaMembers
+pub mod Searching
+pub mod Texts

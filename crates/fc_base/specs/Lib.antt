@@ -1,0 +1,4 @@
+pub mod Answers
+pub mod ValidSchema
+pub mod View
+pub mod ValOrder

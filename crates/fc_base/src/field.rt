@@ -1,0 +1,22 @@
+// The fields of a schema.
+use crate::Name;
+
+/// The number of a field: `id` has 0, and the others are numbered from 1 in the byte order of their
+/// names.
+#[derive(Clone, Copy, Debug, PartialEq, Eq, PartialOrd, Ord)]
+pub struct FieldId(pub u16);
+
+/// At most one text, texts, at most one integer, or integers.
+#[derive(Clone, Copy, Debug, PartialEq, Eq)]
+pub enum FieldType {
+    Str,
+    Strs,
+    Long,
+    Longs,
+}
+
+#[derive(Debug, Drop)]
+pub(crate) struct Field {
+    pub(crate) name: Name,
+    pub(crate) kind: FieldType,
+}
