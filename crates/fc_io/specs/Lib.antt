@@ -1,0 +1,10 @@
+pub mod AllRead
+pub mod Calls
+pub mod Faults
+pub mod Got
+pub mod MemSink
+pub mod MemSource
+pub mod Put
+pub mod WriteEnd
+pub mod StdSink
+pub mod StdSource
