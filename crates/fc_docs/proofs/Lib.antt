@@ -1,0 +1,4 @@
+pub mod FieldLists
+pub mod ValueCounts
+pub mod ReadSoFar
+pub mod WholeDocument

@@ -1,0 +1,6 @@
+use Rattle.std.proofs.Common.{refl}
+use Rattle.fc_docs.proofs.FieldLists.{document_of-empty}
+use Rattle.fc_docs.proofs.document.Document.empty.Goals as goal
+
+pub returns : goal.returns
+returns c = document_of-empty c.args.fields c.new.result (λ n. rw c.new.ensures.empty refl)

@@ -1,0 +1,84 @@
+// Documents.
+ghost use Rattle.std.specs.Prelude.{◌≡◌, ◌-◌, ◌<◌, [], OnErr, OnOk, length, map, nat_le, replicate, slice_set, sum_by, if◌then◌else◌};
+ghost use Rattle.std.specs.BTreeMap.{IsOrdered, values};
+ghost use Rattle.std.specs.Ordering.{nat_cmp};
+ghost use Rattle.fc_base.specs.View.{val_view};
+ghost use Rattle.fc_spec.specs.Document.{values_of};
+
+use fc_base::{FieldId, Val, WantMemory};
+use std::alloc::Global;
+use std::collections::BTreeMap;
+use std::marker::Model;
+
+/// The values of each field of a schema, seen as the list, by the field's number, of the lists of
+/// its values.
+#[derive(Debug, Drop)]
+pub struct Document {
+    fields: u16,
+    values: BTreeMap<FieldId, Vec<Val>>,
+}
+
+impl Model for Document {
+    ghost use Rattle.std.specs.Prelude.{List};
+    ghost use Rattle.fc_spec.specs.Val.{Val};
+    ghost use Rattle.fc_docs.specs.Fields.{EndBelow, document_of};
+
+    ghost Value = { List (List Val) };
+
+    ghost view = { λ document. document_of document.fields document.values };
+
+    ghost invariant = { λ document. EndBelow document.fields document.values };
+}
+
+impl Document {
+    /// Without values in any of so many fields.
+    pub(crate) fn empty(alloc: Global, fields: u16) -> Document
+        ensures { result ≡ replicate fields [] }
+    {
+        Document {
+            fields,
+            values: BTreeMap::new(alloc),
+        }
+    }
+
+    /// The values in a field. There are none where no field has the number.
+    pub fn values(&self, field: FieldId) -> &[Val]
+        ensures { map val_view result.now ≡ values_of self.now field.0 }
+    {
+        match self.values.get(&field) {
+            Some(values) => values.as_slice(),
+            None => &[],
+        }
+    }
+
+    /// Makes these the values in a field.
+    pub(crate) fn set(&mut self, field: FieldId, values: Vec<Val>) -> Result<(), WantMemory>
+        requires { field.0 < length self.old }
+        ensures ok { OnOk result
+            (self.new ≡ slice_set self.old field.0 (map val_view values.items)) }
+        ensures err { OnErr result (self.new ≡ self.old) }
+    {
+        self.values.insert(field, values)?;
+        Ok(())
+    }
+
+    /// What is left of the room when each value takes one place, where there is enough.
+    pub fn room_after(&self, room: u64) -> Option<u64>
+        ensures { result ≡ (let count = sum_by (λ values. length values) self.now in
+            if nat_le count room then Some (room - count) else None) }
+    {
+        room_after(&self.values, room)
+    }
+}
+
+fn room_after(fields: &BTreeMap<FieldId, Vec<Val>>, room: u64) -> Option<u64>
+    ensures room { result ≡ (let count = sum_by (λ values. length values.items) (values fields.now) in
+        if nat_le count room then Some (room - count) else None) }
+    ensures ordered { IsOrdered (λ a b. nat_cmp a.0 b.0) fields.now }
+{
+    let mut left = room;
+    for values in fields.values() {
+        left = left.checked_sub(values.len() as u64)?;
+    }
+    Some(left)
+}

@@ -1,0 +1,12 @@
+//! Documents, blocks and batches, and how a block is read from JSON.
+#![tactic(auto)]
+
+mod block;
+mod document;
+mod fault;
+mod read;
+
+pub use block::{Batch, Block};
+pub use document::Document;
+pub use fault::DocFault;
+pub use read::read_block;
