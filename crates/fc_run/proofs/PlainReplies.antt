@@ -1,0 +1,75 @@
+-- The distributed reply to the one request, over one shard, is made by counting documents.
+use Rattle.std.specs.Prelude.{◌≡◌, ℕ, List, [], ◌∷◌, length, map, cond, ◌==◌, None, Some}
+use Rattle.std.proofs.Common.{refl, sym, ◌∙◌, ap}
+use Rattle.std.proofs.Math.Bool.{and-true}
+use Rattle.std.proofs.lemmas.List.{length-map}
+use Rattle.std.proofs.lemmas.List.Elements.{filter_agree}
+use Rattle.std.proofs.lemmas.List.Sums.{length-filter}
+use Rattle.fc_spec.specs.Val.{Text, Val, has_val, distinct}
+use Rattle.fc_spec.specs.Document.{values_of}
+use Rattle.fc_spec.specs.World.{World, Place, places}
+use Rattle.fc_spec.specs.Request.{Terms, terms, Request}
+use Rattle.fc_spec.specs.Buckets.{Key, value, in_bucket, bucket_places}
+use Rattle.fc_spec.specs.Statistics.{pair_values}
+use Rattle.fc_spec.specs.Reply.{listed, bucket, Facets, no_facets, many, Row, part, row_of}
+use Rattle.fc_spec.specs.Exact.{exact_facets}
+use Rattle.fc_spec.specs.Values.{value_places, entries_in}
+use Rattle.fc_spec.specs.Printed.{terms_keys}
+use Rattle.fc_spec.specs.SortingLaw.{PagesAreCuts}
+use Rattle.fc_spec.specs.WithoutLimits.{IsExactWithoutLimits}
+use Rattle.fc_run.specs.FirstRequest.{one_facet}
+use Rattle.fc_run.specs.PlainReply.{plain_request, documents_in, documents_with, value_counts, counted_row, IsPlainOnOneShard}
+use Rattle.fc_run.proofs.PlainPlaces.{documents_at, documents_at-places, flat_map-documents_at, documents_at-filter, filter_true}
+use Rattle.fc_run.proofs.PlainKeys.{every_value, terms_keys_are}
+
+-- the number of places of a value is that of the documents that have it
+length-value_places : (field : ℕ) (v : Val) (Q : List Place) → length (value_places (every_value field) v Q) ≡ documents_with field (documents_at Q) v
+length-value_places field v Q =
+    sym (length-map (value_places (every_value field) v Q) (λ p. p.document))
+    ∙ ap length (documents_at-filter (in_bucket (terms (every_value field)) (value v)) Q)
+    ∙ ap length (filter_agree _ (λ d. has_val v (values_of d field)) (λ d. and-true (has_val v (values_of d field))) (documents_at Q))
+    ∙ length-filter (λ d. has_val v (values_of d field)) (documents_at Q)
+
+-- the row of some values
+row_is : (field : ℕ) (Q : List Place) (vs : List Val) → row_of (terms (every_value field)) (λ k. length (bucket_places (terms (every_value field)) k Q)) (λ k. no_facets) (map value vs)
+    ≡ counted_row (map (λ v. (v, documents_with field (documents_at Q) v)) vs)
+row_is field Q [] = refl
+row_is field Q (v ∷ vs) = λ i. part listed (bucket (Some v) (length-value_places field v Q i) no_facets) (row_is field Q vs i)
+
+-- the facets of a bucket over some places
+facets_are : PagesAreCuts → (r : Request) (W : World) (name : Text) (field : ℕ) (Q : List Place)
+    → exact_facets r W (one_facet name field) Q ≡ cond (length Q == 0) no_facets (many name (counted_row (value_counts field (documents_at Q))) no_facets)
+facets_are pages r W name field Q =
+    (λ i. cond (and-true (length Q == 0) i) no_facets (printed (filter_true Q i)))
+    ∙ ap (λ row. cond (length Q == 0) no_facets (many name row no_facets)) row
+  where
+    t : Terms
+    t = every_value field
+
+    row_over : List Place → List Key → Row
+    row_over Y keys = row_of (terms t) (λ k. length (bucket_places (terms t) k Y)) (λ k. no_facets) keys
+
+    printed : List Place → Facets
+    printed Y = many name (row_over Y (terms_keys t (entries_in t [] Y))) no_facets
+
+    row : row_over Q (terms_keys t (entries_in t [] Q)) ≡ counted_row (value_counts field (documents_at Q))
+    row =
+        ap (row_over Q) (terms_keys_are pages field Q) ∙ row_is field Q (distinct (pair_values field Q))
+        ∙ ap (λ vs. counted_row (map (λ v. (v, documents_with field (documents_at Q) v)) (distinct vs))) (flat_map-documents_at (λ d. values_of d field) Q)
+
+pub plain_from_laws : IsExactWithoutLimits → PagesAreCuts → IsPlainOnOneShard
+plain_from_laws exact_is pages name field blocks =
+    exact_is r W refl refl
+    ∙ ap (λ Q. bucket None (length Q) (exact_facets r W (one_facet name field) Q)) (filter_true (places W))
+    ∙ ap (bucket None (length (places W))) (facets_are pages r W name field (places W))
+    ∙ ap (λ n. bucket None n (cond (n == 0) no_facets (many name (counted_row (value_counts field (documents_at (places W)))) no_facets))) total
+    ∙ ap (λ ds. bucket None (length (documents_in blocks)) (cond (length (documents_in blocks) == 0) no_facets (many name (counted_row (value_counts field ds)) no_facets))) (documents_at-places blocks)
+  where
+    r : Request
+    r = plain_request name field
+
+    W : World
+    W = blocks ∷ []
+
+    total : length (places W) ≡ length (documents_in blocks)
+    total = sym (length-map (places W) (λ p. p.document)) ∙ ap length (documents_at-places blocks)

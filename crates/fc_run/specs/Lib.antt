@@ -1,0 +1,12 @@
+pub mod Drafted
+pub mod FirstRequest
+pub mod FirstScript
+pub mod FirstLines
+pub mod Outcome
+pub mod FirstView
+pub mod Gathered
+pub mod Looking
+pub mod Said
+pub mod View
+pub mod PlainReply
+pub mod Tally

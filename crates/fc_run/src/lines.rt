@@ -1,0 +1,141 @@
+// The lines of a script's bytes, and the JSON of a line.
+ghost use Rattle.std.specs.Prelude.{◌≡◌, ◌==◌, ◌+◌, ◌^◌, ◌<◌, ◌∷◌, ℕ, suc, length, position, IfOk, OnSome, MatchOption, option_map, []};
+ghost use Rattle.serde_json.specs.View.{view};
+ghost use Rattle.fc_spec.specs.ScriptLines.{lines_of, is_blank as blank, json_of as json};
+ghost use Rattle.fc_base.specs.Answers.{Answers};
+ghost use Rattle.fc_run.specs.Said.{said, first_said};
+ghost use Rattle.fc_run.specs.View.{refused_view, fault_view};
+
+use crate::fault::{Fault, FirstFault, at_line};
+use fc_base::{Refusal, WantMemory};
+use serde_json::Value;
+use std::alloc::Global;
+use std::marker::Model;
+
+/// No more bytes in a line, without its LF.
+const LINE_LIMIT: usize = 1_048_576;
+
+fn find_lf(bytes: &[u8]) -> Option<usize>
+    ensures { result ≡ position (λ b. b == 10) bytes.now }
+{
+    bytes.iter().position(|byte| *byte == b'\n')
+}
+
+/// The bytes up to the first LF, and those behind it.
+fn cut_line(bytes: &[u8]) -> (&[u8], &[u8])
+    requires { 0 < length bytes.now }
+    ensures lines { lines_of bytes.now ≡ result.0.now ∷ lines_of result.1.now }
+    ensures shorter { length result.1.now < length bytes.now }
+{
+    match find_lf(bytes) {
+        Some(end) => (&bytes[..end], &bytes[end + 1..]),
+        None => (bytes, &[]),
+    }
+}
+
+/// Spaces, tabs and CRs alone.
+fn is_blank(line: &[u8]) -> bool
+    ensures { result ≡ blank line.now }
+{
+    line.iter()
+        .all(|byte| *byte == b' ' || *byte == b'\t' || *byte == b'\r')
+}
+
+/// What the line says, where it is JSON.
+fn json_of(alloc: Global, line: &[u8]) -> Result<Option<Value>, WantMemory>
+    ensures { IfOk result (λ found. option_map view found ≡ json line.now) }
+{
+    match Value::from_slice(alloc, line) {
+        Ok(value) => Ok(Some(value)),
+        Err(error) => {
+            if error.is_memory() {
+                Err(WantMemory)
+            } else {
+                Ok(None)
+            }
+        }
+    }
+}
+
+/// What the line says, unless it is blank.
+fn value_of(alloc: Global, line: &[u8]) -> Result<Option<Value>, Refusal<Fault>>
+    ensures { Answers (λ found. option_map view found) refused_view result (said line.now) }
+{
+    if line.len() > LINE_LIMIT {
+        return Err(Refusal::Fault(Fault::NotBuilt));
+    }
+    if is_blank(line) {
+        return Ok(None);
+    }
+    match json_of(alloc, line)? {
+        Some(value) => Ok(Some(value)),
+        None => Err(Refusal::Fault(Fault::NotJson)),
+    }
+}
+
+/// The lines that are left, and how many of them were cut.
+#[derive(Drop)]
+pub(crate) struct Lines<'a> {
+    rest: &'a [u8],
+    number: u32,
+}
+
+impl<'a> Model for Lines<'a> {
+    ghost use Rattle.std.specs.Prelude.{◌+◌, ◌^◌, ◌<◌, length};
+    ghost use Rattle.fc_spec.specs.ScriptLines.{lines_of};
+    ghost use Rattle.fc_run.specs.Said.{Left};
+
+    ghost Value = { Left };
+
+    ghost view = { λ s. record { number = s.number; lines = lines_of s.rest.now } };
+
+    ghost invariant = { λ s. s.number + length s.rest.now < 2 ^ 32 };
+}
+
+impl<'a> Lines<'a> {
+    pub(crate) fn new(bytes: &'a [u8]) -> Lines<'a>
+        requires { length bytes.now < 2 ^ 32 }
+        ensures { result ≡ record { number = 0; lines = lines_of bytes.now } }
+    {
+        Lines {
+            rest: bytes,
+            number: 0,
+        }
+    }
+
+    /// The number of the line that was cut last, from 1 on.
+    pub(crate) fn number(&self) -> u32
+        ensures { result ≡ self.now.number }
+    {
+        self.number
+    }
+
+    fn next_line(&mut self) -> Option<&'a [u8]>
+        ensures lines { MatchOption result (self.old.lines ≡ []) (λ line. self.old.lines ≡ line.now ∷ self.new.lines) }
+        ensures number { OnSome result (self.new.number ≡ suc self.old.number) }
+    {
+        if self.rest.is_empty() {
+            return None;
+        }
+        let (line, rest) = cut_line(self.rest);
+        self.rest = rest;
+        self.number += 1;
+        Some(line)
+    }
+
+    /// The value of the next line that is not blank.
+    pub(crate) fn next_value(&mut self, alloc: Global) -> Result<Option<Value>, Refusal<FirstFault>>
+        ensures value { Answers (option_map (λ v. record { number = self.new.number; value = view v; rest = self.new.lines }))
+            fault_view result (first_said self.old) }
+        ensures shorter { IfOk result (λ found. OnSome found (length self.new.lines < length self.old.lines)) }
+    {
+        while let Some(line) = self.next_line() {
+            match value_of(alloc, line) {
+                Ok(None) => {}
+                Ok(Some(value)) => return Ok(Some(value)),
+                Err(refusal) => return Err(at_line(self.number, refusal)),
+            }
+        }
+        Ok(None)
+    }
+}

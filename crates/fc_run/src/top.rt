@@ -1,0 +1,88 @@
+// From the bytes of a script to the bytes of its answer.
+ghost use Rattle.std.specs.Prelude.{◌≡◌, ◌↔◌, ◌≤◌, false, IfSome};
+ghost use Rattle.std.specs.Io.KnownBytes.{Appends, IsAtEnd};
+ghost use Rattle.fc_spec.specs.Val.{Text};
+ghost use Rattle.fc_spec.specs.Outputs.{IsOutputBy};
+ghost use Rattle.fc_io.specs.Faults.{Rose};
+ghost use Rattle.fc_run.specs.FirstLines.{first_script, script_limits};
+ghost use Rattle.fc_run.specs.Outcome.{by_single_index, takes, Ends, IfDone, IsCountedOutput, Leaves, OnDone, OnRead, OnUsage, OnWrite};
+ghost use Rattle.fc_run.specs.declared.status.Status.TheVariants.{Usage};
+
+use crate::answer::{Answer, answer_to, too_long};
+use crate::status::Status;
+use fc_base::WantMemory;
+use fc_io::{AllRead, Sink, Source, WriteEnd, read_all, write_all};
+use std::alloc::Global;
+
+/// No more bytes in a script.
+const SCRIPT_LIMIT: usize = 67_108_864;
+
+/// Writes the answer, where there is one.
+fn give<K: Sink>(sink: &mut K, answer: &Result<Answer, WantMemory>) -> Status
+    ensures ends { Ends result answer.now (K.written sink.old) (K.written sink.new) }
+    ensures rose { OnWrite result (Rose (K.faults sink.old) (K.faults sink.new)) }
+    ensures never_falls { K.faults sink.old ≤ K.faults sink.new }
+{
+    let (text, status) = match answer {
+        Ok(Answer::Lines(text)) => (text, Status::Done),
+        Ok(Answer::Fault(text)) => (text, Status::Script),
+        Err(WantMemory) => return Status::Memory,
+    };
+    match write_all(sink, text) {
+        WriteEnd::Whole => status,
+        WriteEnd::WriteFault => Status::Write,
+    }
+}
+
+/// Reads a script from `source` and writes its answer to `sink`: one line for each search, in script order, or the
+/// one line of the script's fault. `words` are those of the command; the first is the program's name.
+///
+/// Today exactly the lists of one word are taken, and a script has one form: a schema of one shard whose fields are
+/// all `string`, documents without children, one commit, one sync, and one search for everything with one terms
+/// facet without a limit in index order. Other bytes are refused with their first fault: too long, not JSON, or not
+/// built.
+///
+/// The clauses on bytes hold where the source tells the bytes that it has left, and the sink those that were
+/// written.
+pub fn run<S: Source, K: Sink>(
+    alloc: Global,
+    words: &[String],
+    source: &mut S,
+    sink: &mut K,
+) -> Status
+    ensures usage { (result ≡ Usage) ↔ (takes words.now ≡ false) }
+    ensures unread { OnUsage result (S.left source.new ≡ S.left source.old) }
+    ensures uncounted { OnUsage result (S.faults source.new ≡ S.faults source.old) }
+    ensures unwritten { OnUsage result (K.written sink.new ≡ K.written sink.old) }
+    ensures read { OnRead result (Rose (S.faults source.old) (S.faults source.new)) }
+    ensures read_unwritten { OnRead result (K.written sink.new ≡ K.written sink.old) }
+    ensures end { IfDone result (IsAtEnd (S.left source.new)) }
+    ensures write { OnWrite result (Rose (K.faults sink.old) (K.faults sink.new)) }
+    ensures source_never_falls { S.faults source.old ≤ S.faults source.new }
+    ensures sink_never_falls { K.faults sink.old ≤ K.faults sink.new }
+
+    ensures leaves { IfSome (S.left source.old) (λ bytes. (t : Text)
+        × Appends (K.written sink.old) (K.written sink.new) t
+        × Leaves result (first_script script_limits bytes) t) }
+
+    ensures single_index { IfSome (S.left source.old) (λ bytes. (t : Text)
+        × Appends (K.written sink.old) (K.written sink.new) t
+        × OnDone result (first_script script_limits bytes) (λ S. IsOutputBy by_single_index S t)) }
+
+    ensures counts { IfSome (S.left source.old) (λ bytes. (t : Text)
+        × Appends (K.written sink.old) (K.written sink.new) t
+        × OnDone result (first_script script_limits bytes) (λ S. IsCountedOutput S t)) }
+{
+    if words.len() != 1 {
+        return Status::Usage;
+    }
+    match read_all(alloc, source, SCRIPT_LIMIT) {
+        Ok(AllRead::Bytes(bytes)) => give(sink, &answer_to(alloc, &bytes)),
+        Ok(AllRead::TooLong) => give(sink, &too_long(alloc)),
+        Ok(AllRead::ReadFault) => Status::Read,
+        Err(WantMemory) => Status::Memory,
+    }
+}
+
+#[cfg(test)]
+mod tests;
