@@ -7,4 +7,4 @@ risen count = min (count + 1) (2 ^ 64 - 1)
 
 -- the count rose: it is greater than before, or stands at that last value
 abbrev pub Rose : ℕ → ℕ → Type 0
-Rose before now = risen before ≤ now
+Rose before now = (risen before ≤ now) × (now ≤ 2 ^ 64 - 1)

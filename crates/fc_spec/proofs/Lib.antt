@@ -53,3 +53,4 @@ pub mod Beyond
 pub mod RoundComplete
 pub mod SearchEnds
 pub mod OwnBlocks
+pub mod WordBits

@@ -1,4 +1,4 @@
--- What the first form of script takes of schemas and blocks: one shard, fields of one text, documents of texts without children.
+-- What the first form of script takes of schemas and blocks: one shard, fields of type `string`, documents of texts without children.
 use Rattle.std.specs.Prelude.{List, [], ◌∷◌, length, map, codes, Bool, true, false, ◌&&◌, ◌==◌, nat_le, is_some, Option, None, Some, option_map, option_and_then, unwrap_or, Result, Ok, Err, if◌then◌else◌}
 use Rattle.std.specs.List.{list_all}
 use Rattle.serde_json.specs.Data.{Data, string as json_string, object, Members, no_members, member}
@@ -13,7 +13,7 @@ abbrev pub is_one_text : FieldType → Bool
 is_one_text string = true
 is_one_text _ = false
 
--- one shard, and every field of one text
+-- one shard, and every field of type `string`
 abbrev pub is_first_schema : Schema → Bool
 is_first_schema s = (s.shards == 1) && list_all (λ f. is_one_text f.kind) s.fields
 
@@ -35,7 +35,7 @@ abbrev pub first_value_of : Data → Result Text DocFault
 first_value_of (json_string t) = if nat_le (length t) 32766 then Ok t else Err long_term
 first_value_of _ = Err wrong_type
 
--- a member has a field's name, and a value
+-- the text of a member, or its fault: its key's before its value's
 abbrev pub first_member_of : Schema → Text → Data → Result Text DocFault
 first_member_of s name d = if is_some (field_named s name) then first_value_of d else Err unknown_field
 

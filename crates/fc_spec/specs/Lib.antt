@@ -53,3 +53,5 @@ pub mod ScriptLines
 pub mod SchemaReading
 pub mod FirstForm
 pub mod Totals
+pub mod Bits
+pub mod Columns

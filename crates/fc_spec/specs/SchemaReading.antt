@@ -33,7 +33,7 @@ type_named t =
 abbrev pub type_of : Data → Option FieldType
 type_of d = option_and_then type_named (as_str d)
 
--- `id` can be of one text alone
+-- `id` has the type `string`
 abbrev pub type_for : Text → FieldType → Option FieldType
 type_for name string = Some string
 type_for name t = if same_text name (codes "id") then None else Some t

@@ -3,7 +3,7 @@ use Rattle.std.specs.Prelude.{ℕ, codes}
 use Rattle.fc_spec.specs.Val.{Text}
 use Rattle.fc_spec.specs.DocFault.{DocFault}
 
--- a fault of a script's line
+-- a fault of a script: of a line, or of no line
 pub data LineFault : Type 0 where
   not_json : LineFault
   no_schema : LineFault

@@ -90,7 +90,7 @@ fn shards_of(json: &Value) -> Option<u32>
     }
 }
 
-// `id` can be of one text alone.
+// `id` has the type `string`.
 fn type_for(name: &str, kind: FieldType) -> Option<FieldType>
     ensures { option_map field_type_view result ≡ type_for name.now (field_type_view kind) }
 {

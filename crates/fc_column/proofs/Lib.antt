@@ -1,0 +1,9 @@
+pub mod LaidOut
+pub mod Marks
+pub mod ValueLists
+pub mod Ascents
+pub mod SortedTerms
+pub mod TermLists
+pub mod Numberings
+pub mod Grown
+pub mod Ranked

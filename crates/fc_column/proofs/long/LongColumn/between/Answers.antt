@@ -1,0 +1,20 @@
+use Rattle.std.proofs.Common.{◌≡◌, false, [], replicate, length, map, ap, sym, ◌∙◌, arith, rules}
+use Rattle.std.proofs.lemmas.List.{get_or-map}
+use Rattle.fc_column.specs.Longs.{has_between}
+use Rattle.fc_column.proofs.Marks.{Marked, marked_none, marked_yes, marked_no}
+use Rattle.fc_column.proofs.long.LongColumn.between.Goals as goal
+use Rattle.fc_column.proofs.long.LongColumn.between.Goals.{then-has_between, else-has_between}
+
+pub loop-doc-init : goal.loop-doc-init
+loop-doc-init c =
+    let zeros : c.fill.new.self ≡ replicate (length c.args.into.now) 0 = search rules in
+    marked_none c.fill.new.self _ (length c.args.into.now) zeros
+
+pub loop-doc-preserved : goal.loop-doc-preserved
+loop-doc-preserved c =
+    elim c.if-has_between.branch [
+      | then-has_between w ↦ rw w.into-is (marked_yes c.loop-doc.into _ c.loop-doc.doc c.loop-doc.invariant
+          (get_or-map _ c.args.self.now c.loop-doc.doc [] false (omega arith) ∙ sym c.has_between.ensures ∙ w.if-has_between.true) (omega arith))
+      | else-has_between w ↦ rw w.into-is (marked_no c.loop-doc.into _ c.loop-doc.doc c.loop-doc.invariant
+          (get_or-map _ c.args.self.now c.loop-doc.doc [] false (omega arith) ∙ sym c.has_between.ensures ∙ w.if-has_between.false))
+    ]

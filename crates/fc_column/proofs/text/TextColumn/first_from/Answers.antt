@@ -1,0 +1,18 @@
+use Rattle.std.proofs.Common.{count_by, subst, sym, ap, ◌∙◌, rules, of_calls}
+use Rattle.std.specs.Ordering.{is_lt}
+use Rattle.std.proofs.lemmas.Fn.{always_returns_same}
+use Rattle.fc_spec.specs.Val.{text_cmp}
+use Rattle.fc_spec.specs.Columns.{IsAscending}
+use Rattle.fc_column.specs.Terms.{terms_of}
+use Rattle.fc_column.proofs.SortedTerms.{below_in_front, terms_in_front}
+use Rattle.fc_column.proofs.text.TextColumn.first_from.Goals as goal
+
+pub returns : goal.returns
+returns c =
+    let terms = c.deref.result.now in
+    let text = c.args.text.now in
+    let sorted = subst (IsAscending text_cmp) (sym c.deref.ensures.value) c.self.invariant.sorted in
+    let known = ap terms_of (sym c.self.view_is) ∙ c.self.invariant.complete ∙ sym c.deref.ensures.value in
+    let point = c.partition_point.ensures.partitioned (λ term. is_lt (text_cmp term text)) (always_returns_same _ _ _ (λ a r f k. search (rules, of_calls))) (below_in_front terms sorted text) in
+    sym (ap (count_by (λ term. is_lt (text_cmp term text))) known
+    ∙ terms_in_front terms sorted (λ term. is_lt (text_cmp term text)) c.partition_point.result c.partition_point.ensures.bound point.0 point.1)

@@ -1,0 +1,88 @@
+// Making columns of texts.
+ghost use Rattle.std.specs.Prelude.{◌≡◌, [], ◌∷◌, ◌++◌, map, All, IfOk, OnOk};
+ghost use Rattle.fc_spec.specs.Columns.{IsText, IsAscending, texts_in};
+ghost use Rattle.fc_spec.specs.Val.{val_cmp};
+ghost use Rattle.fc_base.specs.View.{val_view};
+
+use crate::TextColumn;
+use crate::numbers::{into_texts, number_of, ranks};
+use crate::rows::Rows;
+use fc_base::{Name, Val, WantMemory};
+use std::alloc::Global;
+use std::collections::BTreeMap;
+use std::marker::Model;
+
+/// Makes a column of texts, position by position. Once it wanted memory it only wants memory.
+#[derive(Debug, Drop)]
+pub struct TextBuilder {
+    // Each text, with its number: the numbers count the texts in the order in which they came.
+    numbers: BTreeMap<Name, u32>,
+    // The numbers of the texts of each position.
+    rows: Rows<u32>,
+    // A call wanted memory, and a position may be half made.
+    spent: bool,
+    alloc: Global,
+}
+
+impl Model for TextBuilder {
+    ghost use Rattle.std.specs.Prelude.{List};
+    ghost use Rattle.fc_spec.specs.Val.{Text};
+
+    ghost Value = { List (List Text) };
+
+    ghost use Rattle.fc_column.specs.TextBuilder.{texts_built, IsSound};
+
+    ghost view = { texts_built };
+
+    ghost invariant = { IsSound };
+}
+
+impl TextBuilder {
+    /// A column with no position.
+    pub fn new(alloc: Global) -> Result<TextBuilder, WantMemory>
+        ensures { IfOk result (λ builder. builder ≡ []) }
+    {
+        Ok(TextBuilder {
+            numbers: BTreeMap::new(alloc),
+            rows: Rows::new(alloc)?,
+            spent: false,
+            alloc,
+        })
+    }
+
+    /// Adds a position with these values.
+    pub fn push_doc(&mut self, values: &[Val]) -> Result<(), WantMemory>
+        requires texts { All IsText (map val_view values.now) }
+        requires ascending { IsAscending val_cmp (map val_view values.now) }
+        ensures { OnOk result (self.new ≡ self.old ++ texts_in (map val_view values.now) ∷ []) }
+    {
+        if self.spent {
+            return Err(WantMemory);
+        }
+        self.spent = true;
+        for value in values {
+            let Val::Text(text) = value else {
+                unreachable!()
+            };
+            let number = number_of(self.alloc, &mut self.numbers, text)?;
+            self.rows.push(number)?;
+        }
+        self.rows.end_row()?;
+        self.spent = false;
+        Ok(())
+    }
+
+    /// The column of the positions that were added.
+    pub fn finish(self) -> Result<TextColumn, WantMemory>
+        ensures { IfOk result (λ column. column ≡ self) }
+    {
+        if self.spent {
+            return Err(WantMemory);
+        }
+        let ranks = ranks(self.alloc, &self.numbers)?;
+        let terms = into_texts(self.alloc, self.numbers)?;
+        let mut ordinals = self.rows;
+        ordinals.renumber(&ranks);
+        Ok(TextColumn { terms, ordinals })
+    }
+}

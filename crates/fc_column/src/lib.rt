@@ -1,0 +1,14 @@
+//! Columns: the values of one field, position by position.
+#![tactic(auto)]
+
+mod builder;
+mod long;
+mod numbers;
+mod rows;
+#[cfg(test)]
+mod tests;
+mod text;
+
+pub use builder::TextBuilder;
+pub use long::{LongBuilder, LongColumn};
+pub use text::TextColumn;

@@ -1,0 +1,118 @@
+// Columns of texts.
+ghost use Rattle.std.specs.Prelude.{◌≡◌, ℕ, ◌<◌, ◌≤◌, [], length, map, slice_index_or, All, IfSome, is_some};
+ghost use Rattle.std.specs.List.{list_any};
+ghost use Rattle.std.specs.List.Sorted.{IsStrictlyIncreasing};
+ghost use Rattle.fc_spec.specs.Bits.{words_for, HasBits};
+ghost use Rattle.fc_column.specs.Terms.{terms_of, terms_below, terms_up_to, ordinals_in, has_text, has_from_to};
+
+use crate::rows::Rows;
+use fc_base::Name;
+use std::marker::Model;
+
+/// The texts of each position, seen as the list, position by position, of its texts in ascending
+/// order, each once. The terms are the different texts of all positions, in ascending order, and the
+/// ordinal of a term is how many stand below it.
+#[derive(Debug, Drop)]
+pub struct TextColumn {
+    pub(crate) terms: Vec<Name>,
+    pub(crate) ordinals: Rows<u32>,
+}
+
+impl Model for TextColumn {
+    ghost use Rattle.std.specs.Prelude.{List};
+    ghost use Rattle.fc_spec.specs.Val.{Text};
+
+    ghost Value = { List (List Text) };
+
+    ghost use Rattle.fc_column.specs.Dictionary.{texts_of, IsDictionary};
+
+    ghost view = { texts_of };
+
+    ghost invariant = { IsDictionary };
+}
+
+impl TextColumn {
+    /// How many positions there are.
+    pub fn len(&self) -> u32
+        ensures { result ≡ length self.now }
+    {
+        self.ordinals.len()
+    }
+
+    /// How many terms there are.
+    pub fn terms(&self) -> u32
+        ensures { result ≡ length (terms_of self.now) }
+    {
+        self.terms.len() as u32
+    }
+
+    /// The term with an ordinal.
+    pub fn term(&self, ord: u32) -> &Name
+        requires { ord < length (terms_of self.now) }
+        ensures { result.now ≡ slice_index_or (terms_of self.now) ord [] }
+    {
+        &self.terms[ord as usize]
+    }
+
+    /// The ordinals of the texts of a position.
+    pub fn ordinals_of(&self, doc: u32) -> &[u32]
+        requires { doc < length self.now }
+        ensures ordinals { result.now ≡ ordinals_in self.now (slice_index_or self.now doc []) }
+        ensures within { All (λ ord. ord < length (terms_of self.now)) result.now }
+        ensures ascending { IsStrictlyIncreasing result.now }
+    {
+        self.ordinals.row(doc)
+    }
+
+    /// The ordinal of a text. There is none where no position has the text.
+    pub fn ordinal_of(&self, text: &[u8]) -> Option<u32>
+        ensures found { is_some result ≡ list_any (has_text text.now) self.now }
+        ensures ordinal { IfSome result (λ ord. ord ≡ terms_below self.now text.now) }
+    {
+        match self.terms.binary_search_by(|term| term.bytes().cmp(text)) {
+            Ok(place) => Some(place as u32),
+            Err(_) => None,
+        }
+    }
+
+    /// How many terms stand below a text.
+    pub fn first_from(&self, text: &[u8]) -> u32
+        ensures { result ≡ terms_below self.now text.now }
+    {
+        self.terms
+            .partition_point(|term| term.bytes().cmp(text).is_lt()) as u32
+    }
+
+    /// How many terms stand below a text or are the text.
+    pub fn first_past(&self, text: &[u8]) -> u32
+        ensures { result ≡ terms_up_to self.now text.now }
+    {
+        self.terms
+            .partition_point(|term| term.bytes().cmp(text).is_le()) as u32
+    }
+
+    /// Makes the bits exactly those of the positions with an ordinal from `lo` up to but not including
+    /// `hi`. Bit j of word i stands for position 64 i + j.
+    pub fn between(&self, lo: u32, hi: u32, into: &mut [u64])
+        requires { words_for (length self.now) ≤ length into.old }
+        ensures { HasBits into.new
+            (map (λ texts. has_from_to lo hi (ordinals_in self.now texts)) self.now) }
+    {
+        into.fill(0);
+        for doc in 0..self.len() {
+            if self.has_from_to(doc, lo, hi) {
+                into[(doc / 64) as usize] |= 1 << (doc % 64);
+            }
+        }
+    }
+
+    fn has_from_to(&self, doc: u32, lo: u32, hi: u32) -> bool
+        requires { doc < length self.now }
+        ensures { result
+            ≡ has_from_to lo hi (ordinals_in self.now (slice_index_or self.now doc [])) }
+    {
+        self.ordinals_of(doc)
+            .iter()
+            .any(|ord| lo <= *ord && *ord < hi)
+    }
+}

@@ -1,0 +1,3 @@
+pub mod BitLists
+pub mod LowBits
+pub mod WholeWords

@@ -1,0 +1,6 @@
+use Rattle.std.proofs.Common.{◌≡◌, ◌+◌, ◌/◌, ◌&&◌, ◌||◌, not, refl, sym, ap, ◌∙◌, arith, length, vec_len}
+use Rattle.fc_docset.proofs.BitLists.{length-first_bits}
+use Rattle.fc_docset.proofs.set.DocSet.len.Goals as goal
+
+pub returns : goal.returns
+returns c = sym (length-first_bits c.self.inside.len c.self.inside.words.items) ∙ ap length c.self.view_is

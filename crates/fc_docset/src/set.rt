@@ -1,0 +1,148 @@
+// Sets of positions.
+ghost use Rattle.std.specs.Prelude.{◌≡◌, ◌<◌, ◌≤◌, ◌&&◌, ◌||◌, true, false, not, length, count_by, replicate, slice_set, vec_len, IfOk};
+ghost use Rattle.fc_spec.specs.Bits.{words_for, first_bits, HasBits};
+ghost use Rattle.fc_docset.specs.Positions.{contains, positions, zip_with};
+
+use crate::Positions;
+use crate::words::{
+    and_not_words, and_words, clear_from, count_bits, has_bit, or_words, set_bit, word_count,
+};
+use fc_base::WantMemory;
+use std::alloc::Global;
+use std::marker::Model;
+
+/// A set of positions below a length, seen as a list that says of each position below the length
+/// whether it is in the set.
+#[derive(Debug, Drop)]
+pub struct DocSet {
+    len: u32,
+    words: Vec<u64>,
+}
+
+impl Model for DocSet {
+    ghost use Rattle.std.specs.Prelude.{Bool, List};
+
+    ghost Value = { List Bool };
+
+    ghost use Rattle.fc_docset.specs.Stored.{stored, IsStored};
+
+    ghost view = { stored };
+
+    ghost invariant = { IsStored };
+}
+
+impl DocSet {
+    /// No position.
+    pub fn empty(alloc: Global, len: u32) -> Result<DocSet, WantMemory>
+        ensures { IfOk result (λ set. set ≡ replicate len false) }
+    {
+        Ok(DocSet {
+            len,
+            words: vec![in alloc; 0; word_count(len)]?,
+        })
+    }
+
+    /// Each position below the length.
+    pub fn full(alloc: Global, len: u32) -> Result<DocSet, WantMemory>
+        ensures { IfOk result (λ set. set ≡ replicate len true) }
+    {
+        let words = vec![in alloc; u64::MAX; word_count(len)]?;
+        Ok(DocSet::within(len, words))
+    }
+
+    /// The positions below the length whose bit is 1: bit j of word i stands for position 64 i + j.
+    /// Bits past the length are passed over.
+    pub fn from_mask(alloc: Global, len: u32, words: &[u64]) -> Result<DocSet, WantMemory>
+        requires { words_for len ≤ length words.now }
+        ensures { IfOk result (λ set. set ≡ first_bits len words.now) }
+    {
+        let words = words[..word_count(len)].to_vec(alloc)?;
+        Ok(DocSet::within(len, words))
+    }
+
+    // The positions below the length whose bit is 1.
+    fn within(len: u32, mut words: Vec<u64>) -> DocSet
+        requires { vec_len words ≡ words_for len }
+        ensures { result ≡ first_bits len words.items }
+    {
+        clear_from(&mut words, len);
+        DocSet { len, words }
+    }
+
+    pub fn copy(&self, alloc: Global) -> Result<DocSet, WantMemory>
+        ensures { IfOk result (λ set. set ≡ self.now) }
+    {
+        Ok(DocSet {
+            len: self.len,
+            words: self.words.to_vec(alloc)?,
+        })
+    }
+
+    /// Keeps the positions that are in the other set too.
+    pub fn and_with(&mut self, other: &DocSet)
+        requires { length self.old ≡ length other.now }
+        ensures { self.new ≡ zip_with ◌&&◌ self.old other.now }
+    {
+        and_words(&mut self.words, &other.words);
+    }
+
+    /// Adds the positions of the other set.
+    pub fn or_with(&mut self, other: &DocSet)
+        requires { length self.old ≡ length other.now }
+        ensures { self.new ≡ zip_with ◌||◌ self.old other.now }
+    {
+        or_words(&mut self.words, &other.words);
+    }
+
+    /// Takes away the positions of the other set.
+    pub fn without(&mut self, other: &DocSet)
+        requires { length self.old ≡ length other.now }
+        ensures { self.new ≡ zip_with (λ here there. here && not there) self.old other.now }
+    {
+        and_not_words(&mut self.words, &other.words);
+    }
+
+    pub fn add(&mut self, at: u32)
+        requires { at < length self.old }
+        ensures { self.new ≡ slice_set self.old at true }
+    {
+        set_bit(&mut self.words, at);
+    }
+
+    pub fn contains(&self, at: u32) -> bool
+        requires { at < length self.now }
+        ensures { result ≡ contains self.now at }
+    {
+        has_bit(&self.words, at)
+    }
+
+    /// The length below which the positions lie.
+    pub fn len(&self) -> u32
+        ensures { result ≡ length self.now }
+    {
+        self.len
+    }
+
+    /// How many positions are in the set.
+    pub fn count(&self) -> u32
+        ensures { result ≡ count_by (λ here. here) self.now }
+    {
+        count_bits(&self.words) as u32
+    }
+
+    /// Bit j of word i is 1 exactly where position 64 i + j is in the set. There are as many words as
+    /// the length needs.
+    pub fn words(&self) -> &[u64]
+        ensures count { length result.now ≡ words_for (length self.now) }
+        ensures bits { HasBits result.now self.now }
+    {
+        &self.words
+    }
+
+    /// The positions in the set, in ascending order.
+    pub fn iter(&self) -> Positions<'_>
+        ensures { result ≡ positions self.now }
+    {
+        Positions::over(&self.words)
+    }
+}

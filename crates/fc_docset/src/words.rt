@@ -1,0 +1,71 @@
+// Words of 64 bits: bit j of word i stands for position 64 i + j.
+ghost use Rattle.std.specs.Prelude.{◌≡◌, ◌==◌, ◌<◌, ◌≤◌, ◌*◌, ◌/◌, ◌^◌, ◌&&◌, ◌||◌, ℕ, length, not, nat_lt, count_by};
+ghost use Rattle.fc_spec.specs.Bits.{has_bit, words_for, first_bits};
+
+/// How many words hold a bit for each position below `len`.
+pub fn word_count(len: u32) -> usize
+    ensures { result ≡ words_for len }
+{
+    len.div_ceil(64) as usize
+}
+
+pub fn has_bit(words: &[u64], at: u32) -> bool
+    requires { at / 64 < length words.now }
+    ensures { result ≡ has_bit words.now at }
+{
+    words[(at / 64) as usize] >> (at % 64) & 1 == 1
+}
+
+pub fn set_bit(words: &mut [u64], at: u32)
+    requires { at / 64 < length words.old }
+    ensures { (k : ℕ) → has_bit words.new k ≡ (has_bit words.old k || (k == at)) }
+{
+    words[(at / 64) as usize] |= 1 << (at % 64);
+}
+
+/// Clears the bits from position `len` on, where the last of the words has the last position below
+/// `len`.
+pub fn clear_from(words: &mut [u64], len: u32)
+    requires { length words.old ≡ words_for len }
+    ensures { (k : ℕ) → has_bit words.new k ≡ (has_bit words.old k && nat_lt k len) }
+{
+    let used = len % 64;
+    if used != 0 {
+        words[(len / 64) as usize] &= (1 << used) - 1;
+    }
+}
+
+pub fn and_words(words: &mut [u64], others: &[u64])
+    requires { length words.old ≡ length others.now }
+    ensures { (k : ℕ) → has_bit words.new k ≡ (has_bit words.old k && has_bit others.now k) }
+{
+    for (i, word) in words.iter_mut().enumerate() {
+        *word &= others[i];
+    }
+}
+
+pub fn or_words(words: &mut [u64], others: &[u64])
+    requires { length words.old ≡ length others.now }
+    ensures { (k : ℕ) → has_bit words.new k ≡ (has_bit words.old k || has_bit others.now k) }
+{
+    for (i, word) in words.iter_mut().enumerate() {
+        *word |= others[i];
+    }
+}
+
+pub fn and_not_words(words: &mut [u64], others: &[u64])
+    requires { length words.old ≡ length others.now }
+    ensures { (k : ℕ) → has_bit words.new k ≡ (has_bit words.old k && not (has_bit others.now k)) }
+{
+    for (i, word) in words.iter_mut().enumerate() {
+        *word &= !others[i];
+    }
+}
+
+/// How many bits are 1.
+pub fn count_bits(words: &[u64]) -> u64
+    requires { length words.now < 2 ^ 32 }
+    ensures { result ≡ count_by (λ here. here) (first_bits (64 * length words.now) words.now) }
+{
+    words.iter().map(|word| u64::from(word.count_ones())).sum()
+}
