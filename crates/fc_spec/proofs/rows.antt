@@ -47,3 +47,4 @@ pub mod ShapedMessages
 pub mod MessageParts
 pub mod SeveralWants
 pub mod RefiningInside
+pub mod Blocks

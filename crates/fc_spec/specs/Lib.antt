@@ -52,6 +52,10 @@ pub mod RoundsEnd
 pub mod ScriptLines
 pub mod SchemaReading
 pub mod FirstForm
+pub mod Walks
+pub mod IntegerTexts
+pub mod BlockReading
+pub mod ValidBlocks
 pub mod Totals
 pub mod Bits
 pub mod Columns
