@@ -4,5 +4,6 @@ pub mod Members
 pub mod NamesDiffer
 pub mod OrFault
 pub mod SchemaMembers
+pub mod SpelledIntegers
 pub mod Searching
 pub mod Texts

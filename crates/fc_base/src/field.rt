@@ -6,7 +6,8 @@ use crate::Name;
 #[derive(Clone, Copy, Debug, PartialEq, Eq, PartialOrd, Ord)]
 pub struct FieldId(pub u16);
 
-/// At most one text, texts, at most one integer, or integers.
+/// What values a field has: at most one text (`string`), texts (`strings`), at most one integer of 64
+/// bits signed (`plong`), or such integers (`plongs`).
 #[derive(Clone, Copy, Debug, PartialEq, Eq)]
 pub enum FieldType {
     Str,

@@ -3,12 +3,14 @@
 
 mod error;
 mod field;
+mod integer;
 mod name;
 mod schema;
 mod value;
 
 pub use error::{Refusal, WantMemory};
 pub use field::{FieldId, FieldType};
+pub use integer::long_of;
 pub use name::Name;
 pub use schema::{Schema, SchemaFault};
 pub use value::Val;

@@ -24,6 +24,7 @@ impl Model for Name {
 }
 
 impl Name {
+    /// A name of this text.
     pub fn new(alloc: Global, text: &str) -> Result<Name, WantMemory>
         ensures { IfOk result (λ name. name ≡ text.now) }
     {
@@ -32,6 +33,7 @@ impl Name {
         })
     }
 
+    /// The UTF-8 bytes of the text.
     pub fn bytes(&self) -> &[u8]
         ensures value { result.now ≡ self.now }
         ensures utf8 { IsUtf8 self.now }
@@ -39,12 +41,14 @@ impl Name {
         self.text().as_bytes()
     }
 
+    /// The text.
     pub fn text(&self) -> &str
         ensures { result.now ≡ self.now }
     {
         self.text.as_str()
     }
 
+    /// Another name of the same text.
     pub fn copy(&self, alloc: Global) -> Result<Name, WantMemory>
         ensures { IfOk result (λ name. name ≡ self.now) }
     {

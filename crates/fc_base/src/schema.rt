@@ -51,6 +51,7 @@ impl Model for Schema {
 }
 
 impl Schema {
+    /// How many shards there are, from 1 to 64.
     pub fn shards(&self) -> u32
         ensures count { result ≡ self.now.shards }
         ensures valid { IsValidSchema self.now }
@@ -66,6 +67,7 @@ impl Schema {
         self.fields.len() as u16
     }
 
+    /// The field of this name, by its bytes. There is none where no field has the name.
     pub fn find(&self, name: &[u8]) -> Option<FieldId>
         ensures found { option_map (λ id. id.0) result ≡ field_named self.now name.now }
         ensures below { IfSome result (λ id. id.0 < length self.now.fields) }
@@ -77,6 +79,7 @@ impl Schema {
         Some(FieldId(at as u16 + 1))
     }
 
+    /// The type of a field.
     pub fn field_type(&self, id: FieldId) -> FieldType
         requires { id.0 < length self.now.fields }
         ensures { option_map (λ f. f.kind) (slice_get self.now.fields id.0)

@@ -26,6 +26,7 @@ impl Val {
         self.cmp(other).is_lt()
     }
 
+    /// Another value that is the same.
     pub fn copy(&self, alloc: Global) -> Result<Val, WantMemory>
         ensures { IfOk result (λ val. val ≡ self.now) }
     {

@@ -3,7 +3,6 @@ ghost use Rattle.std.specs.Prelude.{◌≡◌, ◌<◌, IfOk, length, map, optio
 ghost use Rattle.std.specs.List.{list_all};
 ghost use Rattle.serde_json.specs.View.{view, members_view};
 ghost use Rattle.fc_spec.specs.SchemaReading.{shards_of, type_named, type_for, field_of, fields_of, is_field_name, is_name_byte, is_underscored, schema_of, with_id};
-ghost use Rattle.fc_spec.specs.FirstForm.{first_schema_of, is_first_schema, is_one_text};
 ghost use Rattle.fc_base.specs.Answers.{Answers, one_fault, or_fault};
 ghost use Rattle.fc_base.specs.ValidSchema.{IsFieldList};
 ghost use Rattle.fc_base.specs.View.{field_view, field_type_view};
@@ -15,25 +14,27 @@ use serde_json::{Map, Value};
 use std::alloc::Global;
 
 impl Schema {
-    /// Reads an object of the two members `shards`, a whole number, and `fields`, an object from
-    /// names to types. A name is 1 to 64 ASCII letters, digits and `_`, with no digit in front, nor
-    /// `_` at both ends; there are at most 256 fields with `id`. So far the number of shards is 1,
-    /// and each type is `string`.
+    /// Reads an object of the two members `shards`, a whole number from 1 to 64, and `fields`, an
+    /// object from names to types: `string`, `strings`, `plong` or `plongs`. A name is 1 to 64 ASCII
+    /// letters, digits and `_`, with no digit in front, nor `_` at both ends; `id` has the type
+    /// `string`; there are at most 256 fields with `id`, which need not be named. A value that is
+    /// not so is no schema. (Guide: Fields and Schema Design)
     pub fn read(alloc: Global, json: &Value) -> Result<Schema, Refusal<SchemaFault>>
-        ensures { Answers (λ schema. schema) one_fault result
-            (or_fault (first_schema_of (view json.now))) }
+        ensures { Answers (λ schema. schema) one_fault result (or_fault (schema_of (view json.now))) }
     {
-        let schema = read_schema(alloc, json)?;
-        if !schema.is_first_form() {
+        let members = json.as_object().ok_or(SchemaFault)?;
+        if members.len() != 2 {
             return Err(Refusal::Fault(SchemaFault));
         }
-        Ok(schema)
-    }
-
-    fn is_first_form(&self) -> bool
-        ensures { result ≡ is_first_schema self.now }
-    {
-        self.shards == 1 && are_single_texts(&self.fields)
+        let shards = json.get("shards").and_then(shards_of).ok_or(SchemaFault)?;
+        let fields = json
+            .get("fields")
+            .and_then(Value::as_object)
+            .ok_or(SchemaFault)?;
+        Ok(Schema {
+            shards,
+            fields: read_fields(alloc, fields)?,
+        })
     }
 }
 
@@ -138,35 +139,4 @@ fn read_fields(
         return Err(Refusal::Fault(SchemaFault));
     }
     Ok(fields)
-}
-
-// A schema of any number of shards and any types.
-fn read_schema(alloc: Global, json: &Value) -> Result<Schema, Refusal<SchemaFault>>
-    ensures { Answers (λ schema. schema) one_fault result (or_fault (schema_of (view json.now))) }
-{
-    let members = json.as_object().ok_or(SchemaFault)?;
-    if members.len() != 2 {
-        return Err(Refusal::Fault(SchemaFault));
-    }
-    let shards = json.get("shards").and_then(shards_of).ok_or(SchemaFault)?;
-    let fields = json
-        .get("fields")
-        .and_then(Value::as_object)
-        .ok_or(SchemaFault)?;
-    Ok(Schema {
-        shards,
-        fields: read_fields(alloc, fields)?,
-    })
-}
-
-fn is_one_text(kind: FieldType) -> bool
-    ensures { result ≡ is_one_text (field_type_view kind) }
-{
-    kind == FieldType::Str
-}
-
-fn are_single_texts(fields: &[Field]) -> bool
-    ensures { result ≡ list_all (λ f. is_one_text (field_type_view f.kind)) fields.now }
-{
-    fields.iter().all(|field| is_one_text(field.kind))
 }

@@ -56,6 +56,30 @@ fn fields_are_numbered_by_their_names(rt: HostRuntime) -> Result<(), Fail> {
 }
 
 #[test]
+fn fields_have_four_types(rt: HostRuntime) -> Result<(), Fail> {
+    let alloc = rt.alloc();
+    let schema = read(
+        alloc,
+        r#"{"shards":64,"fields":{"a":"strings","b":"plong","c":"plongs","d":"string"}}"#,
+    )?;
+    assert_eq!(rt; schema.shards(), 64);
+    for (name, kind) in [
+        ("id", FieldType::Str),
+        ("a", FieldType::Strs),
+        ("b", FieldType::Long),
+        ("c", FieldType::Longs),
+        ("d", FieldType::Str),
+    ] {
+        let found = schema.find(name.as_bytes());
+        assert!(rt;
+            found.is_some_and(|id| schema.field_type(id) == kind),
+            "at {name}"
+        );
+    }
+    Ok(())
+}
+
+#[test]
 fn bad_schemas_are_refused(rt: HostRuntime) -> Result<(), Fail> {
     let alloc = rt.alloc();
     for text in [
@@ -66,15 +90,20 @@ fn bad_schemas_are_refused(rt: HostRuntime) -> Result<(), Fail> {
         r#"{"shards":1,"field":{}}"#,
         r#"{"shards":1,"fields":{},"more":1}"#,
         r#"{"shards":0,"fields":{}}"#,
-        r#"{"shards":2,"fields":{}}"#,
         r#"{"shards":65,"fields":{}}"#,
         r#"{"shards":1.0,"fields":{}}"#,
         r#"{"shards":"1","fields":{}}"#,
         r#"{"shards":1,"fields":[]}"#,
         r#"{"shards":1,"fields":{"a":null}}"#,
         r#"{"shards":1,"fields":{"a":"text"}}"#,
-        r#"{"shards":1,"fields":{"a":"strings"}}"#,
-        r#"{"shards":1,"fields":{"a":"plong"}}"#,
+        r#"{"shards":-1,"fields":{}}"#,
+        r#"{"shards":1e0,"fields":{}}"#,
+        r#"{"shards":null,"fields":{}}"#,
+        r#"{"shards":1,"fields":null}"#,
+        r#"{"shards":1,"fields":{"a":["string"]}}"#,
+        r#"{"shards":1,"fields":{"a":"String"}}"#,
+        r#"{"shards":1,"fields":{"id":"plong"}}"#,
+        r#"{"shards":1,"fields":{"__":"string"}}"#,
         r#"{"shards":1,"fields":{"id":"strings"}}"#,
         r#"{"shards":1,"fields":{"":"string"}}"#,
         r#"{"shards":1,"fields":{"1a":"string"}}"#,

@@ -6,7 +6,7 @@ use Rattle.fc_spec.specs.SchemaReading.{shards_of}
 use Rattle.fc_base.specs.Answers.{or_fault}
 use Rattle.fc_base.proofs.SchemaMembers.{not_two_members, two_members, not_two, schema_is}
 use Rattle.fc_base.proofs.OrFault.{given_by_ok}
-use Rattle.fc_base.proofs.schema.read.read_schema.Goals as goal
+use Rattle.fc_base.proofs.schema.Schema.read.Goals as goal
 
 pub returns-then-len-ne2 : goal.returns-then-len-ne2
 returns-then-len-ne2 c =
