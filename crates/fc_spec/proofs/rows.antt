@@ -48,3 +48,4 @@ pub mod MessageParts
 pub mod SeveralWants
 pub mod RefiningInside
 pub mod Blocks
+pub mod Scripts

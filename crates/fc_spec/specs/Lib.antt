@@ -56,6 +56,9 @@ pub mod Walks
 pub mod IntegerTexts
 pub mod BlockReading
 pub mod ValidBlocks
+pub mod ScriptTotals
+pub mod LineReading
+pub mod ScriptReading
 pub mod Totals
 pub mod Bits
 pub mod Columns

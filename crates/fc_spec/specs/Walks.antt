@@ -12,6 +12,11 @@ abbrev pub unless : {E : Type 0} → Bool → E → Result (Unit {0}) E
 unless true e = Ok tt
 unless false e = Err e
 
+-- the same, with the fault seen as another
+abbrev pub with_fault : {A E F : Type 0} → (E → F) → Result A E → Result A F
+with_fault see (Ok a) = Ok a
+with_fault see (Err e) = Err (see e)
+
 -- what each member gives, in order, or the fault of the first that has one
 abbrev pub each : {A B E : Type 0} → (A → Result B E) → List A → Result (List B) E
 each step [] = Ok []
