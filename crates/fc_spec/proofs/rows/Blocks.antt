@@ -1,12 +1,12 @@
 -- Blocks as JSON says them, and the first fault of other values.
-use Rattle.std.specs.Prelude.{◌≡◌, refl, pos, negsuc, [], ◌∷◌, codes, true, None, Some, Ok, Err}
+use Rattle.std.specs.Prelude.{replicate, ◌++◌, Float, ◌≡◌, refl, pos, negsuc, [], ◌∷◌, codes, true, None, Some, Ok, Err}
 use Rattle.std.specs.Fmt.{digits}
-use Rattle.serde_json.specs.Data.{Data, null, boolean, number, unsigned, negative, string as json_string, array, object, no_items, item, Members, no_members, member}
+use Rattle.serde_json.specs.Data.{Data, null, boolean, number, unsigned, negative, float, string as json_string, array, object, no_items, item, Members, no_members, member}
 use Rattle.fc_spec.specs.Val.{Text, text, long}
-use Rattle.fc_spec.specs.DocFault.{DocFault, unknown_field, wrong_type, too_many_values, no_id, deep_children}
+use Rattle.fc_spec.specs.DocFault.{DocFault, unknown_field, wrong_type, too_many_values, no_id, long_term, deep_children}
 use Rattle.fc_spec.specs.Schema.{FieldType, string, strings, plong, plongs, Field, Schema}
 use Rattle.fc_spec.specs.IntegerTexts.{long_of}
-use Rattle.fc_spec.specs.BlockReading.{block_of, value_of}
+use Rattle.fc_spec.specs.BlockReading.{block_of, value_of, values_for}
 
 abbrev field : Text → FieldType → Field
 field name kind = record { name = name; kind = kind }
@@ -159,3 +159,36 @@ unknown_before_deep = refl
 
 pub child_without_id : fault_of (child (member (codes "cat") null no_members)) no_id
 child_without_id = refl
+
+-- ---- a number with a point or an exponent, `-0`, and one beyond 64 bits are floats, and no item
+pub float_for_integer : (x : Float) → value_of plong (number (float x)) ≡ Err wrong_type
+float_for_integer x = refl
+
+pub float_for_text : (x : Float) → value_of strings (number (float x)) ≡ Err wrong_type
+float_for_text x = refl
+
+-- ---- the most bytes of a text; an item's kind is judged before its length
+pub longest_text : value_of string (json_string (replicate 32766 97)) ≡ Ok (text (replicate 32766 97))
+longest_text = refl
+
+pub too_long_text : value_of string (json_string (replicate 32767 97)) ≡ Err long_term
+too_long_text = refl
+
+pub longest_integer : value_of plong (json_string (replicate 32765 48 ++ 53 ∷ [])) ≡ Ok (long (pos 5))
+longest_integer = refl
+
+pub too_long_integer : value_of plong (json_string (replicate 32766 48 ++ 53 ∷ [])) ≡ Err long_term
+too_long_integer = refl
+
+pub too_long_word_for_integer : value_of plongs (json_string (replicate 32767 97)) ≡ Err wrong_type
+too_long_word_for_integer = refl
+
+pub too_long_before_too_many : values_for string (array (item (json_string (replicate 32767 97)) (item (json_string []) no_items))) ≡ Err long_term
+too_long_before_too_many = refl
+
+-- ---- keys that are no field
+pub empty_key : fault_of (member [] (boolean true) id_seven) unknown_field
+empty_key = refl
+
+pub underscore_in_front_alone : fault_of (member (codes "_x") (boolean true) id_seven) unknown_field
+underscore_in_front_alone = refl

@@ -1,13 +1,14 @@
 -- Scripts as bytes spell them, and the first fault of others.
-use Rattle.std.specs.Prelude.{◌≡◌, refl, ℕ, List, [], ◌∷◌, ◌++◌, codes, None, Some, Ok, Err}
+use Rattle.std.specs.Prelude.{◌≡◌, refl, negsuc, pos, ℕ, List, [], ◌∷◌, ◌++◌, codes, None, Some, Ok, Err}
 use Rattle.std.specs.Str.{is_utf8, chars}
 use Rattle.serde_json.specs.Data.{object, no_members}
-use Rattle.fc_spec.specs.Val.{Text}
+use Rattle.fc_spec.specs.Val.{Text, long}
 use Rattle.fc_spec.specs.Schema.{string}
 use Rattle.fc_spec.specs.Script.{add, commit, sync, asks}
 use Rattle.fc_spec.specs.DocFault.{no_id, wrong_type, unknown_field}
 use Rattle.fc_spec.specs.ScriptFault.{LineFault, not_json, no_schema, unknown_line, bad_schema, bad_shard, bad_document, duplicate_id, field_total, too_many_documents}
-use Rattle.fc_spec.specs.ScriptTotals.{script_limits}
+use Rattle.fc_spec.specs.Document.{Document}
+use Rattle.fc_spec.specs.ScriptTotals.{script_limits, absolute_total}
 use Rattle.fc_spec.specs.ScriptReading.{script_of}
 use Rattle.fc_spec.proofs.rows.Words.{written, said}
 
@@ -206,3 +207,13 @@ third_document = refl
 pub fourth_value : script_of (record { documents = 9; values = 3 }) (lines (one ∷ codes "{\"add\":{\"doc\":{\"id\":\"a\",\"n\":[5,5,\"05\",6]}}}" ∷ codes "{\"add\":{\"doc\":{\"id\":\"b\"}}}" ∷ [])) ≡ Err (record { line = 3; fault = too_many_documents })
 unfolding written is_utf8 chars
 fourth_value = refl
+
+-- ---- sums are over each field by itself, of absolute values
+abbrev documents : List Document
+documents = (said "1" ∷ [] ∷ (long (negsuc 4) ∷ long (pos 2) ∷ []) ∷ []) ∷ (said "2" ∷ [] ∷ (long (pos 9) ∷ []) ∷ []) ∷ []
+
+pub sum_of_a_field : absolute_total documents 2 ≡ 16
+sum_of_a_field = refl
+
+pub no_sum_of_texts : absolute_total documents 0 ≡ 0
+no_sum_of_texts = refl
