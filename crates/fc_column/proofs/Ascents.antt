@@ -1,10 +1,9 @@
 -- Ascending values are ascending texts, or ascending integers.
-use Rattle.std.proofs.Common.{◌≡◌, ℕ, suc, ◌+◌, ◌<◌, ◌≤◌, ◌⊎◌, inl, inr, List, [], ◌∷◌, ◌++◌, length, get_or, map, ℤ, All, refl, sym, ap, ap₂, ◌∙◌, subst, arith}
+use Rattle.std.proofs.Common.{◌≡◌, ℕ, suc, ◌<◌, ◌≤◌, ◌⊎◌, inl, inr, List, [], ◌∷◌, ◌++◌, length, get_or, map, All, refl, sym, ap, ap₂, ◌∙◌, subst, arith}
 use Rattle.std.proofs.lemmas.List.{get_or-map, length-map, get_or_append_left, get_or_push, length_push}
 use Rattle.std.proofs.lemmas.Bool.{cases_lt}
 use Rattle.std.specs.Ordering.{int_cmp}
-use Rattle.std.specs.declared.cmp.Ordering.TheVariants.{Less}
-use Rattle.fc_spec.specs.Val.{Text, Val, text, long, val_cmp, text_cmp}
+use Rattle.fc_spec.specs.Val.{Val, text, long, val_cmp, text_cmp}
 use Rattle.fc_spec.specs.Columns.{IsText, IsLong, IsAscending, texts_in, longs_in}
 
 -- values of one kind are those among them

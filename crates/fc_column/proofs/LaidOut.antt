@@ -1,7 +1,7 @@
 -- Rows in one list, after an item or a row is added.
-use Rattle.std.proofs.Common.{◌≡◌, ℕ, zero, suc, ◌+◌, ◌-◌, ◌<◌, ◌≤◌, ◌⊎◌, inl, inr, List, [], ◌∷◌, ◌++◌, length, get_or, take, drop, map, slice_range, slice_index, All, refl, sym, ap, ap₂, ◌∙◌, subst, arith, add-one, length-drop}
+use Rattle.std.proofs.Common.{◌≡◌, ℕ, zero, suc, ◌+◌, ◌-◌, ◌<◌, ◌≤◌, ◌⊎◌, inl, inr, List, [], ◌∷◌, ◌++◌, length, get_or, take, drop, map, slice_range, All, refl, sym, ap, ap₂, ◌∙◌, subst, arith, add-one, length-drop}
 use Rattle.std.proofs.lemmas.Bool.{cases_lt}
-use Rattle.std.proofs.lemmas.List.{take-append-le, drop-append-le, take_rest, drop_all, take-map, drop-map, get_or_append_left, get_or_push, get_or-drop, get_or-take, length-take-le, length_push, get_or_read, get_or-map, length-map, ext_get_or}
+use Rattle.std.proofs.lemmas.List.{take-append-le, drop-append-le, take_rest, drop_all, take-map, drop-map, get_or_append_left, get_or_push, get_or-drop, get_or-take, length-take-le, length_push, get_or-map, length-map, ext_get_or}
 use Rattle.std.proofs.lemmas.List.FromFn.{length-map-range_with_len, get_or-map-range_with_len, map-range_with_len_more}
 use Rattle.std.proofs.lemmas.Simd.{map-map}
 use Rattle.std.specs.List.{range_with_len}
@@ -35,25 +35,6 @@ Rise starts = (k : ℕ) → k + 1 < length starts → get_or starts k 0 ≤ get_
 
 abbrev pub Within : List ℕ → ℕ → Type 0
 Within starts size = (k : ℕ) → k < length starts → get_or starts k 0 ≤ size
-
--- where a row begins and ends, as the starts are read
-pub record Bounds (starts : List ℕ) (size at from to : ℕ) : Type 0 where
-  pub order : from ≤ to
-  pub within : to ≤ size
-  pub from_is : from ≡ get_or starts at 0
-  pub to_is : to ≡ get_or starts (at + 1) 0
-
-pub row_bounds : (starts : List ℕ) (size at from to : ℕ) → Rise starts → Within starts size → at + 1 < length starts
-    → from ≡ get_or starts at from → to ≡ get_or starts (at + 1) to → Bounds starts size at from to
-row_bounds starts size at from to rise within inside from_read to_read =
-    let from_is = get_or_read starts at from (omega arith) from_read 0 in
-    let to_is = get_or_read starts (at + 1) to inside to_read 0 in
-    record {
-      order = omega (arith, rise at inside);
-      within = omega (arith, within (at + 1) inside);
-      from_is = from_is;
-      to_is = to_is;
-    }
 
 pub laid_out-push : {T : Type 0} (starts : List ℕ) (items : List T) (item : T) → 0 < length starts → Rise starts → Within starts (length items)
     → laid_out starts (items ++ item ∷ []) ≡ record { rows = (laid_out starts items).rows; next = (laid_out starts items).next ++ item ∷ [] }

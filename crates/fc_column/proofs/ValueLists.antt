@@ -6,7 +6,7 @@ use Rattle.fc_base.specs.declared.value.Val.TheVariants.{Text, Long}
 use Rattle.fc_base.specs.View.{val_view}
 use Rattle.fc_spec.specs.Val as definition
 use Rattle.fc_spec.specs.Val.{text, long}
-use Rattle.fc_spec.specs.Columns.{IsText, IsLong, texts_in, longs_in}
+use Rattle.fc_spec.specs.Columns.{texts_in, longs_in}
 
 longs_in-append : (vs ws : List definition.Val) → longs_in (vs ++ ws) ≡ longs_in vs ++ longs_in ws
 longs_in-append [] ws = refl

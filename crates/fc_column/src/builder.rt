@@ -12,7 +12,7 @@ use std::alloc::Global;
 use std::collections::BTreeMap;
 use std::marker::Model;
 
-/// Makes a column of texts, position by position. Once it wanted memory it only wants memory.
+/// Makes a column of texts, position by position. After want of memory it is only dropped.
 #[derive(Debug, Drop)]
 pub struct TextBuilder {
     // Each text, with its number: the numbers count the texts in the order in which they came.
@@ -50,7 +50,9 @@ impl TextBuilder {
         })
     }
 
-    /// Adds a position with these values.
+    /// Adds a position with these values, which stand in index order, each once. There are at most
+    /// 4,294,967,295 positions, values and terms, as a `u32` counts them: one more is answered as want
+    /// of memory.
     pub fn push_doc(&mut self, values: &[Val]) -> Result<(), WantMemory>
         requires texts { All IsText (map val_view values.now) }
         requires ascending { IsAscending val_cmp (map val_view values.now) }

@@ -1,4 +1,5 @@
-//! Columns: the values of one field, position by position.
+//! Columns: the values of one field, position by position. A call that takes the allocator, and each
+//! call of a builder, can answer want of memory; nothing else is refused.
 #![tactic(auto)]
 
 mod builder;

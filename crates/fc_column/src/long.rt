@@ -72,7 +72,7 @@ impl LongColumn {
     }
 }
 
-/// Makes a column of integers, position by position. Once it wanted memory it only wants memory.
+/// Makes a column of integers, position by position. After want of memory it is only dropped.
 #[derive(Debug, Drop)]
 pub struct LongBuilder {
     values: Rows<i64>,
@@ -103,7 +103,9 @@ impl LongBuilder {
         })
     }
 
-    /// Adds a position with these values.
+    /// Adds a position with these values, which stand in index order, each once. There are at most
+    /// 4,294,967,295 positions and values, as a `u32` counts them: one more is answered as want of
+    /// memory.
     pub fn push_doc(&mut self, values: &[Val]) -> Result<(), WantMemory>
         requires longs { All IsLong (map val_view values.now) }
         requires ascending { IsAscending val_cmp (map val_view values.now) }

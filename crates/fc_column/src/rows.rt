@@ -1,5 +1,6 @@
 // Lists in one list, one after another.
-ghost use Rattle.std.specs.Prelude.{◌≡◌, ◌<◌, [], ◌∷◌, ◌++◌, length, map, slice_index, slice_index_or, All, IfOk, OnOk, OnErr};
+ghost use Rattle.std.specs.Prelude.{◌≡◌, ◌+◌, ◌<◌, ◌≤◌, [], ◌∷◌, ◌++◌, length, map, slice_index, slice_index_or, All, IfOk, OnOk, OnErr};
+ghost use Rattle.fc_column.specs.Rows.{row_at};
 
 use fc_base::WantMemory;
 use std::alloc::Global;
@@ -67,13 +68,23 @@ impl<T: Drop> Rows<T> {
         (self.starts.len() - 1) as u32
     }
 
+    /// The items of a row.
     pub fn row(&self, at: u32) -> &[T]
         requires { at < length self.now.rows }
         ensures { result.now ≡ slice_index_or self.now.rows at [] }
     {
-        let at = at as usize;
-        &self.items[self.starts[at] as usize..self.starts[at + 1] as usize]
+        part(&self.items, &self.starts, at as usize)
     }
+}
+
+// The items from one start up to the next.
+fn part<'a, T>(items: &'a [T], starts: &[u32], at: usize) -> &'a [T]
+    requires more { at + 1 < length starts.now }
+    requires order { slice_index starts.now at ≤ slice_index starts.now (at + 1) }
+    requires within { slice_index starts.now (at + 1) ≤ length items.now }
+    ensures { result.now ≡ row_at starts.now items.now at }
+{
+    &items[starts[at] as usize..starts[at + 1] as usize]
 }
 
 impl Rows<u32> {

@@ -15,6 +15,13 @@ fn text(alloc: Global, text: &str) -> Result<Val, WantMemory>
     Ok(Val::Text(Name::new(alloc, text)?))
 }
 
+// Adds a position with the texts a and c.
+fn push_texts(alloc: Global, builder: &mut TextBuilder) -> Result<(), WantMemory> {
+    let a = Val::Text(Name::new(alloc, "a")?);
+    let c = Val::Text(Name::new(alloc, "c")?);
+    builder.push_doc(&[a, c])
+}
+
 fn push_longs(builder: &mut LongBuilder, low: i64, high: i64) -> Result<(), WantMemory>
     requires { low <ℤ high }
 {
@@ -40,6 +47,21 @@ fn counts_terms(rt: HostRuntime) -> Result<(), Fail> {
     assert_eq!(rt; column.terms(), 2);
     assert_eq!(rt; column.ordinals_of(0), [1].as_slice());
     assert_eq!(rt; column.term(0).text(), "a");
+    Ok(())
+}
+
+#[test]
+fn positions_have_several_texts(rt: HostRuntime) -> Result<(), Fail> {
+    let alloc = rt.alloc();
+    let mut builder = TextBuilder::new(alloc)?;
+    builder.push_doc(&[text(alloc, "b")?])?;
+    push_texts(alloc, &mut builder)?;
+    builder.push_doc(&[])?;
+    let column = builder.finish()?;
+    assert_eq!(rt; column.len(), 3);
+    assert_eq!(rt; column.ordinals_of(0), [1].as_slice());
+    assert_eq!(rt; column.ordinals_of(1), [0, 2].as_slice());
+    assert_eq!(rt; column.ordinals_of(2), [].as_slice());
     Ok(())
 }
 
@@ -75,8 +97,10 @@ fn finds_integers(rt: HostRuntime) -> Result<(), Fail> {
     builder.push_doc(&[])?;
     builder.push_doc(&[Val::Long(i64::MIN)])?;
     push_longs(&mut builder, 0, i64::MAX)?;
+    builder.push_doc(&[Val::Long(-3), Val::Long(-2), Val::Long(-1)])?;
     let column = builder.finish()?;
-    assert_eq!(rt; column.len(), 4);
+    assert_eq!(rt; column.len(), 5);
+    assert_eq!(rt; column.values_of(4), [-3, -2, -1].as_slice());
     assert_eq!(rt; column.values_of(0), [5, 7].as_slice());
     assert_eq!(rt; column.values_of(1), [].as_slice());
     let rows: [(i64, i64, &[u32]); 7] = [
@@ -84,8 +108,8 @@ fn finds_integers(rt: HostRuntime) -> Result<(), Fail> {
         (7, 5, &[]),
         (i64::MIN, i64::MIN, &[2]),
         (i64::MAX, i64::MAX, &[3]),
-        (i64::MIN + 1, i64::MAX - 1, &[0, 3]),
-        (i64::MIN, i64::MAX, &[0, 2, 3]),
+        (i64::MIN + 1, i64::MAX - 1, &[0, 3, 4]),
+        (i64::MIN, i64::MAX, &[0, 2, 3, 4]),
         (i64::MAX, i64::MIN, &[]),
     ];
     for (lo, hi, expected) in rows {

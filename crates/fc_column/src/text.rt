@@ -54,7 +54,7 @@ impl TextColumn {
         &self.terms[ord as usize]
     }
 
-    /// The ordinals of the texts of a position.
+    /// The ordinals of the texts of a position, in ascending order.
     pub fn ordinals_of(&self, doc: u32) -> &[u32]
         requires { doc < length self.now }
         ensures ordinals { result.now ≡ ordinals_in self.now (slice_index_or self.now doc []) }
@@ -64,10 +64,11 @@ impl TextColumn {
         self.ordinals.row(doc)
     }
 
-    /// The ordinal of a text. There is none where no position has the text.
+    /// The ordinal of a text, by its UTF-8 bytes. There is none where no position has the text.
     pub fn ordinal_of(&self, text: &[u8]) -> Option<u32>
         ensures found { is_some result ≡ list_any (has_text text.now) self.now }
         ensures ordinal { IfSome result (λ ord. ord ≡ terms_below self.now text.now) }
+        ensures within { IfSome result (λ ord. ord < length (terms_of self.now)) }
     {
         match self.terms.binary_search_by(|term| term.bytes().cmp(text)) {
             Ok(place) => Some(place as u32),
@@ -75,7 +76,7 @@ impl TextColumn {
         }
     }
 
-    /// How many terms stand below a text.
+    /// How many terms stand below a text, by its UTF-8 bytes.
     pub fn first_from(&self, text: &[u8]) -> u32
         ensures { result ≡ terms_below self.now text.now }
     {
@@ -83,7 +84,7 @@ impl TextColumn {
             .partition_point(|term| term.bytes().cmp(text).is_lt()) as u32
     }
 
-    /// How many terms stand below a text or are the text.
+    /// How many terms stand below a text, by its UTF-8 bytes, or are the text.
     pub fn first_past(&self, text: &[u8]) -> u32
         ensures { result ≡ terms_up_to self.now text.now }
     {

@@ -1,5 +1,5 @@
 -- The bits of a number, the lowest first: how many are 1, and where the lowest is.
-use Rattle.std.proofs.Common.{◌≡◌, ℕ, zero, suc, ◌+◌, ◌-◌, ◌*◌, ◌/◌, ◌%◌, ◌^◌, ◌<◌, ◌≤◌, ◌⊎◌, inl, inr, min, Bool, true, false, cond, ◌==◌, List, [], ◌∷◌, ◌++◌, length, get_or, replicate, count_by, refl, sym, ap, ap₂, ◌∙◌, arith, bit_and, mod-lt, zero-lt-suc, pow-suc, add-zero}
+use Rattle.std.proofs.Common.{◌≡◌, ℕ, zero, suc, ◌+◌, ◌-◌, ◌*◌, ◌/◌, ◌%◌, ◌^◌, ◌<◌, min, Bool, false, cond, ◌==◌, List, [], ◌∷◌, length, get_or, count_by, refl, sym, ap, ap₂, ◌∙◌, arith, bit_and, mod-lt, zero-lt-suc, pow-suc, add-zero}
 use Rattle.std.specs.Int.{bit_at}
 use Rattle.std.specs.Int.Bits.{and_step, and_self}
 use Rattle.std.specs.Int.Count.{ones, ones_step, count_trailing_zeros, under}

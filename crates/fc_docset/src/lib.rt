@@ -1,4 +1,5 @@
-//! Sets of positions below a length, as words of bits.
+//! Sets of positions below a length, as words of bits. A call that takes the allocator can answer want
+//! of memory; nothing else is refused.
 #![tactic(auto)]
 
 mod iter;
@@ -71,7 +72,18 @@ mod tests {
         let alloc = rt.alloc();
         for len in [0, 1, 63, 64, 65, 129] {
             assert!(rt; len <= 192);
+            check(&rt, &DocSet::empty(alloc, len)?, &[]);
+            check(
+                &rt,
+                &DocSet::full(alloc, len)?,
+                &passing(alloc, len, |_| true)?,
+            );
             let even = DocSet::from_mask(alloc, len, &[0x5555_5555_5555_5555; 3])?;
+            check(
+                &rt,
+                &even.copy(alloc)?,
+                &passing(alloc, len, |at| at % 2 == 0)?,
+            );
             check(&rt, &even, &passing(alloc, len, |at| at % 2 == 0)?);
             let mut set = thirds(&rt, alloc, len)?;
             check(&rt, &set, &passing(alloc, len, |at| at % 3 == 0)?);

@@ -32,7 +32,7 @@ impl Model for DocSet {
 }
 
 impl DocSet {
-    /// No position.
+    /// No position below the length.
     pub fn empty(alloc: Global, len: u32) -> Result<DocSet, WantMemory>
         ensures { IfOk result (λ set. set ≡ replicate len false) }
     {
@@ -69,6 +69,7 @@ impl DocSet {
         DocSet { len, words }
     }
 
+    /// Another set of the same positions.
     pub fn copy(&self, alloc: Global) -> Result<DocSet, WantMemory>
         ensures { IfOk result (λ set. set ≡ self.now) }
     {
@@ -102,6 +103,7 @@ impl DocSet {
         and_not_words(&mut self.words, &other.words);
     }
 
+    /// Puts a position into the set.
     pub fn add(&mut self, at: u32)
         requires { at < length self.old }
         ensures { self.new ≡ slice_set self.old at true }
@@ -109,6 +111,7 @@ impl DocSet {
         set_bit(&mut self.words, at);
     }
 
+    /// Whether a position is in the set.
     pub fn contains(&self, at: u32) -> bool
         requires { at < length self.now }
         ensures { result ≡ contains self.now at }

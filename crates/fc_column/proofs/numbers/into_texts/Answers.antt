@@ -1,4 +1,4 @@
-use Rattle.std.proofs.Common.{◌≡◌, subst, sym, ap, ◌∙◌, rules}
+use Rattle.std.proofs.Common.{◌≡◌, subst, sym, rules}
 use Rattle.std.proofs.lemmas.Map.Keys.{Less-from_sorted}
 use Rattle.fc_spec.specs.Val.{text_cmp}
 use Rattle.fc_spec.specs.Columns.{IsAscending}

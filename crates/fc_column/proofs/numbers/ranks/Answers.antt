@@ -1,4 +1,4 @@
-use Rattle.std.proofs.Common.{◌≡◌, ◌≢◌, ◌<◌, length, All, AllPairs, subst, sym, ap, ◌∙◌, rules}
+use Rattle.std.proofs.Common.{◌≡◌, ◌≢◌, ◌<◌, length, All, AllPairs, subst, sym, rules}
 use Rattle.fc_column.proofs.Ranked.{numbers_in, numbers_below, numbers_differ}
 use Rattle.fc_column.proofs.numbers.ranks.Goals as goal
 

@@ -1,7 +1,6 @@
-use Rattle.std.proofs.Common.{◌≡◌, false, [], replicate, length, map, ap, sym, ◌∙◌, arith, rules}
+use Rattle.std.proofs.Common.{◌≡◌, false, [], replicate, length, sym, ◌∙◌, arith, rules}
 use Rattle.std.proofs.lemmas.List.{get_or-map}
-use Rattle.fc_column.specs.Longs.{has_between}
-use Rattle.fc_column.proofs.Marks.{Marked, marked_none, marked_yes, marked_no}
+use Rattle.fc_column.proofs.Marks.{marked_none, marked_yes, marked_no}
 use Rattle.fc_column.proofs.long.LongColumn.between.Goals as goal
 use Rattle.fc_column.proofs.long.LongColumn.between.Goals.{then-has_between, else-has_between}
 

@@ -1,4 +1,4 @@
-use Rattle.std.proofs.Common.{◌≡◌, ◌<◌, ℕ, [], length, get_or, map, refl, sym, ap, ap₂, subst, ◌∙◌, arith, rules}
+use Rattle.std.proofs.Common.{◌<◌, ℕ, length, get_or, map, refl, sym, ap, ap₂, subst, ◌∙◌, arith}
 use Rattle.std.proofs.lemmas.List.{with_items_is}
 use Rattle.fc_column.specs.Rows.{laid_out}
 use Rattle.fc_column.proofs.LaidOut.{items_of_rows, laid_out-map, map_is}

@@ -1,4 +1,4 @@
-use Rattle.std.proofs.Common.{sym, ap, ◌∙◌, arith, length}
+use Rattle.std.proofs.Common.{ap, arith, length}
 use Rattle.fc_column.proofs.LaidOut.{length-rows}
 use Rattle.fc_column.proofs.rows.Rows.len.Goals as goal
 

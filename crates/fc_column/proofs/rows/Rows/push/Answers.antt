@@ -1,6 +1,6 @@
-use Rattle.std.proofs.Common.{◌≡◌, ◌<◌, ◌≤◌, ◌+◌, ℕ, ◌++◌, ◌∷◌, [], length, ap, ◌∙◌, arith, rules}
+use Rattle.std.proofs.Common.{◌++◌, ◌∷◌, [], ap, ◌∙◌, arith}
 use Rattle.fc_column.specs.Rows.{laid_out}
-use Rattle.fc_column.proofs.LaidOut.{laid_out-push, Rise, Within}
+use Rattle.fc_column.proofs.LaidOut.{laid_out-push}
 use Rattle.fc_column.proofs.rows.Rows.push.Goals as goal
 
 pub returns-clause-ok : goal.returns-clause-ok

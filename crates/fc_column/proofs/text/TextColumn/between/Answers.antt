@@ -1,6 +1,6 @@
-use Rattle.std.proofs.Common.{◌≡◌, false, [], replicate, length, map, ap, sym, ◌∙◌, arith, rules}
+use Rattle.std.proofs.Common.{◌≡◌, false, [], replicate, length, sym, ◌∙◌, arith, rules}
 use Rattle.std.proofs.lemmas.List.{get_or-map}
-use Rattle.fc_column.proofs.Marks.{Marked, marked_none, marked_yes, marked_no}
+use Rattle.fc_column.proofs.Marks.{marked_none, marked_yes, marked_no}
 use Rattle.fc_column.proofs.text.TextColumn.between.Goals as goal
 use Rattle.fc_column.proofs.text.TextColumn.between.Goals.{then-has_from_to, else-has_from_to}
 

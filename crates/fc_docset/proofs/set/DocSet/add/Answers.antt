@@ -1,6 +1,5 @@
-use Rattle.std.proofs.Common.{◌≡◌, ◌||◌, ◌==◌, ap, ◌∙◌, arith, length}
+use Rattle.std.proofs.Common.{◌||◌, ◌==◌, ap, ◌∙◌, arith}
 use Rattle.std.proofs.lemmas.List.{with_items_is}
-use Rattle.std.specs.Vec.{with_items}
 use Rattle.fc_spec.specs.Bits.{has_bit, first_bits}
 use Rattle.fc_docset.proofs.BitLists.{length_of, first_bits-add, none_added}
 use Rattle.fc_docset.proofs.set.DocSet.add.Goals as goal

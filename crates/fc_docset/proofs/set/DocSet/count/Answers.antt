@@ -1,4 +1,4 @@
-use Rattle.std.proofs.Common.{◌≡◌, ◌*◌, count_by, length, sym, ap, ◌∙◌, arith}
+use Rattle.std.proofs.Common.{count_by, ap, ◌∙◌, arith}
 use Rattle.std.proofs.lemmas.List.Sums.{count_by-le-length}
 use Rattle.fc_docset.proofs.BitLists.{length_of}
 use Rattle.fc_docset.proofs.WholeWords.{all_bits, count_of_all}

@@ -1,4 +1,4 @@
-use Rattle.std.proofs.Common.{◌≡◌, false, replicate, ap, ◌∙◌, arith, rules, length, vec_len}
+use Rattle.std.proofs.Common.{◌≡◌, false, replicate, ap, ◌∙◌, rules}
 use Rattle.fc_spec.specs.Bits.{has_bit}
 use Rattle.fc_spec.proofs.WordBits.{has_bit_of_zeros}
 use Rattle.fc_docset.proofs.BitLists.{first_bits_all}

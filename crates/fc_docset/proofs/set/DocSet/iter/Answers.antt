@@ -1,4 +1,4 @@
-use Rattle.std.proofs.Common.{◌≡◌, ◌*◌, length, ap, ◌∙◌, arith}
+use Rattle.std.proofs.Common.{ap, ◌∙◌, arith}
 use Rattle.fc_docset.specs.Positions.{positions}
 use Rattle.fc_docset.proofs.WholeWords.{all_bits, positions_of_all}
 use Rattle.fc_docset.proofs.set.DocSet.iter.Goals as goal

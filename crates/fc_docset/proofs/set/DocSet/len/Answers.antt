@@ -1,4 +1,4 @@
-use Rattle.std.proofs.Common.{◌≡◌, ◌+◌, ◌/◌, ◌&&◌, ◌||◌, not, refl, sym, ap, ◌∙◌, arith, length, vec_len}
+use Rattle.std.proofs.Common.{sym, ap, ◌∙◌, length}
 use Rattle.fc_docset.proofs.BitLists.{length-first_bits}
 use Rattle.fc_docset.proofs.set.DocSet.len.Goals as goal
 

@@ -1,4 +1,4 @@
-use Rattle.std.proofs.Common.{◌≡◌, ◌&&◌, nat_lt, true, ap, ◌∙◌, arith, length, lt-ltb}
+use Rattle.std.proofs.Common.{nat_lt, ap, ◌∙◌, arith, lt-ltb}
 use Rattle.std.proofs.lemmas.List.{with_items_is}
 use Rattle.fc_spec.specs.Bits.{has_bit, first_bits}
 use Rattle.fc_spec.proofs.WordBits.{and_right_true}

@@ -1,8 +1,7 @@
-use Rattle.std.proofs.Common.{◌≡◌, ◌&&◌, ◌||◌, not, refl, ap, ap₂, ◌∙◌, arith, length}
+use Rattle.std.proofs.Common.{◌&&◌, not, ap, ap₂, ◌∙◌, arith}
 use Rattle.std.proofs.lemmas.List.{with_items_is}
-use Rattle.std.specs.Vec.{with_items}
 use Rattle.fc_spec.specs.Bits.{has_bit, first_bits}
-use Rattle.fc_docset.proofs.BitLists.{length_of, first_bits-zip_with, none_joined}
+use Rattle.fc_docset.proofs.BitLists.{length_of, first_bits-zip_with}
 use Rattle.fc_docset.proofs.set.DocSet.without.Goals as goal
 
 pub and_not_words-requires : goal.and_not_words-requires
