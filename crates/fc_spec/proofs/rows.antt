@@ -49,3 +49,4 @@ pub mod SeveralWants
 pub mod RefiningInside
 pub mod Blocks
 pub mod Scripts
+pub mod ScriptLimits

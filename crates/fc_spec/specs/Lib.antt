@@ -59,6 +59,8 @@ pub mod ValidBlocks
 pub mod ScriptTotals
 pub mod LineReading
 pub mod ScriptReading
+pub mod ScriptParts
+pub mod ValidScripts
 pub mod Totals
 pub mod Bits
 pub mod Columns

@@ -1,10 +1,11 @@
 -- What a line after the schema says, by itself. Guide: Indexing with Update Handlers; JSON Request API.
-use Rattle.std.specs.Prelude.{ℕ, List, [], ◌∷◌, length, codes, Bool, true, ◌&&◌, nat_le, nat_lt, Option, None, Some, option_and_then, ok_or, Result, Ok, Err, if◌then◌else◌}
+use Rattle.std.specs.Prelude.{ℕ, List, [], ◌∷◌, length, codes, Bool, true, ◌&&◌, nat_le, nat_lt, Option, None, Some, ok_or, Result, Ok, Err, if◌then◌else◌}
 use Rattle.std.specs.List.{list_any}
 use Rattle.serde_json.specs.Data.{Data, object, Members, no_members, member}
-use Rattle.serde_json.specs.Find.{get_member, as_number, as_object, as_str, as_u64}
+use Rattle.serde_json.specs.Find.{get_member, as_object, as_str}
 use Rattle.fc_spec.specs.Val.{Text, same_text}
 use Rattle.fc_spec.specs.Schema.{Schema}
+use Rattle.fc_spec.specs.SchemaReading.{natural_in}
 use Rattle.fc_spec.specs.BlockReading.{block_of}
 use Rattle.fc_spec.specs.ScriptFault.{LineFault, unknown_line, bad_shard, bad_document}
 use Rattle.fc_spec.specs.Script.{Line, add, commit, sync, asks}
@@ -22,7 +23,10 @@ only_names names (member name d ms) = list_any (same_text name) names && only_na
 
 -- a shard's number: a whole number from 0 below the number of shards
 abbrev pub shard_of : Schema → Data → Result ℕ LineFault
-shard_of s d = ok_or (option_and_then (λ n. if nat_lt n s.shards then Some n else None) (option_and_then as_u64 (as_number d))) bad_shard
+shard_of s d = do
+  n ← ok_or (natural_in d) bad_shard
+  _ ← unless (nat_lt n s.shards) bad_shard
+  Ok n
 
 -- the block's shard is 0 where none is named
 abbrev pub added_shard : Schema → Option Data → Result ℕ LineFault
@@ -39,7 +43,10 @@ committed_shard s (Some d) = do
 -- a session is a text of 1 to 64 bytes, and `main` where none is named
 abbrev pub session_of : Option Data → Result Text LineFault
 session_of None = Ok (codes "main")
-session_of (Some d) = ok_or (option_and_then (λ t. if nat_le 1 (length t) && nat_le (length t) 64 then Some t else None) (as_str d)) unknown_line
+session_of (Some d) = do
+  t ← ok_or (as_str d) unknown_line
+  _ ← unless (nat_le 1 (length t) && nat_le (length t) 64) unknown_line
+  Ok t
 
 -- `{"add":{"doc":D,"shard":N}}`
 abbrev pub add_of : Schema → Members → Result (Line Data) LineFault

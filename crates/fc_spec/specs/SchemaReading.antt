@@ -56,9 +56,13 @@ without_id (f ∷ fs) = if same_text f.name (codes "id") then without_id fs else
 abbrev pub with_id : List Field → Option (List Field)
 with_id fs = if nat_le (length (without_id fs) + 1) 256 then Some (record { name = codes "id"; kind = string } ∷ without_id fs) else None
 
+-- a whole number that is not negative
+abbrev pub natural_in : Data → Option ℕ
+natural_in d = option_and_then as_u64 (as_number d)
+
 -- a whole number from 1 to 64
 abbrev pub shards_of : Data → Option ℕ
-shards_of d = option_and_then (λ n. if nat_le 1 n && nat_le n 64 then Some n else None) (option_and_then as_u64 (as_number d))
+shards_of d = option_and_then (λ n. if nat_le 1 n && nat_le n 64 then Some n else None) (natural_in d)
 
 abbrev pub member_count : Members → ℕ
 member_count no_members = 0

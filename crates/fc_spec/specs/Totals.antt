@@ -15,6 +15,10 @@ documents_in blocks = flat_map documents_of blocks
 abbrev pub document_total : List Block → ℕ
 document_total blocks = length (documents_in blocks)
 
--- the number of values in the fields of their documents
+-- the number of values in the fields of documents
+abbrev pub value_count : List Document → ℕ
+value_count ds = sum_by (λ d. sum_by (λ vs. length vs) d) ds
+
+-- and in those of blocks
 abbrev pub value_total : List Block → ℕ
-value_total blocks = sum_by (λ d. sum_by (λ vs. length vs) d) (documents_in blocks)
+value_total blocks = value_count (documents_in blocks)

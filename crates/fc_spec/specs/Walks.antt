@@ -2,7 +2,7 @@
 use Rattle.std.specs.Prelude.{List, [], ◌∷◌, Bool, true, false, Result, Ok, Err}
 
 infixl 10 ◌>>=◌
--- what follows from a value, unless there was a fault
+-- what follows goes on with the value; the first fault ends the walk
 abbrev pub ◌>>=◌ : {A B E : Type 0} → Result A E → (A → Result B E) → Result B E
 (Ok a) >>= next = next a
 (Err e) >>= next = Err e
@@ -12,7 +12,7 @@ abbrev pub unless : {E : Type 0} → Bool → E → Result (Unit {0}) E
 unless true e = Ok tt
 unless false e = Err e
 
--- the same, with the fault seen as another
+-- an answer, with its fault seen as another
 abbrev pub with_fault : {A E F : Type 0} → (E → F) → Result A E → Result A F
 with_fault see (Ok a) = Ok a
 with_fault see (Err e) = Err (see e)

@@ -1,15 +1,15 @@
 -- Scripts as bytes spell them, and the first fault of others.
-use Rattle.std.specs.Prelude.{◌≡◌, refl, negsuc, pos, ℕ, List, [], ◌∷◌, ◌++◌, codes, None, Some, Ok, Err}
+use Rattle.std.specs.Prelude.{◌≡◌, refl, negsuc, pos, ℕ, List, [], ◌∷◌, ◌++◌, codes, replicate, None, Some, Ok, Err}
 use Rattle.std.specs.Str.{is_utf8, chars}
-use Rattle.serde_json.specs.Data.{object, no_members}
+use Rattle.serde_json.specs.Data.{object, number, unsigned, no_members}
 use Rattle.fc_spec.specs.Val.{Text, long}
 use Rattle.fc_spec.specs.Schema.{string}
 use Rattle.fc_spec.specs.Script.{add, commit, sync, asks}
 use Rattle.fc_spec.specs.DocFault.{no_id, wrong_type, unknown_field}
 use Rattle.fc_spec.specs.ScriptFault.{LineFault, not_json, no_schema, unknown_line, bad_schema, bad_shard, bad_document, duplicate_id, field_total, too_many_documents}
 use Rattle.fc_spec.specs.Document.{Document}
-use Rattle.fc_spec.specs.ScriptTotals.{script_limits, absolute_total}
-use Rattle.fc_spec.specs.ScriptReading.{script_of}
+use Rattle.fc_spec.specs.ScriptTotals.{absolute_total}
+use Rattle.fc_spec.specs.ScriptReading.{script_of, script}
 use Rattle.fc_spec.proofs.rows.Words.{written, said}
 
 -- lines, each with its LF
@@ -18,7 +18,7 @@ lines [] = []
 lines (l ∷ ls) = l ++ 10 ∷ lines ls
 
 abbrev has_fault : Text → ℕ → LineFault → Type 0
-has_fault bytes n e = script_of script_limits bytes ≡ Err (record { line = n; fault = e })
+has_fault bytes n e = script bytes ≡ Err (record { line = n; fault = e })
 
 -- one shard, and a field of integers
 abbrev one : Text
@@ -53,9 +53,9 @@ pub no_text_of_json : has_fault (lines (codes "{" ∷ [])) 1 not_json
 unfolding written is_utf8 chars
 no_text_of_json = refl
 
-pub json_before_schema : has_fault (lines (one ∷ codes "{]" ∷ codes "x" ∷ [])) 2 not_json
+pub earlier_line_first : has_fault (lines (one ∷ codes "{]" ∷ codes "x" ∷ [])) 2 not_json
 unfolding written is_utf8 chars
-json_before_schema = refl
+earlier_line_first = refl
 
 pub schema_without_fields : has_fault (lines (codes "{\"schema\":{\"shards\":1}}" ∷ [])) 1 bad_schema
 unfolding written is_utf8 chars
@@ -138,7 +138,7 @@ pub shard_with_a_point : has_fault (lines (two ∷ codes "{\"commit\":{\"shard\"
 unfolding written is_utf8 chars
 shard_with_a_point = refl
 
--- ---- the shard is tested before the document
+-- ---- a shard is tested before the document, and null is none
 pub shard_null : has_fault (lines (two ∷ codes "{\"add\":{\"doc\":{},\"shard\":null}}" ∷ [])) 2 bad_shard
 unfolding written is_utf8 chars
 shard_null = refl
@@ -185,7 +185,7 @@ unfolding written is_utf8 chars
 id_before_sum = refl
 
 -- ---- what is taken, and where the last line needs no LF
-pub shards_and_sessions : script_of script_limits (lines (two ∷ codes "{\"add\":{\"shard\":1,\"doc\":{\"id\":\"a\"}}}" ∷ codes "{\"add\":{\"doc\":{\"id\":\"b\"}}}" ∷ codes "\r" ∷ codes "{\"commit\":{\"shard\":1}}" ∷ codes "{\"commit\":{}}" ∷ codes "{\"sync\":{}}" ∷ []) ++ codes "{\"search\":{\"request\":{}}}")
+pub shards_and_sessions : script (lines (two ∷ codes "{\"add\":{\"shard\":1,\"doc\":{\"id\":\"a\"}}}" ∷ codes "{\"add\":{\"doc\":{\"id\":\"b\"}}}" ∷ codes "\r" ∷ codes "{\"commit\":{\"shard\":1}}" ∷ codes "{\"commit\":{}}" ∷ codes "{\"sync\":{}}" ∷ []) ++ codes "{\"search\":{\"request\":{}}}")
     ≡ Ok (record {
       schema = record { shards = 2; fields = record { name = codes "id"; kind = string } ∷ [] };
       lines = add 1 (record { children = []; parent = said "a" ∷ [] }) ∷ add 0 (record { children = []; parent = said "b" ∷ [] }) ∷ commit (Some 1) ∷ commit None ∷ sync ∷ asks (codes "main") (object no_members) ∷ [];
@@ -194,7 +194,7 @@ unfolding written is_utf8 chars
 shards_and_sessions = refl
 
 -- ---- a schema alone is a script
-pub schema_alone : script_of script_limits two ≡ Ok (record { schema = record { shards = 2; fields = record { name = codes "id"; kind = string } ∷ [] }; lines = [] })
+pub schema_alone : script two ≡ Ok (record { schema = record { shards = 2; fields = record { name = codes "id"; kind = string } ∷ [] }; lines = [] })
 unfolding written is_utf8 chars
 schema_alone = refl
 
@@ -217,3 +217,24 @@ sum_of_a_field = refl
 
 pub no_sum_of_texts : absolute_total documents 0 ≡ 0
 no_sum_of_texts = refl
+
+-- ---- a sum before the number of documents
+pub sum_before_number : script_of (record { documents = 0; values = 9 }) (lines (one ∷ codes "{\"add\":{\"doc\":{\"id\":\"a\",\"n\":[1,9223372036854775807]}}}" ∷ [])) ≡ Err (record { line = 2; fault = field_total })
+unfolding written is_utf8 chars
+sum_before_number = refl
+
+-- ---- the last member of a name counts
+pub second_shard_counts : has_fault (lines (two ∷ codes "{\"commit\":{\"shard\":0,\"shard\":2}}" ∷ [])) 2 bad_shard
+unfolding written is_utf8 chars
+second_shard_counts = refl
+
+-- ---- bytes that are no text
+pub no_text_at_all : has_fault (lines (two ∷ (123 ∷ 255 ∷ 125 ∷ []) ∷ [])) 2 not_json
+unfolding written is_utf8 chars
+no_text_at_all = refl
+
+-- ---- a session of 64 bytes
+pub longest_session : script (lines (two ∷ codes "{\"search\":{\"request\":7,\"session\":\"ssssssssssssssssssssssssssssssssssssssssssssssssssssssssssssssss\"}}" ∷ []))
+    ≡ Ok (record { schema = record { shards = 2; fields = record { name = codes "id"; kind = string } ∷ [] }; lines = asks (replicate 64 115) (number (unsigned 7)) ∷ [] })
+unfolding written is_utf8 chars
+longest_session = refl
