@@ -2,8 +2,9 @@
 use Rattle.std.proofs.Common.{◌≡◌, ◌≤◌, List, [], ◌∷◌, ◌++◌, length, map, Bool, true, false, Option, Some, None, option_map, option_and_then, if◌then◌else◌, sym, subst, refl, append_assoc}
 use Rattle.std.specs.Prelude.{codes}
 use Rattle.std.specs.declared.cmp.Ordering.TheVariants.{Less}
-use Rattle.std.specs.List.{AllByRecursion, list_any}
+use Rattle.std.specs.List.{All, AllByRecursion, list_any}
 use Rattle.std.specs.List.Sorted.{IsStrictlySortedBy}
+use Rattle.std.proofs.lemmas.List.Elements.{All-nil, All-cons, All-head, All-tail}
 use Rattle.serde_json.specs.Data.{Data, Members, no_members, member}
 use Rattle.fc_spec.specs.Val.{Text, same_text, text_cmp}
 use Rattle.fc_spec.specs.Schema.{Field, FieldType}
@@ -57,6 +58,33 @@ names_are_keys (member name d ms) fs is = go (field_of name d) (fields_of ms) re
         let all : f ∷ gs ≡ fs = cc in
         rw (← all, front, behind) refl
 
+-- ---- each has a field's name
+abbrev IsNamed : Field → Type 0
+IsNamed f = is_field_name f.name ≡ true
+
+good_name : (name : Text) (d : Data) (f : Field) → field_of name d ≡ Some f → IsNamed f
+good_name name d f is = go (is_field_name name) refl (option_and_then (type_for name) (type_of d)) is
+  where
+    go : (b : Bool) → is_field_name name ≡ b → (kind : Option FieldType) → (if b then option_map (λ k. record { name = name; kind = k }) kind else None) ≡ Some f → IsNamed f
+    go true good (Some k) is = let same : name ≡ f.name = cc in rw (← same) good
+    go true good None is = cc
+    go false good kind is = cc
+
+good_names : (ms : Members) (fs : List Field) → fields_of ms ≡ Some fs → All IsNamed fs
+good_names no_members fs is = let none : [] ≡ fs = cc in rw (← none) (All-nil IsNamed)
+good_names (member name d ms) fs is = go (field_of name d) (fields_of ms) refl refl is (good_names ms)
+  where
+    go : (first : Option Field) (others : Option (List Field)) → field_of name d ≡ first → fields_of ms ≡ others → option_and_then (λ f. option_map (λ gs. f ∷ gs) others) first ≡ Some fs → ((gs : List Field) → fields_of ms ≡ Some gs → All IsNamed gs) → All IsNamed fs
+    go None others first_is others_are is names = cc
+    go (Some f) None first_is others_are is names = cc
+    go (Some f) (Some gs) first_is others_are is names = let all : f ∷ gs ≡ fs = cc in rw (← all) (All-cons IsNamed f gs (good_name name d f first_is) (names gs others_are))
+
+still_named : (fs : List Field) → All IsNamed fs → All IsNamed (without_id fs)
+still_named [] names = names
+still_named (f ∷ fs) names =
+    elim (same_text f.name (codes "id")) as (λ b. All IsNamed (if b then without_id fs else f ∷ without_id fs))
+    [ true ↦ still_named fs (All-tail IsNamed f fs names) | false ↦ All-cons IsNamed f (without_id fs) (All-head IsNamed f fs names) (still_named fs (All-tail IsNamed f fs names)) ]
+
 all_kept : (P : Text → Type 0) (fs : List Field) → AllByRecursion P (map (λ f. f.name) fs) → AllByRecursion P (map (λ f. f.name) (without_id fs))
 all_kept P [] all = all
 all_kept P (f ∷ fs) all =
@@ -86,4 +114,4 @@ is_field_list ms done ascend is few = go (fields_of ms) refl is
     go (Some fs) found_is is =
         let all : id_field ∷ without_id fs ≡ done = cc in
         let sorted : IsStrictlySortedBy text_cmp (map (λ f. f.name) fs) = rw (names_are_keys ms fs found_is) ascend in
-        rw (← all) (record { id_first = refl; id_once = none_is_id fs; ascend = still_ascend fs sorted; few = subst (λ (xs : List Field). length xs ≤ 256) (sym all) few })
+        rw (← all) (record { names = All-cons IsNamed id_field (without_id fs) refl (still_named fs (good_names ms fs found_is)); id_first = refl; id_once = none_is_id fs; ascend = still_ascend fs sorted; few = subst (λ (xs : List Field). length xs ≤ 256) (sym all) few })
