@@ -1,4 +1,9 @@
+pub mod DifferentValues
 pub mod FieldLists
-pub mod ValueCounts
+pub mod Items
+pub mod MemberFields
+pub mod MemberValues
 pub mod ReadSoFar
+pub mod Refused
+pub mod ValueCounts
 pub mod WholeDocument

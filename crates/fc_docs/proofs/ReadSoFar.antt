@@ -1,50 +1,81 @@
 -- A document that was read member by member, as far as the rest of the members.
-use Rattle.std.proofs.Common.{◌≡◌, ℕ, ◌<◌, ◌≤◌, List, [], ◌∷◌, ◌++◌, length, set, replicate, Bool, true, false, Option, Some, None, option_map, unwrap_or, Ok, Err, slice_get, arith, sym, ◌∙◌, refl, inl, inr, nat_le, if◌then◌else◌, subst, String, Global, string_bytes}
-use Rattle.std.specs.List.{AllByRecursion}
+use Rattle.std.proofs.Common.{◌≡◌, ℕ, ◌<◌, List, [], ◌∷◌, length, set, replicate, Bool, true, false, not, ◌&&◌, nat_le, Option, Some, None, option_map, unwrap_or, Ok, slice_get, slice_index, arith, sym, ◌∙◌, refl, inl, inr, subst, String, Global, string_bytes}
+use Rattle.std.specs.List.{AllByRecursion, list_all}
 use Rattle.std.specs.List.Sorted.{IsStrictlySortedBy}
 use Rattle.std.specs.Ordering.{match_ordering}
+use Rattle.std.specs.Result.{result_unwrap_or}
 use Rattle.std.specs.declared.cmp.Ordering.{Ordering}
 use Rattle.std.specs.declared.cmp.Ordering.TheVariants.{Less, Equal, Greater}
 use Rattle.std.specs.Cmp.Lexicographic.{nat_list_cmp_total}
 use Rattle.std.proofs.lemmas.Bool.{cases_lt, cases_eq}
 use Rattle.std.proofs.lemmas.Cmp.{tied_itself}
-use Rattle.std.proofs.lemmas.List.{length-append, get_or_past, get_or-replicate, get_or-set_same, get_or-set_other, length-replicate, length-set}
+use Rattle.std.proofs.lemmas.List.{get_or_past, get_or-replicate, get_or-set_same, get_or-set_other, length-replicate, length-set}
+use Rattle.std.proofs.lemmas.List.Elements.{All-nil}
 use Rattle.std.proofs.lemmas.List.Quantifiers.{position-Some}
 use Rattle.std.proofs.lemmas.Map.Keys.{sorted_head, sorted_tail}
 use Rattle.std.proofs.lemmas.Map.Lookups.{exact_bytes}
-use Rattle.std.proofs.lemmas.Option.{get_or_from_slice_get}
-use Rattle.serde_json.specs.Data.{Data, null, boolean, number, string, array, object, Members, no_members, member}
+use Rattle.std.proofs.lemmas.Option.{get_or_from_slice_get, slice_get_within}
+use Rattle.serde_json.specs.Data.{Data, Members, no_members, member}
 use Rattle.serde_json.specs.View.{view, members_view}
 use Rattle.serde_json.specs.declared.value.Value.{Value}
 use Rattle.serde_json.specs.Find.{get_member}
-use Rattle.fc_spec.specs.Val.{Text, text_cmp, same_text, Val, text}
+use Rattle.fc_spec.specs.Val.{Text, text_cmp, same_text, Val}
 use Rattle.fc_spec.specs.Document.{Document, values_of}
-use Rattle.fc_spec.specs.DocFault.{long_term}
-use Rattle.fc_spec.specs.Schema.{Field, Schema, field_named}
-use Rattle.fc_spec.specs.FirstForm.{first_value_of, members_fault, text_value, field_values}
+use Rattle.fc_spec.specs.Schema.{Field, FieldType, string, strings, plong, plongs, Schema, field_named}
+use Rattle.fc_spec.specs.SchemaReading.{is_digit, is_field_name, is_name_byte, is_underscored}
+use Rattle.fc_spec.specs.BlockReading.{Role, check_members, takes, values_for}
+use Rattle.fc_spec.specs.ValidBlocks.{AreValuesOf, is_value_of}
 use Rattle.fc_base.specs.ValidSchema.{id_field, IsFieldList}
 use Rattle.fc_base.proofs.Members.{member_keys}
 use Rattle.fc_base.proofs.NamesDiffer.{only_one}
 use Rattle.fc_base.proofs.Texts.{equal}
+use Rattle.fc_docs.specs.Members.{field_given}
+use Rattle.fc_docs.proofs.MemberFields.{gives_nothing, gives_values}
 
-pub record ReadSoFar (s : Schema) (all : Members) (d : Document) (rest : Members) : Type 0 where
-  pub faults : members_fault s all ≡ members_fault s rest
+-- the values that the member of a field's name gives, where there is one
+abbrev pub values_in : FieldType → Option Data → List Val
+values_in kind found = unwrap_or (option_map (λ d. result_unwrap_or (values_for kind d) []) found) []
+
+-- the member of a field's name among all, and among those that are left: where none is left, its values were read
+abbrev pub IsRead : FieldType → Option Data → Option Data → List Val → Type 0
+IsRead kind all None vs = vs ≡ values_in kind all
+IsRead kind all (Some d) vs = (vs ≡ []) × (all ≡ Some d)
+
+pub record ReadSoFar (role : Role) (s : Schema) (all : Members) (d : Document) (rest : Members) : Type 0 where
+  pub faults : check_members role s all ≡ check_members role s rest
   pub lists : length d ≡ length s.fields
-  pub parts : (k : ℕ) (f : Field) → slice_get s.fields k ≡ Some f → field_values all f ≡ values_of d k ++ field_values rest f
+  pub parts : (k : ℕ) (f : Field) → slice_get s.fields k ≡ Some f → IsRead f.kind (get_member f.name all) (get_member f.name rest) (values_of d k)
+  pub valid : (k : ℕ) (f : Field) → slice_get s.fields k ≡ Some f → AreValuesOf f.kind (values_of d k)
   pub ascend : IsStrictlySortedBy text_cmp (member_keys rest)
 
+-- ---- before the first member
 none_of_empty : (n k : ℕ) → values_of (replicate n []) k ≡ []
 none_of_empty n k = elim (cases_lt k n) [ inl below ↦ get_or-replicate n k [] [] below | inr past ↦ get_or_past (replicate n []) k [] (rw (length-replicate {A = List Val} n []) past) ]
 
-pub nothing_read : (s : Schema) (all : Members) (n : ℕ) → n ≡ length s.fields → IsStrictlySortedBy text_cmp (member_keys all) → ReadSoFar s all (replicate n []) all
-nothing_read s all n count ascend =
-    record { faults = refl; lists = length-replicate n [] ∙ count; parts = λ k f at. rw (none_of_empty n k) refl; ascend = ascend }
+nothing_yet : (kind : FieldType) (found : Option Data) → IsRead kind found found []
+nothing_yet kind None = refl
+nothing_yet kind (Some d) = (refl, refl)
 
--- ---- the members' faults
-good_member : (s : Schema) (key : Text) (v : Data) (rest : Members) (j : ℕ) (t : Text) → field_named s key ≡ Some j → first_value_of v ≡ Ok t → members_fault s (member key v rest) ≡ members_fault s rest
-good_member s key v rest j t named good = rw (named, good) refl
+takes_none : (kind : FieldType) → takes kind 0 ≡ true
+takes_none string = refl
+takes_none strings = refl
+takes_none plong = refl
+takes_none plongs = refl
 
--- ---- the members' values
+no_values : (kind : FieldType) → AreValuesOf kind []
+no_values kind = record { of_type = All-nil (λ v. is_value_of kind v ≡ true); ascending = λ i j d before within. absurd (omega arith); few = takes_none kind }
+
+pub nothing_read : (role : Role) (s : Schema) (all : Members) (n : ℕ) → n ≡ length s.fields → IsStrictlySortedBy text_cmp (member_keys all) → ReadSoFar role s all (replicate n []) all
+nothing_read role s all n count ascend =
+    record {
+      faults = refl;
+      lists = length-replicate n [] ∙ count;
+      parts = λ k f at. subst (IsRead f.kind (get_member f.name all) (get_member f.name all)) (sym (none_of_empty n k)) (nothing_yet f.kind (get_member f.name all));
+      valid = λ k f at. subst (AreValuesOf f.kind) (sym (none_of_empty n k)) (no_values f.kind);
+      ascend = ascend;
+    }
+
+-- ---- a member of another name, and one of this name
 no_member_below : (name : Text) (ms : Members) → AllByRecursion (λ k. text_cmp name k ≡ Less) (member_keys ms) → get_member name ms ≡ None
 no_member_below name no_members below = refl
 no_member_below name (member key v ms) below = rw (below.0) (no_member_below name ms below.1)
@@ -57,77 +88,85 @@ other_member name key v ms other = go (text_cmp name key) refl
     go Equal is = absurd (other (exact_bytes name key is))
     go Greater is = refl
 
-pub value_is : (v : Data) (t : Text) → first_value_of v ≡ Ok t → text_value v ≡ text t ∷ []
-value_is (string u) t good = go (nat_le (length u) 32766) good
-  where
-    go : (short : Bool) → (if short then Ok u else Err long_term) ≡ Ok t → text u ∷ [] ≡ text t ∷ []
-    go true is = cc
-    go false is = cc
-value_is null t good = cc
-value_is (boolean b) t good = cc
-value_is (number n) t good = cc
-value_is (array items) t good = cc
-value_is (object ms) t good = cc
+other_field : (role : Role) (s : Schema) (all : Members) (d : Document) (key : Text) (v : Data) (rest : Members) (k : ℕ) (f : Field) → ReadSoFar role s all d (member key v rest) → slice_get s.fields k ≡ Some f → (f.name ≡ key → ⊥) → IsRead f.kind (get_member f.name all) (get_member f.name rest) (values_of d k)
+other_field role s all d key v rest k f so_far at other =
+    subst (λ (left : Option Data). IsRead f.kind (get_member f.name all) left (values_of d k)) (other_member f.name key v rest other) (so_far.parts k f at)
 
-one_text : (v : Data) → length (text_value v) ≤ 1
-one_text (string u) = omega arith
-one_text null = omega arith
-one_text (boolean b) = omega arith
-one_text (number n) = omega arith
-one_text (array items) = omega arith
-one_text (object ms) = omega arith
-
-at_most_one : (ms : Members) (f : Field) → length (field_values ms f) ≤ 1
-at_most_one ms f = go (get_member f.name ms)
-  where
-    go : (found : Option Data) → length (unwrap_or (option_map text_value found) []) ≤ 1
-    go None = omega arith
-    go (Some v) = one_text v
-
-none_before_one : (xs : List Val) (v : Val) → length (xs ++ v ∷ []) ≤ 1 → xs ≡ []
-none_before_one [] v few = refl
-none_before_one (x ∷ xs) v few = absurd (omega (arith, length-append xs (v ∷ [])))
-
--- ---- one member more
-this_field : (s : Schema) (all : Members) (d : Document) (key : Text) (v : Data) (rest : Members) (k : ℕ) (f : Field) (t : Text) → ReadSoFar s all d (member key v rest) → slice_get s.fields k ≡ Some f → f.name ≡ key → first_value_of v ≡ Ok t → field_values all f ≡ (text t ∷ []) ++ field_values rest f
-this_field s all d key v rest k f t so_far at is good =
+this_field : (role : Role) (s : Schema) (all : Members) (d : Document) (key : Text) (v : Data) (rest : Members) (k : ℕ) (f : Field) (vs : List Val) → ReadSoFar role s all d (member key v rest) → slice_get s.fields k ≡ Some f → f.name ≡ key → values_for f.kind v ≡ Ok vs → IsRead f.kind (get_member f.name all) (get_member f.name rest) vs
+this_field role s all d key v rest k f vs so_far at is good =
     let here : get_member f.name (member key v rest) ≡ Some v = rw (is, tied_itself nat_list_cmp_total key) refl in
-    let whole : field_values all f ≡ values_of d k ++ text t ∷ [] = so_far.parts k f at ∙ rw (here, value_is v t good) refl in
-    let before : values_of d k ≡ [] = none_before_one (values_of d k) (text t) (rw (← whole) (at_most_one all f)) in
+    let read : IsRead f.kind (get_member f.name all) (Some v) (values_of d k) = subst (λ (left : Option Data). IsRead f.kind (get_member f.name all) left (values_of d k)) here (so_far.parts k f at) in
     let behind : get_member f.name rest ≡ None = rw is (no_member_below key rest (sorted_head text_cmp key (member_keys rest) so_far.ascend)) in
-    whole ∙ rw (before, behind) refl
+    let whole : vs ≡ values_in f.kind (get_member f.name all) = rw (read.1, good) refl in
+    subst (λ (left : Option Data). IsRead f.kind (get_member f.name all) left vs) (sym behind) whole
 
-other_field : (s : Schema) (all : Members) (d : Document) (key : Text) (v : Data) (rest : Members) (k : ℕ) (f : Field) → ReadSoFar s all d (member key v rest) → slice_get s.fields k ≡ Some f → (f.name ≡ key → ⊥) → field_values all f ≡ values_of d k ++ field_values rest f
-other_field s all d key v rest k f so_far at other = so_far.parts k f at ∙ rw (other_member f.name key v rest other) refl
-
+-- ---- a member of a field
 name_of_found : (s : Schema) (key : Text) (j : ℕ) (f : Field) → field_named s key ≡ Some j → slice_get s.fields j ≡ Some f → f.name ≡ key
 name_of_found s key j f named at =
     let found = position-Some (λ (g : Field). same_text key g.name) s.fields j f named in
     sym (equal key f.name (rw (get_or_from_slice_get s.fields j f f at) at found.1))
 
-pub one_more : (s : Schema) (all : Members) (d : Document) (key : Text) (v : Data) (rest : Members) (j : ℕ) (t : Text) → ReadSoFar s all d (member key v rest) → IsFieldList s.fields → field_named s key ≡ Some j → first_value_of v ≡ Ok t → ReadSoFar s all (set d j (text t ∷ [])) rest
-one_more s all d key v rest j t so_far list named good =
-    let below : j < length d = rw (so_far.lists) (position-Some (λ (g : Field). same_text key g.name) s.fields j id_field named).0 in
+kind_of_found : (s : Schema) (j : ℕ) (f : Field) (kind : FieldType) → slice_get s.fields j ≡ Some f → option_map (λ g. g.kind) (slice_get s.fields j) ≡ Some kind → f.kind ≡ kind
+kind_of_found s j f kind at typed = let both : Some f.kind ≡ Some kind = rw at at typed in cc
+
+pub one_more : (role : Role) (s : Schema) (all : Members) (d : Document) (key : Text) (v : Data) (rest : Members) (j : ℕ) (kind : FieldType) (vs : List Val) → ReadSoFar role s all d (member key v rest) → IsFieldList s.fields → field_given role s key v ≡ Ok (Some j) → option_map (λ f. f.kind) (slice_get s.fields j) ≡ Some kind → values_for kind v ≡ Ok vs → AreValuesOf kind vs → ReadSoFar role s all (set d j vs) rest
+one_more role s all d key v rest j kind vs so_far list given typed good are =
+    let named = gives_values role s key v j kind given typed in
+    let below : j < length d = rw (so_far.lists) (position-Some (λ (g : Field). same_text key g.name) s.fields j id_field named.0).0 in
     record {
-      faults = so_far.faults ∙ good_member s key v rest j t named good;
-      lists = length-set d j (text t ∷ []) ∙ so_far.lists;
-      parts = λ k f at. elim (cases_eq k j) [ inl same ↦ here k f at same below | inr other ↦ there k f at other ];
+      faults = so_far.faults ∙ rw (named.1, good) refl;
+      lists = length-set d j vs ∙ so_far.lists;
+      parts = λ k f at. elim (cases_eq k j) [ inl same ↦ here k f at same below named.0 | inr other ↦ there k f at other named.0 ];
+      valid = λ k f at. elim (cases_eq k j) [ inl same ↦ here_valid k f at same below | inr other ↦ subst (AreValuesOf f.kind) (sym (get_or-set_other d j k vs [] other)) (so_far.valid k f at) ];
       ascend = sorted_tail text_cmp key (member_keys rest) so_far.ascend;
     }
   where
-    here : (k : ℕ) (f : Field) → slice_get s.fields k ≡ Some f → k ≡ j → j < length d → field_values all f ≡ values_of (set d j (text t ∷ [])) k ++ field_values rest f
-    here k f at same below =
-        let name = name_of_found s key j f named (rw same at at) in
-        rw (same, get_or-set_same d j (text t ∷ []) [] below) (this_field s all d key v rest k f t so_far at name good)
+    set_here : (k : ℕ) → k ≡ j → j < length d → values_of (set d j vs) k ≡ vs
+    set_here k same below = rw same (get_or-set_same d j vs [] below)
 
-    there : (k : ℕ) (f : Field) → slice_get s.fields k ≡ Some f → (k ≡ j → ⊥) → field_values all f ≡ values_of (set d j (text t ∷ [])) k ++ field_values rest f
-    there k f at other =
-        rw (get_or-set_other d j k (text t ∷ []) [] other) (other_field s all d key v rest k f so_far at (λ is. other (only_one s.fields key j k f list named at is)))
+    here : (k : ℕ) (f : Field) → slice_get s.fields k ≡ Some f → k ≡ j → j < length d → field_named s key ≡ Some j → IsRead f.kind (get_member f.name all) (get_member f.name rest) (values_of (set d j vs) k)
+    here k f at same below named =
+        let at_j : slice_get s.fields j ≡ Some f = rw same at at in
+        let of_kind : values_for f.kind v ≡ Ok vs = rw (kind_of_found s j f kind at_j typed) good in
+        subst (IsRead f.kind (get_member f.name all) (get_member f.name rest)) (sym (set_here k same below)) (this_field role s all d key v rest k f vs so_far at (name_of_found s key j f named at_j) of_kind)
 
--- at the last turn of a loop over the members
-pub none_left : (s : Schema) (all : Members) (d : Document) (es : List (String Global × Value)) → ReadSoFar s all d (members_view es) → es ≡ [] → ReadSoFar s all d no_members
-none_left s all d es so_far is = subst (λ (fs : List (String Global × Value)). ReadSoFar s all d (members_view fs)) is so_far
+    there : (k : ℕ) (f : Field) → slice_get s.fields k ≡ Some f → (k ≡ j → ⊥) → field_named s key ≡ Some j → IsRead f.kind (get_member f.name all) (get_member f.name rest) (values_of (set d j vs) k)
+    there k f at other named =
+        subst (IsRead f.kind (get_member f.name all) (get_member f.name rest)) (sym (get_or-set_other d j k vs [] other)) (other_field role s all d key v rest k f so_far at (λ is. other (only_one s.fields key j k f list named at is)))
 
--- at another turn
-pub one_left : (s : Schema) (all : Members) (d : Document) (es fs : List (String Global × Value)) (e : String Global × Value) → ReadSoFar s all d (members_view es) → es ≡ e ∷ fs → ReadSoFar s all d (member (string_bytes e.0) (view e.1) (members_view fs))
-one_left s all d es fs e so_far is = subst (λ (gs : List (String Global × Value)). ReadSoFar s all d (members_view gs)) is so_far
+    here_valid : (k : ℕ) (f : Field) → slice_get s.fields k ≡ Some f → k ≡ j → j < length d → AreValuesOf f.kind (values_of (set d j vs) k)
+    here_valid k f at same below = let at_j : slice_get s.fields j ≡ Some f = rw same at at in rw (set_here k same below, kind_of_found s j f kind at_j typed) are
+
+-- ---- a member that gives nothing
+last_fails : (a b c d : Bool) → (a && b && c && d && false) ≡ true → ⊥
+last_fails true true true true h = cc
+last_fails true true true false h = cc
+last_fails true true false d h = cc
+last_fails true false c d h = cc
+last_fails false b c d h = cc
+
+no_name : (t : Text) → is_field_name t ≡ true → is_underscored t ≡ true → ⊥
+no_name t good over =
+    let failing = rw over at good in
+    last_fails (nat_le 1 (length t)) (nat_le (length t) 64) (list_all is_name_byte t) (not (is_digit (slice_index t 0))) failing
+
+pub one_silent : (role : Role) (s : Schema) (all : Members) (d : Document) (key : Text) (v : Data) (rest : Members) → ReadSoFar role s all d (member key v rest) → IsFieldList s.fields → field_given role s key v ≡ Ok None → ReadSoFar role s all d rest
+one_silent role s all d key v rest so_far list given =
+    let nothing = gives_nothing role s key v given in
+    record {
+      faults = so_far.faults ∙ rw nothing.0 refl;
+      lists = so_far.lists;
+      parts = λ k f at. other_field role s all d key v rest k f so_far at (λ is. no_name key (named k f at is) nothing.1);
+      valid = so_far.valid;
+      ascend = sorted_tail text_cmp key (member_keys rest) so_far.ascend;
+    }
+  where
+    named : (k : ℕ) (f : Field) → slice_get s.fields k ≡ Some f → f.name ≡ key → is_field_name key ≡ true
+    named k f at is = rw (← is) (rw (get_or_from_slice_get s.fields k f f at) at (list.names k f (slice_get_within s.fields k f at)))
+
+-- ---- at a turn of a loop over the members
+pub none_left : (role : Role) (s : Schema) (all : Members) (d : Document) (es : List (String Global × Value)) → ReadSoFar role s all d (members_view es) → es ≡ [] → ReadSoFar role s all d no_members
+none_left role s all d es so_far is = subst (λ (fs : List (String Global × Value)). ReadSoFar role s all d (members_view fs)) is so_far
+
+pub one_left : (role : Role) (s : Schema) (all : Members) (d : Document) (es fs : List (String Global × Value)) (e : String Global × Value) → ReadSoFar role s all d (members_view es) → es ≡ e ∷ fs → ReadSoFar role s all d (member (string_bytes e.0) (view e.1) (members_view fs))
+one_left role s all d es fs e so_far is = subst (λ (gs : List (String Global × Value)). ReadSoFar role s all d (members_view gs)) is so_far

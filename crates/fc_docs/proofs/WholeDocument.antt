@@ -1,107 +1,60 @@
--- A document whose members were all read.
-use Rattle.std.proofs.Common.{◌≡◌, ℕ, ◌<◌, ◌≤◌, [], ◌∷◌, length, get_or, map, Bool, true, false, nat_le, Option, Some, None, Result, Ok, Err, slice_get, if◌then◌else◌, arith, sym, ◌∙◌, ap, subst, refl, inl, inr, ◌⊎◌, is_some, append-nil}
-use Rattle.std.specs.Ordering.{match_ordering}
-use Rattle.std.specs.declared.cmp.Ordering.{Ordering}
-use Rattle.std.specs.declared.cmp.Ordering.TheVariants.{Less, Equal, Greater}
-use Rattle.std.proofs.lemmas.Bool.{cases_lt}
+-- A document whose members were all read, and one of which a member has a fault.
+use Rattle.std.proofs.Common.{◌≡◌, ℕ, ◌<◌, [], length, get_or, map, true, false, not, nat_eq, nat_le, Some, option_map, Ok, Err, slice_get, Result, arith, sym, ◌∙◌, ap, refl}
 use Rattle.std.proofs.lemmas.Bool.Decides.{nat_tests}
-use Rattle.std.proofs.lemmas.List.{ext_get_or, get_or_past, length-map, get_or-map}
+use Rattle.std.proofs.lemmas.List.{ext_get_or, length-map, get_or-map}
 use Rattle.std.proofs.lemmas.Option.{slice_get-get_or}
-use Rattle.serde_json.specs.Data.{Data, null, boolean, number, string, array, object, Members, no_members, member}
-use Rattle.serde_json.specs.Find.{get_member}
-use Rattle.fc_spec.specs.Val.{Text, text_cmp, text}
+use Rattle.serde_json.specs.Data.{Data, Members, no_members, member}
+use Rattle.fc_spec.specs.Val.{Text}
 use Rattle.fc_spec.specs.Document.{Document, values_of}
-use Rattle.fc_spec.specs.DocFault.{DocFault, unknown_field, long_term, no_id}
-use Rattle.fc_spec.specs.Schema.{Field, Schema, field_named}
-use Rattle.fc_spec.specs.FirstForm.{first_fault, first_value_of, first_member_of, members_fault, field_values, first_document, unless_fault}
+use Rattle.fc_spec.specs.DocFault.{DocFault, no_id}
+use Rattle.fc_spec.specs.Schema.{Field, FieldType, Schema}
+use Rattle.fc_spec.specs.Walks.{◌>>=◌, unless}
+use Rattle.fc_spec.specs.BlockReading.{Role, check_members, document_of_members, field_values, member_values, values_for}
+use Rattle.fc_spec.specs.ValidBlocks.{IsDocumentOf}
 use Rattle.fc_base.specs.ValidSchema.{id_field, IsFieldList}
-use Rattle.fc_docs.specs.FirstDocument.{IsOptionalTerm, IsFirstDocument}
-use Rattle.fc_docs.specs.View.{alone}
-use Rattle.fc_docs.proofs.ReadSoFar.{ReadSoFar, value_is}
+use Rattle.fc_docs.specs.Members.{field_given}
+use Rattle.fc_docs.proofs.MemberFields.{bad_key, gives_values}
+use Rattle.fc_docs.proofs.ReadSoFar.{ReadSoFar}
 
--- ---- where no member has a fault, each value is a short text
-good_first : (r : Result Text DocFault) (rest : Option DocFault) → first_fault r rest ≡ None → ((t : Text) × (r ≡ Ok t)) × (rest ≡ None)
-good_first (Ok t) rest none = ((t, refl), none)
-good_first (Err e) rest none = cc
+-- ---- a fault of a member
+fault_of_member : (role : Role) (s : Schema) (all : Members) (d : Document) (key : Text) (v : Data) (rest : Members) (e : DocFault) → ReadSoFar role s all d (member key v rest) → member_values role s key v ≡ Err e → document_of_members role s all ≡ Err e
+fault_of_member role s all d key v rest e so_far bad =
+    let faults : check_members role s all ≡ Err e = so_far.faults ∙ rw bad refl in
+    rw faults refl
 
-value_of_first : (s : Schema) (key : Text) (v : Data) (t : Text) → first_member_of s key v ≡ Ok t → first_value_of v ≡ Ok t
-value_of_first s key v t good = go (is_some (field_named s key)) good
-  where
-    go : (b : Bool) → (if b then first_value_of v else Err unknown_field) ≡ Ok t → first_value_of v ≡ Ok t
-    go true is = is
-    go false is = cc
+pub bad_member : (role : Role) (s : Schema) (all : Members) (d : Document) (key : Text) (v : Data) (rest : Members) (e : DocFault) → ReadSoFar role s all d (member key v rest) → field_given role s key v ≡ Err e → document_of_members role s all ≡ Err e
+bad_member role s all d key v rest e so_far bad = fault_of_member role s all d key v rest e so_far (bad_key role s key v e bad)
 
-value_of_member : (s : Schema) (ms : Members) (name : Text) (v : Data) → members_fault s ms ≡ None → get_member name ms ≡ Some v → (t : Text) × (first_value_of v ≡ Ok t)
-value_of_member s no_members name v none found = cc
-value_of_member s (member key u ms) name v none found =
-    let parts = good_first (first_member_of s key u) (members_fault s ms) none in
-    go parts.0.0 (value_of_first s key u parts.0.0 parts.0.1) (text_cmp name key) found (value_of_member s ms name v parts.1)
-  where
-    go : (t : Text) → first_value_of u ≡ Ok t → (o : Ordering) → match_ordering o (get_member name ms) (Some u) (get_member name ms) ≡ Some v → (get_member name ms ≡ Some v → (t : Text) × (first_value_of v ≡ Ok t)) → (t : Text) × (first_value_of v ≡ Ok t)
-    go t good Less is behind = behind is
-    go t good Equal is behind = (t, let same : u ≡ v = cc in rw (← same) good)
-    go t good Greater is behind = behind is
+pub bad_values : (role : Role) (s : Schema) (all : Members) (d : Document) (key : Text) (v : Data) (rest : Members) (j : ℕ) (kind : FieldType) (e : DocFault) → ReadSoFar role s all d (member key v rest) → field_given role s key v ≡ Ok (Some j) → option_map (λ f. f.kind) (slice_get s.fields j) ≡ Some kind → values_for kind v ≡ Err e → document_of_members role s all ≡ Err e
+bad_values role s all d key v rest j kind e so_far given typed bad = fault_of_member role s all d key v rest e so_far ((gives_values role s key v j kind given typed).1 ∙ bad)
 
-is_short : (v : Data) (t : Text) → first_value_of v ≡ Ok t → length t ≤ 32766
-is_short (string u) t good = go (nat_le (length u) 32766) refl good
-  where
-    go : (short : Bool) → nat_le (length u) 32766 ≡ short → (if short then Ok u else Err long_term) ≡ Ok t → length t ≤ 32766
-    go true short is = let same : u ≡ t = cc in rw (← same) (grind (arith, nat_tests))
-    go false short is = cc
-is_short null t good = cc
-is_short (boolean b) t good = cc
-is_short (number n) t good = cc
-is_short (array items) t good = cc
-is_short (object ms) t good = cc
+-- ---- all members were read
+at_field : (role : Role) (s : Schema) (all : Members) (d : Document) (k : ℕ) (f : Field) → ReadSoFar role s all d no_members → slice_get s.fields k ≡ Some f → values_of d k ≡ field_values all f
+at_field role s all d k f so_far at = so_far.parts k f at
 
--- no member has the field's name, or one has, and its value is a short text
-abbrev OptionalTerm : Members → Field → Type 0
-OptionalTerm ms f = ((get_member f.name ms ≡ None) × (field_values ms f ≡ [])) ⊎ ((v : Data) × (t : Text) × (get_member f.name ms ≡ Some v) × (field_values ms f ≡ text t ∷ []) × (length t ≤ 32766))
-
-field_cases : (s : Schema) (ms : Members) (f : Field) → members_fault s ms ≡ None → OptionalTerm ms f
-field_cases s ms f none = go (get_member f.name ms) refl
-  where
-    go : (found : Option Data) → get_member f.name ms ≡ found → OptionalTerm ms f
-    go None is = inl (is, rw is refl)
-    go (Some v) is = let value = value_of_member s ms f.name v none is in inr (v, value.0, is, rw (is, value_is v value.0 value.1) refl, is_short v value.0 value.1)
-
--- ---- the document
-at_field : (s : Schema) (all : Members) (d : Document) (k : ℕ) (f : Field) → ReadSoFar s all d no_members → slice_get s.fields k ≡ Some f → values_of d k ≡ field_values all f
-at_field s all d k f so_far at = sym (append-nil (values_of d k)) ∙ sym (so_far.parts k f at)
-
-whole : (s : Schema) (all : Members) (d : Document) → ReadSoFar s all d no_members → d ≡ map (field_values all) s.fields
-whole s all d so_far =
+whole : (role : Role) (s : Schema) (all : Members) (d : Document) → ReadSoFar role s all d no_members → d ≡ map (field_values all) s.fields
+whole role s all d so_far =
     ext_get_or [] d (map (field_values all) s.fields) (so_far.lists ∙ sym (length-map s.fields (field_values all)))
     (λ k below. let within : k < length s.fields = rw (← so_far.lists) below in
-    at_field s all d k (get_or s.fields k id_field) so_far (slice_get-get_or s.fields k id_field within) ∙ sym (get_or-map (field_values all) s.fields k id_field [] within))
+    at_field role s all d k (get_or s.fields k id_field) so_far (slice_get-get_or s.fields k id_field within) ∙ sym (get_or-map (field_values all) s.fields k id_field [] within))
 
-terms : (s : Schema) (all : Members) (d : Document) (k : ℕ) → ReadSoFar s all d no_members → IsOptionalTerm (values_of d k)
-terms s all d k so_far =
-    elim (cases_lt k (length s.fields)) [
-      | inl below ↦ let f = get_or s.fields k id_field in
-          let values = at_field s all d k f so_far (slice_get-get_or s.fields k id_field below) in
-          elim (field_cases s all f so_far.faults) [ inl none ↦ subst IsOptionalTerm (sym (values ∙ none.1)) tt | inr one ↦ subst IsOptionalTerm (sym (values ∙ one.3)) one.4 ]
-      | inr past ↦ subst IsOptionalTerm (sym (get_or_past d k [] (rw so_far.lists past))) tt
-    ]
+abbrev checked : Document → Result Document DocFault
+checked d = unless (not (nat_eq (length (values_of d 0)) 0)) no_id >>= λ _. Ok d
 
-pub without_id : (s : Schema) (all : Members) (d : Document) → ReadSoFar s all d no_members → IsFieldList s.fields → length (values_of d 0) ≡ 0 → unless_fault (members_fault s all) (first_document s all) ≡ Err no_id
-without_id s all d so_far list empty =
-    let values = at_field s all d 0 id_field so_far list.id_first in
-    elim (field_cases s all id_field so_far.faults) [
-      | inl none ↦ rw (so_far.faults, none.0) refl
-      | inr one ↦ let single = ap length (values ∙ one.3) in absurd (omega arith)
-    ]
+all_read : (role : Role) (s : Schema) (all : Members) (d : Document) → ReadSoFar role s all d no_members → document_of_members role s all ≡ checked d
+all_read role s all d so_far = rw so_far.faults (ap checked (sym (whole role s all d so_far)))
 
-pub with_id : (s : Schema) (all : Members) (d : Document) → ReadSoFar s all d no_members → IsFieldList s.fields → 0 < length (values_of d 0) → unless_fault (members_fault s all) (first_document s all) ≡ Ok (alone d)
-with_id s all d so_far list some =
-    let values = at_field s all d 0 id_field so_far list.id_first in
-    elim (field_cases s all id_field so_far.faults) [
-      | inl none ↦ let empty = ap length (values ∙ none.1) in absurd (omega arith)
-      | inr one ↦ rw (so_far.faults, one.2) (ap (λ (p : Document). Ok (alone p)) (sym (whole s all d so_far)))
-    ]
+pub without_id : (role : Role) (s : Schema) (all : Members) (d : Document) → ReadSoFar role s all d no_members → length (values_of d 0) ≡ 0 → document_of_members role s all ≡ Err no_id
+without_id role s all d so_far empty = all_read role s all d so_far ∙ rw empty refl
 
-pub is_first_document : (s : Schema) (all : Members) (d : Document) → ReadSoFar s all d no_members → IsFieldList s.fields → 0 < length (values_of d 0) → IsFirstDocument s d
-is_first_document s all d so_far list some =
-    let values = at_field s all d 0 id_field so_far list.id_first in
-    let id : (t : Text) × (values_of d 0 ≡ text t ∷ []) = elim (field_cases s all id_field so_far.faults) [ inl none ↦ let empty = ap length (values ∙ none.1) in absurd (omega arith) | inr one ↦ (one.1, values ∙ one.3) ] in
-    record { lists = so_far.lists; terms = λ k. terms s all d k so_far; id = id }
+pub with_id : (role : Role) (s : Schema) (all : Members) (d : Document) → ReadSoFar role s all d no_members → 0 < length (values_of d 0) → document_of_members role s all ≡ Ok d
+with_id role s all d so_far some =
+    let none : nat_eq (length (values_of d 0)) 0 ≡ false = grind (arith, nat_tests) in
+    all_read role s all d so_far ∙ rw none refl
+
+pub is_document : (role : Role) (s : Schema) (all : Members) (d : Document) → ReadSoFar role s all d no_members → IsFieldList s.fields → 0 < length (values_of d 0) → IsDocumentOf s d
+is_document role s all d so_far list some =
+    let ids = so_far.valid 0 id_field list.id_first in
+    let at_most_one : nat_le (length (values_of d 0)) 1 ≡ true = ids.few in
+    let one : length (values_of d 0) ≡ 1 = grind (arith, nat_tests) in
+    record { lists = so_far.lists; values = so_far.valid; id = one }

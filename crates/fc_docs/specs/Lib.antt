@@ -1,3 +1,3 @@
 pub mod Fields
-pub mod FirstDocument
+pub mod Members
 pub mod View

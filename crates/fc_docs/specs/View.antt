@@ -1,18 +1,21 @@
 -- What the types of this crate stand for in the definitions.
-use Rattle.std.specs.Prelude.{[], map}
+use Rattle.std.specs.Prelude.{List, Vec, map}
+use Rattle.std.specs.declared.alloc.Global.{Global}
+use Rattle.fc_spec.specs.BlockReading as reading
+use Rattle.fc_spec.specs.Val as value
+use Rattle.fc_base.specs.declared.value.Val.{Val}
+use Rattle.fc_base.specs.View.{val_view}
 use Rattle.fc_spec.specs.Document as definition
 use Rattle.fc_spec.specs.DocFault as fault
 use Rattle.fc_docs.specs.declared.block.Block.{Block}
 use Rattle.fc_docs.specs.declared.block.Batch.{Batch}
 use Rattle.fc_docs.specs.declared.fault.DocFault.{DocFault}
 use Rattle.fc_docs.specs.declared.fault.DocFault.TheVariants as kind
+use Rattle.fc_docs.specs.declared.read.member.Role.{Role}
+use Rattle.fc_docs.specs.declared.read.member.Role.TheVariants as role
 
 abbrev pub block_view : Block → definition.Block
 block_view b = record { children = b.children.items; parent = b.parent }
-
--- the block of a parent alone
-abbrev pub alone : definition.Document → definition.Block
-alone d = record { children = []; parent = d }
 
 abbrev pub batch_view : Batch → definition.Batch
 batch_view b = map block_view b.blocks.items
@@ -24,3 +27,10 @@ fault_view kind.TooManyValues = fault.too_many_values
 fault_view kind.NoId = fault.no_id
 fault_view kind.LongTerm = fault.long_term
 fault_view kind.DeepChildren = fault.deep_children
+
+abbrev pub role_view : Role → reading.Role
+role_view role.Parent = reading.as_parent
+role_view role.Child = reading.as_child
+
+abbrev pub values_view : Vec Val Global → List value.Val
+values_view values = map val_view values.items

@@ -11,13 +11,13 @@ pub enum DocFault {
     /// A key names no field.
     #[error("unknown-field")]
     UnknownField,
-    /// A value is not of its field's type, or the document is no object.
+    /// A value is not of its field's type, a document is no object, or the children are no array.
     #[error("wrong-type")]
     WrongType,
-    /// A field of at most one value has several.
+    /// A field of at most one value has several items, be they equal.
     #[error("too-many-values")]
     TooManyValues,
-    /// The document has no `id`.
+    /// A document has no `id`.
     #[error("no-id")]
     NoId,
     /// A text is longer than 32,766 bytes.

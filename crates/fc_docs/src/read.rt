@@ -1,68 +1,112 @@
 // Reading a block from JSON.
-ghost use Rattle.std.specs.Prelude.{IfOk};
-ghost use Rattle.serde_json.specs.View.{view, members_view};
-ghost use Rattle.fc_spec.specs.FirstForm.{first_block_of, first_document, first_value_of, members_fault, unless_fault};
+ghost use Rattle.std.specs.Prelude.{All, IfOk, unwrap_or};
+ghost use Rattle.serde_json.specs.View.{view, members_view, items_view};
+ghost use Rattle.serde_json.specs.Data.{null};
+ghost use Rattle.serde_json.specs.Find.{get};
+ghost use Rattle.fc_spec.specs.Walks.{each};
+ghost use Rattle.fc_spec.specs.BlockReading.{block_of, document_of, document_of_members, children_key, all_items, as_child};
+ghost use Rattle.fc_spec.specs.ValidBlocks.{IsBlockOf, IsDocumentOf};
 ghost use Rattle.fc_base.specs.Answers.{Answers};
-ghost use Rattle.fc_docs.specs.FirstDocument.{IsFirstDocument};
-ghost use Rattle.fc_docs.specs.View.{alone, block_view, fault_view};
+ghost use Rattle.fc_docs.specs.Members.{children_given};
+ghost use Rattle.fc_docs.specs.View.{block_view, fault_view, role_view};
 
+mod item;
+mod member;
 #[cfg(test)]
 mod tests;
+mod values;
 
 use crate::{Block, DocFault, Document};
-use fc_base::{FieldId, Name, Refusal, Schema, Val};
+use fc_base::{FieldId, Refusal, Schema};
+use member::{CHILDREN, Role, field_of};
 use serde_json::{Map, Value};
 use std::alloc::Global;
+use values::read_values;
 
 const ID: FieldId = FieldId(0);
 
-// The most bytes of a text.
-const TERM_LIMIT: usize = 32_766;
-
-/// Reads an object of fields and their values: a parent alone. The first fault counts: the members
-/// are read in the byte order of their keys, and each key, then its value, is tested before the
-/// next; at last there must be an `id`. So far each value is one text.
+/// Reads an object of fields and their values as a parent, and its children, an array of such
+/// objects at `_childDocuments_`, which have none of their own. Other keys that begin and end with
+/// `_` are passed over. A field's value is null, one item, or an array of items, where nulls are
+/// passed over and equal items are kept once. An item of a text field is a text of at most 32,766
+/// bytes, or a whole number of 64 bits signed, which stands for its decimal text; one of an integer
+/// field is such a number, or a text that spells one. The first fault counts: the parent's members
+/// in the byte order of their keys, each key before its value and each item before their number;
+/// then whether there is an `id`; then the children in their order, each in the same way. (Guide:
+/// Indexing Nested Child Documents)
 pub fn read_block(alloc: Global, schema: &Schema, json: &Value) -> Result<Block, Refusal<DocFault>>
-    ensures answer { Answers block_view fault_view result
-        (first_block_of schema.now (view json.now)) }
-    ensures valid { IfOk result (λ block. IsFirstDocument schema.now block.parent) }
+    ensures answer { Answers block_view fault_view result (block_of schema.now (view json.now)) }
+    ensures valid { IfOk result (λ block. IsBlockOf schema.now (block_view block)) }
 {
-    let members = json.as_object().ok_or(DocFault::WrongType)?;
-    let parent = read_document(alloc, schema, members)?;
-    Ok(Block {
-        children: Vec::new(alloc),
-        parent,
-    })
+    let parent = read_document(alloc, schema, Role::Parent, json)?;
+    let children = read_children(alloc, schema, children_in(json)?)?;
+    Ok(Block { children, parent })
+}
+
+// The children of a parent, not yet read.
+fn children_in(json: &Value) -> Result<&[Value], Refusal<DocFault>>
+    ensures { Answers (λ items. all_items (items_view items.now)) fault_view result
+        (children_given (unwrap_or (get children_key (view json.now)) null)) }
+{
+    match json.get(CHILDREN) {
+        None | Some(Value::Null) => Ok(&[]),
+        Some(Value::Array(items)) => Ok(items.as_slice()),
+        Some(_) => Err(Refusal::Fault(DocFault::WrongType)),
+    }
+}
+
+fn read_children(
+    alloc: Global,
+    schema: &Schema,
+    items: &[Value],
+) -> Result<Vec<Document>, Refusal<DocFault>>
+    ensures answer { Answers (λ documents. documents.items) fault_view result
+        (each (document_of as_child schema.now) (all_items (items_view items.now))) }
+    ensures valid { IfOk result (λ documents. All (IsDocumentOf schema.now) documents.items) }
+{
+    let mut documents = Vec::with_capacity(alloc, items.len())?;
+    for item in items {
+        documents.push(read_document(alloc, schema, Role::Child, item)?)?;
+    }
+    Ok(documents)
 }
 
 fn read_document(
     alloc: Global,
     schema: &Schema,
+    role: Role,
+    json: &Value,
+) -> Result<Document, Refusal<DocFault>>
+    ensures answer { Answers (λ document. document) fault_view result
+        (document_of (role_view role) schema.now (view json.now)) }
+    ensures valid { IfOk result (IsDocumentOf schema.now) }
+{
+    match json {
+        Value::Object(members) => read_members(alloc, schema, role, members),
+        _ => Err(Refusal::Fault(DocFault::WrongType)),
+    }
+}
+
+fn read_members(
+    alloc: Global,
+    schema: &Schema,
+    role: Role,
     members: &Map<String, Value>,
 ) -> Result<Document, Refusal<DocFault>>
-    ensures answer { let members = members_view members.now.entries in
-        Answers alone fault_view result
-        (unless_fault (members_fault schema.now members) (first_document schema.now members)) }
-    ensures valid { IfOk result (IsFirstDocument schema.now) }
+    ensures answer { Answers (λ document. document) fault_view result
+        (document_of_members (role_view role) schema.now (members_view members.now.entries)) }
+    ensures valid { IfOk result (IsDocumentOf schema.now) }
 {
     let mut document = Document::empty(alloc, schema.fields());
     for (key, json) in members {
-        let field = schema.find(key.as_bytes()).ok_or(DocFault::UnknownField)?;
-        let text = read_text(alloc, json)?;
-        document.set(field, vec![in alloc; Val::Text(text)]?)?;
+        let Some(field) = field_of(schema, role, key, json)? else {
+            continue;
+        };
+        let values = read_values(alloc, schema.field_type(field), json)?;
+        document.set(field, values)?;
     }
     if document.values(ID).is_empty() {
         return Err(Refusal::Fault(DocFault::NoId));
     }
     Ok(document)
-}
-
-fn read_text(alloc: Global, json: &Value) -> Result<Name, Refusal<DocFault>>
-    ensures { Answers (λ text. text) fault_view result (first_value_of (view json.now)) }
-{
-    let text = json.as_str().ok_or(DocFault::WrongType)?;
-    if text.len() > TERM_LIMIT {
-        return Err(Refusal::Fault(DocFault::LongTerm));
-    }
-    Ok(Name::new(alloc, text)?)
 }

@@ -1,6 +1,0 @@
-use Rattle.serde_json.specs.View.{members_view}
-use Rattle.fc_docs.proofs.ReadSoFar.{ReadSoFar}
-use Rattle.fc_docs.proofs.read.read_document.Given as goal
-
-abbrev pub invariant-loop-key : goal.invariant-loop-key
-invariant-loop-key l = ReadSoFar l.schema (members_view l.members.entries) l.document (members_view l.key-iterator)

@@ -1,0 +1,71 @@
+// One value of a field.
+ghost use Rattle.std.specs.Prelude.{IfOk, IsTrue};
+ghost use Rattle.serde_json.specs.View.{view};
+ghost use Rattle.fc_spec.specs.DocFault.{long_term};
+ghost use Rattle.fc_spec.specs.Walks.{unless};
+ghost use Rattle.fc_spec.specs.BlockReading.{is_term, long_item, text_item, value_of};
+ghost use Rattle.fc_spec.specs.ValidBlocks.{is_value_of};
+ghost use Rattle.fc_spec.specs.Schema.{string, plong};
+ghost use Rattle.fc_base.specs.Answers.{Answers};
+ghost use Rattle.fc_base.specs.View.{field_type_view, val_view};
+ghost use Rattle.fc_docs.specs.View.{fault_view};
+
+use crate::DocFault;
+use fc_base::{FieldType, Name, Refusal, Val, long_of};
+use itoa::Buffer;
+use serde_json::Value;
+use std::alloc::Global;
+
+// The most bytes of a text.
+const TERM_LIMIT: usize = 32_766;
+
+pub(super) fn read_item(
+    alloc: Global,
+    kind: FieldType,
+    json: &Value,
+) -> Result<Val, Refusal<DocFault>>
+    ensures answer { Answers val_view fault_view result
+        (value_of (field_type_view kind) (view json.now)) }
+    ensures valid { IfOk result (λ val. IsTrue (is_value_of (field_type_view kind) (val_view val))) }
+{
+    match kind {
+        FieldType::Str | FieldType::Strs => text_item(alloc, json),
+        FieldType::Long | FieldType::Longs => long_item(json),
+    }
+}
+
+// A text, or a whole number of 64 bits, which stands for its decimal text.
+fn text_item(alloc: Global, json: &Value) -> Result<Val, Refusal<DocFault>>
+    ensures answer { Answers val_view fault_view result (text_item (view json.now)) }
+    ensures valid { IfOk result (λ val. IsTrue (is_value_of string (val_view val))) }
+{
+    if let Some(text) = json.as_str() {
+        check_length(text)?;
+        return Ok(Val::Text(Name::new(alloc, text)?));
+    }
+    let number = json.as_i64().ok_or(DocFault::WrongType)?;
+    Ok(Val::Text(Name::new(alloc, Buffer::new().format(number))?))
+}
+
+// A whole number of 64 bits, or a text that spells one.
+fn long_item(json: &Value) -> Result<Val, Refusal<DocFault>>
+    ensures answer { Answers val_view fault_view result (long_item (view json.now)) }
+    ensures valid { IfOk result (λ val. IsTrue (is_value_of plong (val_view val))) }
+{
+    if let Some(text) = json.as_str() {
+        let number = long_of(text).ok_or(DocFault::WrongType)?;
+        check_length(text)?;
+        return Ok(Val::Long(number));
+    }
+    let number = json.as_i64().ok_or(DocFault::WrongType)?;
+    Ok(Val::Long(number))
+}
+
+fn check_length(text: &str) -> Result<(), Refusal<DocFault>>
+    ensures { Answers (λ _. tt) fault_view result (unless (is_term text.now) long_term) }
+{
+    if text.len() > TERM_LIMIT {
+        return Err(Refusal::Fault(DocFault::LongTerm));
+    }
+    Ok(())
+}
