@@ -1,0 +1,5 @@
+pub mod Cutting
+pub mod Transposed
+pub mod Marking
+pub mod Rows
+pub mod StoredBlocks

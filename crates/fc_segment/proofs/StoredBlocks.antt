@@ -1,0 +1,76 @@
+-- The blocks that a segment stands for.
+use Rattle.std.proofs.Common.{◌≡◌, ℕ, ◌<◌, List, [], length, get_or, map, All, Bool, true, sym, ap, ap₂, ◌∙◌, arith}
+use Rattle.std.specs.List.{range_with_len}
+use Rattle.std.proofs.lemmas.List.{get_or-map, length-map}
+use Rattle.std.proofs.lemmas.List.FromFn.{length-map-range_with_len, get_or-map-range_with_len}
+use Rattle.fc_spec.specs.Document.{Document, Block, values_of}
+use Rattle.fc_spec.specs.Totals.{documents_in, document_total}
+use Rattle.fc_spec.specs.Columns.{column_of}
+use Rattle.fc_segment.specs.declared.column.Column.{Column}
+use Rattle.fc_segment.specs.declared.segment.Segment.TheInside.{Inside}
+use Rattle.fc_segment.specs.Columns.{column_values, is_text_column}
+use Rattle.fc_segment.specs.Parents.{parents_in}
+use Rattle.fc_segment.specs.Cut.{cut, ends_with_parent}
+use Rattle.fc_segment.specs.Segmented.{Segmented}
+use Rattle.fc_segment.specs.Stored.{document_at, documents_at, stored, IsStored}
+use Rattle.fc_segment.proofs.Cutting.{cut-documents_in, documents_in-cut, parents_in-cut, ends_with_parent-parents_in, length-parents_in}
+use Rattle.fc_segment.proofs.Transposed.{column_of-documents_at, documents_at-columns_of}
+
+-- ---- what is read of a segment
+abbrev held : Inside → List Document
+held s = documents_at (map column_values s.columns.items) (length s.parents)
+
+length-held : (s : Inside) → length (held s) ≡ length s.parents
+length-held s = length-map-range_with_len (document_at (map column_values s.columns.items)) 0 (length s.parents)
+
+documents_in-stored : (s : Inside) → IsStored s → documents_in (stored s).blocks ≡ held s
+documents_in-stored s is = documents_in-cut s.parents (held s) (sym (length-held s)) is.whole
+
+pub document_total-stored : (s : Inside) → IsStored s → document_total (stored s).blocks ≡ length s.parents
+document_total-stored s is = ap length (documents_in-stored s is) ∙ length-held s
+
+pub parents_in-stored : (s : Inside) → IsStored s → parents_in (stored s).blocks ≡ s.parents
+parents_in-stored s is = parents_in-cut s.parents (held s) (sym (length-held s)) is.whole
+
+pub column_of-stored : (s : Inside) (field : ℕ) (column : Column) → IsStored s → field < length s.columns.items → column ≡ get_or s.columns.items field column
+    → column_of field (documents_in (stored s).blocks) ≡ column_values column
+column_of-stored s field column is within at =
+    let columns = map column_values s.columns.items in
+    let here : get_or columns field [] ≡ column_values column = get_or-map column_values s.columns.items field column [] within ∙ ap column_values (sym at) in
+    let even : length (column_values column) ≡ length s.parents = ap (λ (x : Column). length (column_values x)) at ∙ is.even field column within in
+    ap (column_of field) (documents_in-stored s is)
+    ∙ column_of-documents_at columns (length s.parents) field (omega (arith, length-map s.columns.items column_values)) (ap length here ∙ even)
+    ∙ here
+
+-- ---- a segment that was made of blocks
+pub record IsMadeOf (blocks : List Block) (count : ℕ) (s : Inside) : Type 0 where
+  pub parents : s.parents ≡ parents_in blocks
+  pub columns : map column_values s.columns.items ≡ map (λ field. column_of field (documents_in blocks)) (range_with_len 0 count)
+
+length-column : (blocks : List Block) (count field : ℕ) (column : Column) (s : Inside) → IsMadeOf blocks count s → field < length s.columns.items
+    → length (column_values (get_or s.columns.items field column)) ≡ length s.parents
+length-column blocks count field column s made within =
+    let ds = documents_in blocks in
+    let below : field < count = omega (arith, length-map s.columns.items column_values, ap length made.columns, length-map-range_with_len (λ n. column_of n ds) 0 count) in
+    ap length (sym (get_or-map column_values s.columns.items field column [] within)
+    ∙ ap (λ l. get_or l field []) made.columns
+    ∙ get_or-map-range_with_len (λ n. column_of n ds) 0 count field field [] below (omega arith))
+    ∙ length-map ds (λ d. values_of d field) ∙ sym (length-parents_in blocks) ∙ ap length (sym made.parents)
+
+pub made_is_stored : (blocks : List Block) (count : ℕ) (s : Inside) → IsMadeOf blocks count s → IsStored s
+made_is_stored blocks count s made = record {
+  even = λ field column within. length-column blocks count field column s made within;
+  whole = ap (ends_with_parent true) made.parents ∙ ends_with_parent-parents_in blocks;
+}
+
+made_blocks : (blocks : List Block) (count : ℕ) (s : Inside) → IsMadeOf blocks count s → All (λ d. length d ≡ count) (documents_in blocks) → (stored s).blocks ≡ blocks
+made_blocks blocks count s made lists =
+    ap₂ (λ marks columns. cut marks (documents_at columns (length marks))) made.parents made.columns
+    ∙ ap (λ n. cut (parents_in blocks) (documents_at (map (λ field. column_of field (documents_in blocks)) (range_with_len 0 count)) n)) (length-parents_in blocks)
+    ∙ ap (cut (parents_in blocks)) (documents_at-columns_of count (documents_in blocks) lists)
+    ∙ cut-documents_in blocks
+
+pub made_segment : (texts : List Bool) (blocks : List Block) (count : ℕ) (s : Inside) → IsMadeOf blocks count s → map is_text_column s.columns.items ≡ texts
+    → All (λ d. length d ≡ count) (documents_in blocks) → stored s ≡ record { texts = texts; blocks = blocks }
+made_segment texts blocks count s made kinds lists =
+    ap₂ (λ (t : List Bool) (b : List Block). let made : Segmented = record { texts = t; blocks = b } in made) kinds (made_blocks blocks count s made lists)

@@ -1,0 +1,27 @@
+use Rattle.std.proofs.Common.{map, length}
+use Rattle.fc_spec.specs.Schema.{Field}
+use Rattle.fc_spec.specs.ValidBlocks.{holds_texts}
+use Rattle.fc_docs.specs.View.{batch_view}
+use Rattle.fc_segment.specs.declared.segment.Segment.TheInside.{Inside}
+use Rattle.fc_segment.proofs.Rows.{length-valid_documents}
+use Rattle.fc_segment.proofs.StoredBlocks.{IsMadeOf, made_is_stored, made_segment}
+use Rattle.fc_segment.proofs.segment.Segment.build.Goals as goal
+
+pub invariant_of-result : goal.invariant_of-result
+invariant_of-result c =
+    let made : Inside = record { parents = c.in_ok-parents_of.field-0; columns = c.in_ok-columns_of.field-0 } in
+    let is : IsMadeOf (batch_view c.args.batch.now) (length c.args.schema.now.fields) made = record {
+      parents = rw (← c.deref.ensures.value) c.in_ok-parents_of.ensures;
+      columns = c.in_ok-columns_of.ensures.values;
+    } in
+    made_is_stored (batch_view c.args.batch.now) (length c.args.schema.now.fields) made is
+
+pub returns : goal.returns
+returns c =
+    let made : Inside = record { parents = c.in_ok-parents_of.field-0; columns = c.in_ok-columns_of.field-0 } in
+    let is : IsMadeOf (batch_view c.args.batch.now) (length c.args.schema.now.fields) made = record {
+      parents = rw (← c.deref.ensures.value) c.in_ok-parents_of.ensures;
+      columns = c.in_ok-columns_of.ensures.values;
+    } in
+    made_segment (map (λ (f : Field). holds_texts f.kind) c.args.schema.now.fields) (batch_view c.args.batch.now) (length c.args.schema.now.fields) made is c.in_ok-columns_of.ensures.kinds
+    (length-valid_documents c.args.schema.now (batch_view c.args.batch.now) c.requires.valid)

@@ -1,0 +1,8 @@
+-- What a segment is.
+use Rattle.std.specs.Prelude.{List, Bool}
+use Rattle.fc_spec.specs.Document.{Block}
+
+-- for each field whether it holds texts; and the blocks
+pub record Segmented : Type 0 where
+  pub texts : List Bool
+  pub blocks : List Block

@@ -1,0 +1,10 @@
+//! Segments: the blocks of a batch, as one column for each field.
+#![tactic(auto)]
+
+mod builder;
+mod column;
+mod parents;
+mod segment;
+
+pub use column::Column;
+pub use segment::Segment;

@@ -1,0 +1,114 @@
+// Segments.
+ghost use Rattle.std.specs.Prelude.{◌≡◌, ◌<◌, ◌≤◌, length, map, slice_index_or, All, IfOk, false};
+ghost use Rattle.std.specs.List.{range_with_len};
+ghost use Rattle.fc_spec.specs.Columns.{column_of};
+ghost use Rattle.fc_spec.specs.Totals.{document_total, documents_in};
+ghost use Rattle.fc_spec.specs.ValidBlocks.{IsBlockOf, holds_texts};
+ghost use Rattle.fc_docs.specs.View.{batch_view};
+ghost use Rattle.fc_segment.specs.Columns.{column_values, is_text_column};
+ghost use Rattle.fc_segment.specs.Parents.{parents_in};
+
+use crate::Column;
+use crate::builder::Builder;
+use crate::parents::parents_of;
+use fc_base::{FieldId, Schema, WantMemory};
+use fc_docs::Batch;
+use fc_docset::DocSet;
+use std::alloc::Global;
+use std::marker::Model;
+
+/// The blocks of a batch, which nothing changes, as one column for each field of the schema. Its
+/// documents stand at positions from 0, block after block, each parent behind its children.
+#[derive(Debug, Drop)]
+pub struct Segment {
+    parents: DocSet,
+    columns: Vec<Column>,
+}
+
+impl Model for Segment {
+    ghost use Rattle.fc_segment.specs.Segmented.{Segmented};
+
+    ghost Value = { Segmented };
+
+    ghost use Rattle.fc_segment.specs.Stored.{stored, IsStored};
+
+    ghost view = { stored };
+
+    ghost invariant = { IsStored };
+}
+
+impl Segment {
+    /// The blocks of a batch.
+    pub fn build(alloc: Global, schema: &Schema, batch: &Batch) -> Result<Segment, WantMemory>
+        requires valid { All (IsBlockOf schema.now) (batch_view batch.now) }
+        requires few { document_total (batch_view batch.now) ≤ 1_048_576 }
+        ensures { IfOk result (λ segment. segment ≡ record
+            { texts = map (λ f. holds_texts f.kind) schema.now.fields; blocks = batch_view batch.now }) }
+    {
+        Ok(Segment {
+            parents: parents_of(alloc, &batch.blocks)?,
+            columns: columns_of(alloc, schema, batch)?,
+        })
+    }
+
+    /// How many documents there are, children and parents.
+    pub fn doc_count(&self) -> u32
+        ensures { result ≡ document_total self.now.blocks }
+    {
+        self.parents.len()
+    }
+
+    /// The values of a field, position by position.
+    pub fn column(&self, field: FieldId) -> &Column
+        requires { field.0 < length self.now.texts }
+        ensures values { column_values result.now
+            ≡ column_of field.0 (documents_in self.now.blocks) }
+        ensures kind { is_text_column result.now ≡ slice_index_or self.now.texts field.0 false }
+    {
+        &self.columns[field.0 as usize]
+    }
+
+    /// The positions of the parents.
+    pub fn parents(&self) -> &DocSet
+        ensures { result.now ≡ parents_in self.now.blocks }
+    {
+        &self.parents
+    }
+}
+
+// The column of each field of the schema.
+fn columns_of(alloc: Global, schema: &Schema, batch: &Batch) -> Result<Vec<Column>, WantMemory>
+    requires { All (IsBlockOf schema.now) (batch_view batch.now) }
+    ensures values { IfOk result (λ columns. map column_values columns.items
+        ≡ map (λ field. column_of field (documents_in (batch_view batch.now)))
+        (range_with_len 0 (length schema.now.fields))) }
+    ensures kinds { IfOk result (λ columns. map is_text_column columns.items
+        ≡ map (λ f. holds_texts f.kind) schema.now.fields) }
+{
+    let mut columns = Vec::new(alloc);
+    for field in 0..schema.fields() {
+        columns.push(column_of(alloc, schema, batch, FieldId(field))?)?;
+    }
+    Ok(columns)
+}
+
+// The column of a field.
+fn column_of(
+    alloc: Global,
+    schema: &Schema,
+    batch: &Batch,
+    field: FieldId,
+) -> Result<Column, WantMemory>
+    requires valid { All (IsBlockOf schema.now) (batch_view batch.now) }
+    requires below { field.0 < length schema.now.fields }
+    ensures values { IfOk result (λ column. column_values column
+        ≡ column_of field.0 (documents_in (batch_view batch.now))) }
+    ensures kind { IfOk result (λ column. is_text_column column
+        ≡ slice_index_or (map (λ f. holds_texts f.kind) schema.now.fields) field.0 false) }
+{
+    let mut builder = Builder::new(alloc, schema.field_type(field))?;
+    for block in &batch.blocks {
+        builder.push_block(block, field)?;
+    }
+    builder.finish()
+}
