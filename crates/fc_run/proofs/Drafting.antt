@@ -1,6 +1,6 @@
 -- A line behind those of a script that is being read.
-use Rattle.std.proofs.Common.{◌≡◌, List, [], ◌∷◌, ◌++◌, Bool, true, false, not, cond, ◌&&◌, Option, Some, None, Result, Ok, Err, refl, sym, ◌∙◌, ap, append-nil, append_assoc}
-use Rattle.std.specs.List.{last_or}
+use Rattle.std.proofs.Common.{◌≡◌, List, [], ◌∷◌, ◌++◌, Bool, true, false, cond, ◌&&◌, Option, Some, None, Result, Ok, Err, refl, sym, ◌∙◌, ap, append-nil, append_assoc}
+use Rattle.std.specs.List.{flat_map, last_or}
 use Rattle.std.proofs.lemmas.List.{map-append}
 use Rattle.fc_spec.specs.Document.{Block}
 use Rattle.fc_spec.specs.Schema.{Schema}
@@ -11,9 +11,9 @@ use Rattle.fc_run.specs.declared.said.Line.TheVariants as line
 use Rattle.fc_run.specs.declared.draft.Draft.{Draft}
 use Rattle.fc_run.specs.declared.draft.Stage.{Stage}
 use Rattle.fc_run.specs.declared.draft.Stage.TheVariants as stage
-use Rattle.fc_run.specs.FirstScript.{ScriptLine, Refused, not_built, FirstFault, Limits, may_follow, is_new, within, blocks_of, id_values}
+use Rattle.fc_run.specs.FirstScript.{ScriptLine, Refused, not_built, FirstFault, Limits, may_follow, ids_of, are_new, is_new, within, blocks_of}
 use Rattle.fc_run.specs.FirstLines.{FirstScript, is_whole}
-use Rattle.fc_run.specs.Gathered.{Gathered, with_block, has_id_in}
+use Rattle.fc_run.specs.Gathered.{Gathered, with_block}
 use Rattle.fc_run.specs.Drafted.{Drafted, with_line, finished}
 use Rattle.fc_run.specs.View.{line_view, search_view}
 use Rattle.fc_run.specs.FirstView.{adds, stage_lines, draft_view}
@@ -86,7 +86,7 @@ add_to limits s blocks b =
     let blocks_are : blocks_of (adds blocks ++ []) ≡ blocks = blocks_of-adds blocks [] ∙ append-nil blocks in
     let more_are : blocks_of ((adds blocks ++ []) ++ add 0 b ∷ []) ≡ blocks ++ b ∷ [] = ap blocks_of (append_assoc (adds blocks) [] (add 0 b ∷ [])) ∙ blocks_of-adds blocks (add 0 b ∷ []) in
     rw (behind_adds blocks (add 0 b), more_are, blocks_are, lines_are)
-    (through s (not (has_id_in (id_values b) blocks) && within limits (blocks ++ b ∷ [])) (record { limits = limits; blocks = blocks ++ b ∷ [] }))
+    (through s (are_new (flat_map ids_of blocks) (ids_of b) && within limits (blocks ++ b ∷ [])) (record { limits = limits; blocks = blocks ++ b ∷ [] }))
 
 refused_behind : (limits : Limits) (s : Schema) (blocks : List Block) (ls : List ScriptLine) (last l : ScriptLine) → last_or (last_or None (adds blocks)) ls ≡ Some last → may_follow (Some last) l ≡ false → with_line (drafted limits s blocks ls) l ≡ Err not_built
 refused_behind limits s blocks ls last l is unfit = refused (drafted limits s blocks ls) l (behind_last blocks ls last l is ∙ unfit)

@@ -1,91 +1,34 @@
 -- What every script of the first form keeps: no document has a value twice in a field, and there are no more documents than its limits say.
-use Rattle.std.specs.Prelude.{◌≡◌, ℕ, zero, suc, is_some, ◌≤◌, List, [], ◌∷◌, ◌++◌, length, map, codes, Bool, true, false, cond, ◌&&◌, ◌==◌, nat_lt, Option, None, Some, option_map, option_and_then, unwrap_or, Result, Ok, Err}
+use Rattle.std.specs.Prelude.{◌≡◌, ℕ, suc, ◌≤◌, List, [], ◌∷◌, ◌++◌, length, codes, Bool, true, false, cond, ◌&&◌, ◌==◌, nat_lt, Option, None, Some, option_map, option_and_then, Result, Ok, Err}
 use Rattle.std.specs.List.{cons_option, last_or}
 use Rattle.std.proofs.Common.{refl, ◌∙◌, ap, subst, arith, append-nil}
 use Rattle.std.proofs.lemmas.Bool.{and_parts, leb-true}
 use Rattle.std.proofs.lemmas.List.Concat.{flat_map-append}
-use Rattle.std.proofs.lemmas.List.Elements.{All-append, All-cons, All-nil, filter_map-append}
-use Rattle.std.proofs.lemmas.List.Sums.{count_by-le-length}
+use Rattle.std.proofs.lemmas.List.Elements.{All-append, All-nil, filter_map-append}
 use Rattle.serde_json.specs.Data.{Data, null, boolean, number, string, array, object, Members}
 use Rattle.serde_json.specs.Find.{get_member}
-use Rattle.fc_spec.specs.Val.{Text, Val, same_val}
-use Rattle.fc_spec.specs.Document.{Document, Block, values_of}
-use Rattle.fc_spec.specs.Schema.{Schema, Field}
-use Rattle.fc_spec.specs.FirstForm.{text_value, field_values, first_document, members_fault, unless_fault, first_block_of}
-use Rattle.fc_spec.specs.DocFault.{DocFault, no_id}
-use Rattle.fc_spec.specs.Totals.{documents_of, document_total}
+use Rattle.fc_spec.specs.Val.{Text}
+use Rattle.fc_spec.specs.Document.{Block, values_of}
+use Rattle.fc_spec.specs.Schema.{Schema}
+use Rattle.fc_spec.specs.BlockReading.{block_of}
+use Rattle.fc_spec.specs.DocFault.{DocFault}
+use Rattle.fc_spec.specs.Totals.{documents_of, documents_in, document_total}
 use Rattle.fc_spec.specs.SchemaReading.{member_count}
 use Rattle.fc_spec.specs.Request.{Request}
 use Rattle.fc_spec.specs.Script.{add, commit, sync, asks, added_to}
 use Rattle.fc_run.specs.FirstRequest.{request_of}
-use Rattle.fc_run.specs.FirstScript.{ScriptLine, not_built, faulty, FirstFault, Limits, may_follow, is_new, only_member, is_empty_object, ok_of, add_of, bare_of, session_of, search_of_members, search_of_object, search_of, or_else, said_by, blocks_of, within, line_after}
+use Rattle.fc_run.specs.FirstScript.{ScriptLine, not_built, faulty, FirstFault, Limits, may_follow, is_new, only_member, is_empty_object, ok_of, add_of, bare_of, session_of, search_of_members, search_of_object, search_of, or_else, said_by, blocks_of, within, may_stand, line_after}
 use Rattle.fc_run.specs.FirstLines.{line_limit, script_limit, FirstScript, given, is_whole, lines_after, schema_line, lines_from, first_script}
 use Rattle.fc_spec.specs.ScriptFault.{not_json}
 use Rattle.fc_spec.specs.ScriptLines.{lines_of, is_blank, json_of}
-use Rattle.fc_run.specs.PlainReply.{documents_in, AreDifferent, HaveDifferentValues}
+use Rattle.fc_run.specs.PlainReply.{AreDifferent, HaveDifferentValues}
+use Rattle.fc_run.proofs.GoodBlocks.{IsGoodBlock, block_good}
 
 pub Ok_one : {A E : Type 0} (r : Result A E) (a b : A) → r ≡ Ok a → r ≡ Ok b → a ≡ b
 Ok_one r a b e f = cc
 
 Some_one : {A : Type 0} (a b : A) → Some a ≡ Some b → a ≡ b
 Some_one a b e = cc
-
--- ---- a block of the first form
-
--- at most one value stands at most once
-AreDifferent-at_most_one : (vs : List Val) → length vs ≤ 1 → AreDifferent vs
-AreDifferent-at_most_one vs h v = omega (arith, count_by-le-length (same_val v) vs)
-
-at_most_one-text_value : (d : Data) → length (text_value d) ≤ 1
-at_most_one-text_value null = omega arith
-at_most_one-text_value (boolean b) = omega arith
-at_most_one-text_value (number n) = omega arith
-at_most_one-text_value (string t) = omega arith
-at_most_one-text_value (array ds) = omega arith
-at_most_one-text_value (object ms) = omega arith
-
-at_most_one-field_values : (ms : Members) (f : Field) → length (field_values ms f) ≤ 1
-at_most_one-field_values ms f = go (get_member f.name ms)
-  where
-    go : (o : Option Data) → length (unwrap_or (option_map text_value o) []) ≤ 1
-    go None = omega arith
-    go (Some d) = at_most_one-text_value d
-
-at_most_one-values_of : (ms : Members) (fs : List Field) (field : ℕ) → length (values_of (map (field_values ms) fs) field) ≤ 1
-at_most_one-values_of ms [] field = omega arith
-at_most_one-values_of ms (f ∷ fs) zero = at_most_one-field_values ms f
-at_most_one-values_of ms (f ∷ fs) (suc field) = at_most_one-values_of ms fs field
-
--- no document of the block has a value twice in a field
-abbrev IsGoodBlock : Block → Type 0
-IsGoodBlock b = (field : ℕ) → HaveDifferentValues field (documents_of b)
-
-first_document_good : (s : Schema) (ms : Members) (b : Block) → first_document s ms ≡ Ok b → IsGoodBlock b
-first_document_good s ms b h = go (is_some (get_member (codes "id") ms)) h
-  where
-    made : Block
-    made = record { children = []; parent = map (field_values ms) s.fields }
-
-    made_good : IsGoodBlock made
-    made_good field =
-        let Differ : Document → Type 0 = λ d. AreDifferent (values_of d field) in
-        All-cons Differ made.parent [] (AreDifferent-at_most_one (values_of made.parent field) (at_most_one-values_of ms s.fields field)) (All-nil Differ)
-
-    go : (i : Bool) → cond i (Ok made) (Err no_id) ≡ Ok b → IsGoodBlock b
-    go true e = subst IsGoodBlock (Ok_one _ made b refl e) made_good
-    go false e = cc
-
-first_block_good : (s : Schema) (d : Data) (b : Block) → first_block_of s d ≡ Ok b → IsGoodBlock b
-first_block_good s (object ms) b h = go (members_fault s ms) h
-  where
-    go : (f : Option DocFault) → unless_fault f (first_document s ms) ≡ Ok b → IsGoodBlock b
-    go None e = first_document_good s ms b e
-    go (Some f) e = cc
-first_block_good s null b h = cc
-first_block_good s (boolean x) b h = cc
-first_block_good s (number n) b h = cc
-first_block_good s (string t) b h = cc
-first_block_good s (array ds) b h = cc
 
 -- ---- a line
 
@@ -125,9 +68,9 @@ add_of_good s d = of_doc (option_and_then (only_member (codes "doc")) (only_memb
     of_block (Ok b) good = GivesGood-Some (add 0 b) (good b refl)
     of_block (Err e) good = GivesGood-None
 
-    of_doc : (o : Option Data) → GivesGood (option_map (add 0) (option_and_then (λ doc. ok_of (first_block_of s doc)) o))
+    of_doc : (o : Option Data) → GivesGood (option_map (add 0) (option_and_then (λ doc. ok_of (block_of s doc)) o))
     of_doc None = GivesGood-None
-    of_doc (Some doc) = of_block (first_block_of s doc) (first_block_good s doc)
+    of_doc (Some doc) = of_block (block_of s doc) (block_good s doc)
 
 bare_of_good : (name : Text) (l : ScriptLine) (d : Data) → IsGoodLine l → GivesGood (bare_of name l d)
 bare_of_good name l d good = GivesGood-option_and_then _ (only_member name d) (λ inside. GivesGood-cond (is_empty_object inside) (Some l) None (GivesGood-Some l good) GivesGood-None)
@@ -194,10 +137,10 @@ Fits-line_after : (limits : Limits) (s : Schema) (earlier : List ScriptLine) (d 
 Fits-line_after limits s earlier d k fits h = go (said_by s d) (said_by_good s d) h
   where
     go : (o : Option ScriptLine) → GivesGood o
-        → option_and_then (λ l. cond (may_follow (last_or None earlier) l && is_new earlier l && within limits (blocks_of (earlier ++ l ∷ []))) (Some l) None) o ≡ Some k → Fits limits (earlier ++ k ∷ [])
+        → option_and_then (λ l. cond (may_stand limits earlier l) (Some l) None) o ≡ Some k → Fits limits (earlier ++ k ∷ [])
     go None good e = cc
     go (Some l) good e =
-        let found = cond_Some (may_follow (last_or None earlier) l && is_new earlier l && within limits (blocks_of (earlier ++ l ∷ []))) l k e in
+        let found = cond_Some (may_stand limits earlier l) l k e in
         let inside = (and_parts (may_follow (last_or None earlier) l && is_new earlier l) (within limits (blocks_of (earlier ++ l ∷ []))) found.0).1 in
         subst (λ m. Fits limits (earlier ++ m ∷ [])) found.1 (Fits-push limits earlier l fits (good l refl) inside)
 

@@ -1,12 +1,11 @@
 -- A script's lines, taken one value after another.
-use Rattle.std.proofs.Common.{◌≡◌, ℕ, suc, List, [], ◌∷◌, ◌++◌, length, Bool, true, false, cond, ◌&&◌, nat_lt, Option, Some, None, option_and_then, Result, Ok, Err, ok_or, refl}
-use Rattle.std.specs.List.{last_or}
+use Rattle.std.proofs.Common.{◌≡◌, ℕ, suc, List, [], ◌∷◌, ◌++◌, length, Bool, true, false, cond, nat_lt, Option, Some, None, option_and_then, Result, Ok, Err, ok_or, refl}
 use Rattle.serde_json.specs.Data.{Data}
 use Rattle.fc_spec.specs.Val.{Text}
 use Rattle.fc_spec.specs.Schema.{Schema}
 use Rattle.fc_spec.specs.ScriptFault.{not_json}
 use Rattle.fc_spec.specs.ScriptLines.{is_blank, json_of}
-use Rattle.fc_run.specs.FirstScript.{ScriptLine, not_built, faulty, FirstFault, Limits, line_after, said_by, may_follow, is_new, within, blocks_of}
+use Rattle.fc_run.specs.FirstScript.{ScriptLine, not_built, faulty, FirstFault, Limits, line_after, said_by, may_stand}
 use Rattle.fc_run.specs.FirstLines.{FirstScript, line_limit, given, lines_after, lines_from, schema_line}
 use Rattle.fc_run.specs.Said.{Left, Said, needed, said_at, said_behind, first_said}
 use Rattle.fc_run.specs.Drafted.{Drafted, with_said, with_value, with_left, numbered, finished}
@@ -29,7 +28,7 @@ by_test d p l true = refl
 by_test d p l false = refl
 
 by_line : (d : Drafted) (p : Said) (o : Option ScriptLine)
-    → given (option_and_then (λ l. cond (may_follow (last_or None d.lines) l && is_new d.lines l && within d.limits (blocks_of (d.lines ++ l ∷ []))) (Some l) None) o) p.number not_built
+    → given (option_and_then (λ l. cond (may_stand d.limits d.lines l) (Some l) None) o) p.number not_built
     (λ now. lines_after d.limits d.schema (d.lines ++ now ∷ []) (suc p.number) p.rest)
     ≡ behind p (numbered p.number (with_said d o))
 by_line d p None = refl

@@ -1,75 +1,20 @@
--- A block behind those before it: its ids, its documents and its values.
-use Rattle.std.proofs.Common.{◌≡◌, ℕ, ◌+◌, ◌-◌, ◌≤◌, List, [], ◌∷◌, ◌++◌, length, map, Bool, true, false, cond, ◌||◌, ◌&&◌, nat_le, Some, None, is_some, Ok, Err, refl, sym, ◌∙◌, ap, arith, length-append, append-nil}
-use Rattle.std.specs.List.{list_any, flat_map, sum_by}
+-- A block behind those before it: its documents and its values.
+use Rattle.std.proofs.Common.{◌≡◌, ℕ, ◌+◌, ◌-◌, ◌≤◌, List, [], ◌∷◌, ◌++◌, length, Bool, true, false, cond, ◌&&◌, nat_le, Some, None, is_some, Result, Ok, Err, refl, sym, ◌∙◌, ap, arith, length-append, append-nil}
+use Rattle.std.specs.List.{flat_map, sum_by}
 use Rattle.std.proofs.lemmas.Grind.{flat_map-append}
-use Rattle.std.proofs.lemmas.List.Folds.{list_any-append}
 use Rattle.std.proofs.lemmas.List.Sums.{sum_by-append}
 use Rattle.std.proofs.lemmas.Bool.{leb-true}
 use Rattle.std.proofs.lemmas.Bool.Decides.{nat_tests}
-use Rattle.fc_spec.specs.Val as definition
-use Rattle.fc_spec.specs.Val.{same_val, has_val}
+use Rattle.fc_spec.specs.Val.{Val}
 use Rattle.fc_spec.specs.Document.{Document, Block}
 use Rattle.fc_spec.specs.Totals.{documents_of, document_total, value_total}
-use Rattle.fc_base.specs.declared.value.Val.{Val}
-use Rattle.fc_base.specs.View.{val_view}
-use Rattle.fc_run.specs.FirstScript.{not_built, Limits, id_values, within}
-use Rattle.fc_run.specs.Gathered.{has_id_in, with_block, limits_after, limits_with, AreIdsOf}
-
--- ---- ids
-
-regroup : (a b c d : Bool) → ((a || b) || (c || d)) ≡ ((a || c) || (b || d))
-regroup true b c d = refl
-regroup false true true d = refl
-regroup false true false d = refl
-regroup false false c d = refl
-
--- one of two tests passes somewhere where one of them does
-any_of_two : {X : Type 0} (p q : X → Bool) (xs : List X) → list_any (λ x. p x || q x) xs ≡ (list_any p xs || list_any q xs)
-any_of_two p q [] = refl
-any_of_two p q (x ∷ xs) = ap (λ b. (p x || q x) || b) (any_of_two p q xs) ∙ regroup (p x) (q x) (list_any p xs) (list_any q xs)
-
-none : {X : Type 0} (xs : List X) → list_any (λ (x : X). false) xs ≡ false
-none [] = refl
-none (x ∷ xs) = none xs
-
--- tests of pairs, in either order
-any_swapped : {X Y : Type 0} (p : X → Y → Bool) (xs : List X) (ys : List Y) → list_any (λ x. list_any (p x) ys) xs ≡ list_any (λ y. list_any (λ x. p x y) xs) ys
-any_swapped p [] ys = sym (none ys)
-any_swapped p (x ∷ xs) ys =
-    ap (λ b. list_any (p x) ys || b) (any_swapped p xs ys) ∙ sym (any_of_two (p x) (λ y. list_any (λ z. p z y) xs) ys)
-
-same_any : {X : Type 0} (p q : X → Bool) (xs : List X) → ((x : X) → p x ≡ q x) → list_any p xs ≡ list_any q xs
-same_any p q [] same = refl
-same_any p q (x ∷ xs) same = ap (λ b. b || list_any p xs) (same x) ∙ ap (λ b. q x || b) (same_any p q xs same)
-
-any_of_views : (p : definition.Val → Bool) (xs : List Val) → list_any (λ x. p (val_view x)) xs ≡ list_any p (map val_view xs)
-any_of_views p [] = refl
-any_of_views p (x ∷ xs) = ap (λ b. p (val_view x) || b) (any_of_views p xs)
-
--- whether an id is known
-pub known : (keys xs : List Val) (blocks : List Block) (ids : List definition.Val) → AreIdsOf (map val_view keys) blocks → map val_view xs ≡ ids → list_any (λ x. has_val (val_view x) (map val_view keys)) xs ≡ has_id_in ids blocks
-known keys xs blocks ids are shown =
-    any_of_views (λ v. has_val v (map val_view keys)) xs
-    ∙ ap (λ vs. list_any (λ v. has_val v (map val_view keys)) vs) shown
-    ∙ same_any _ _ ids are.same
-    ∙ any_swapped (λ v c. has_val v (id_values c)) ids blocks
-
-flipped : (a b : Bool) → (a || b) ≡ (b || (a || false))
-flipped true true = refl
-flipped true false = refl
-flipped false true = refl
-flipped false false = refl
-
--- the ids with those of one more block
-pub ids_with : (old new xs : List Val) (blocks : List Block) (b : Block) → AreIdsOf (map val_view old) blocks → map val_view xs ≡ id_values b
-    → ((v : definition.Val) → has_val v (map val_view new) ≡ (has_val v (map val_view xs) || has_val v (map val_view old))) → AreIdsOf (map val_view new) (blocks ++ b ∷ [])
-ids_with old new xs blocks b are shown more = record {
-  same = λ v.
-      more v ∙ ap (λ vs. has_val v vs || has_val v (map val_view old)) shown
-      ∙ ap (λ t. has_val v (id_values b) || t) (are.same v)
-      ∙ flipped (has_val v (id_values b)) (list_any (λ c. has_val v (id_values c)) blocks)
-      ∙ sym (list_any-append (λ c. has_val v (id_values c)) blocks (b ∷ []));
-}
+use Rattle.fc_base.specs.declared.error.Refusal.{Refusal}
+use Rattle.fc_base.specs.declared.error.Refusal.TheVariants as refusal
+use Rattle.fc_run.specs.declared.fault.Fault.{Fault}
+use Rattle.fc_run.specs.View.{refused_view}
+use Rattle.fc_run.specs.FirstScript.{Refused, not_built, Limits, ids_of, are_new, within}
+use Rattle.fc_run.specs.Gathered.{Gathered, with_block, limits_after, limits_with, AreIdsOf, if_new}
+use Rattle.fc_run.proofs.NewIds.{new_among, by_test, not_by_test, Refuses}
 
 -- ---- documents and values
 
@@ -131,11 +76,21 @@ limits_with-append left after blocks b is =
 
 -- ---- the block behind the others
 
-pub with_block-known : (limits : Limits) (blocks : List Block) (b : Block) → has_id_in (id_values b) blocks ≡ true → with_block (record { limits = limits; blocks = blocks }) b ≡ Err not_built
-with_block-known limits blocks b known = rw known
+by_both : (new : Bool) (longer : Gathered) → new ≡ false → (fits : Bool) → cond {A = Result Gathered Refused} (new && fits) (Ok longer) (Err not_built) ≡ Err not_built
+by_both true longer e fits = cc
+by_both false longer e fits = refl
 
-pub with_block-taken : (left after : Limits) (blocks : List Block) (b : Block) → has_id_in (id_values b) blocks ≡ false → limits_after left b ≡ Some after
+-- an id is known, or stands twice
+pub with_block-refused : (limits : Limits) (ids : List Val) (blocks : List Block) (b : Block) (e : Refusal Fault) → AreIdsOf ids blocks → Refuses e (if_new ids (ids_of b)) → Refuses e (with_block (record { limits = limits; blocks = blocks }) b)
+with_block-refused limits ids blocks b refusal.Memory are refuses = tt
+with_block-refused limits ids blocks b (refusal.Fault fault) are refuses =
+    let parts = not_by_test (are_new ids (ids_of b)) (refused_view fault) refuses in
+    by_both (are_new (flat_map ids_of blocks) (ids_of b)) (record { limits = limits; blocks = blocks ++ b ∷ [] }) (sym (new_among ids blocks b are) ∙ parts.0) (within limits (blocks ++ b ∷ []))
+    ∙ ap (λ (r : Refused). Err r) (sym parts.1)
+
+pub with_block-taken : (left after : Limits) (ids : List Val) (blocks : List Block) (b : Block) → AreIdsOf ids blocks → if_new ids (ids_of b) ≡ Ok tt → limits_after left b ≡ Some after
     → with_block (record { limits = limits_with left blocks; blocks = blocks }) b ≡ Ok (record { limits = limits_with after (blocks ++ b ∷ []); blocks = blocks ++ b ∷ [] })
-with_block-taken left after blocks b unknown is =
-    let inside : within (limits_with left blocks) (blocks ++ b ∷ []) ≡ true = within-append left blocks b ∙ ap is_some is in
-    rw (unknown, inside) (ap (λ limits. Ok (record { limits = limits; blocks = blocks ++ b ∷ [] })) (sym (limits_with-append left after blocks b is)))
+with_block-taken left after ids blocks b are is fits =
+    let inside : within (limits_with left blocks) (blocks ++ b ∷ []) ≡ true = within-append left blocks b ∙ ap is_some fits in
+    let new : are_new (flat_map ids_of blocks) (ids_of b) ≡ true = sym (new_among ids blocks b are) ∙ by_test (are_new ids (ids_of b)) is in
+    rw (new, inside) (ap (λ limits. Ok (record { limits = limits; blocks = blocks ++ b ∷ [] })) (sym (limits_with-append left after blocks b fits)))

@@ -1,5 +1,5 @@
 -- A set of ids, beside the lists of the values that it has.
-use Rattle.std.proofs.Common.{◌≡◌, List, [], ◌∷◌, map, Bool, true, false, cond, ◌||◌, refl, sym, ◌∙◌, ap}
+use Rattle.std.proofs.Common.{◌≡◌, List, [], ◌∷◌, map, Bool, true, false, not, cond, ◌||◌, Ok, Err, refl, sym, ◌∙◌, ap}
 use Rattle.std.specs.List.{list_any}
 use Rattle.std.specs.Ordering.{on}
 use Rattle.std.specs.BTreeMap.{is_at}
@@ -9,6 +9,8 @@ use Rattle.fc_base.specs.declared.value.Val.{Val}
 use Rattle.fc_base.specs.declared.value.Val.TheVariants.{Text, Long}
 use Rattle.fc_base.specs.View.{val_view}
 use Rattle.fc_base.specs.ValOrder.{vals_equiv}
+use Rattle.fc_run.specs.FirstScript.{not_built, are_new}
+use Rattle.fc_run.specs.Gathered.{AreKnownToo, if_new}
 
 -- what a set has is among the values of its keys
 pub has_val-keys : (q : Val) (ks : List Val) → list_any (is_at (on val_view val_cmp q)) ks ≡ has_val (val_view q) (map val_view ks)
@@ -30,6 +32,26 @@ inserted id q old new more =
     ∙ ap (λ b. same_val (val_view q) (val_view id) || b) (has_val-keys q old)
 
 -- after an insert, every value is among those of the keys where it is the key's or was among them
-pub has_val-inserted : (id : Val) (old new : List Val) → HasOneMore id old new → (v : definition.Val) → has_val v (map val_view new) ≡ (same_val v (val_view id) || has_val v (map val_view old))
+has_val-inserted : (id : Val) (old new : List Val) → HasOneMore id old new → (v : definition.Val) → has_val v (map val_view new) ≡ (same_val v (val_view id) || has_val v (map val_view old))
 has_val-inserted id old new more (text t) = inserted id (Text t) old new more
 has_val-inserted id old new more (long n) = inserted id (Long n) old new more
+
+or_false : (t : Bool) → (t || false) ≡ t
+or_false true = refl
+or_false false = refl
+
+-- a key is new where a set has none like it
+one_new : (id : Val) (ks : List Val) (added : Bool) → added ≡ not (list_any (is_at (on val_view val_cmp id)) ks) → are_new (map val_view ks) (val_view id ∷ []) ≡ added
+one_new id ks added is = ap not (or_false (has_val (val_view id) (map val_view ks)) ∙ sym (has_val-keys id ks)) ∙ sym is
+
+-- what an insert says of its key: whether it was new
+pub if_new-added : (key id : Val) (ks : List Val) (added : Bool) → key ≡ id → added ≡ not (list_any (is_at (on val_view val_cmp key)) ks) → if_new (map val_view ks) (val_view id ∷ []) ≡ cond added (Ok tt) (Err not_built)
+if_new-added key id ks added same is = ap (λ k. if_new (map val_view ks) (val_view k ∷ [])) (sym same) ∙ ap (λ t. cond t (Ok tt) (Err not_built)) (one_new key ks added is)
+
+-- and that the key is known then
+pub known_too : (key id : Val) (old new : List Val) → key ≡ id → HasOneMore key old new → AreKnownToo (val_view id ∷ []) (map val_view old) (map val_view new)
+known_too key id old new same more = record {
+  members = λ v.
+      has_val-inserted key old new more v ∙ ap (λ k. same_val v (val_view k) || has_val v (map val_view old)) same
+      ∙ ap (λ t. t || has_val v (map val_view old)) (sym (or_false (same_val v (val_view id))));
+}

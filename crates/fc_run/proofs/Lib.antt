@@ -1,11 +1,14 @@
 pub mod CutLines
 pub mod LookedInto
 pub mod IdSets
+pub mod FieldTexts
+pub mod NewIds
 pub mod Gathering
 pub mod Drafting
 pub mod Following
 pub mod Reading
 pub mod DistinctValues
+pub mod GoodBlocks
 pub mod FirstPremises
 pub mod IndexOrder
 pub mod NoFloats

@@ -6,11 +6,11 @@ use Rattle.serde_json.specs.Data.{Data}
 use Rattle.fc_spec.specs.Val.{Text}
 use Rattle.fc_spec.specs.Schema.{Schema}
 use Rattle.fc_spec.specs.SchemaReading.{schema_of}
-use Rattle.fc_spec.specs.FirstForm.{is_first_schema, is_one_text, first_schema_of}
+use Rattle.fc_spec.specs.ValidBlocks.{holds_texts}
 use Rattle.fc_spec.specs.ScriptFault.{not_json}
 use Rattle.fc_spec.specs.ScriptLines.{lines_of, is_blank, json_of}
-use Rattle.fc_run.specs.FirstScript.{ScriptLine, not_built, faulty, FirstFault, Limits, only_member, line_after}
-use Rattle.fc_run.specs.FirstLines.{line_limit, script_limit, FirstScript, given, is_whole, lines_after, schema_line, lines_from, first_script}
+use Rattle.fc_run.specs.FirstScript.{ScriptLine, not_built, faulty, FirstFault, Limits, is_first_schema, only_member, line_after}
+use Rattle.fc_run.specs.FirstLines.{line_limit, script_limit, FirstScript, given, is_whole, lines_after, first_form, schema_line, lines_from, first_script}
 use Rattle.fc_run.proofs.FirstPremises.{Ok_one, cond_Some, unless_refused}
 
 -- the schema of a script that lines spell is the one that it was read with
@@ -52,24 +52,17 @@ OneShard-lines_after limits s earlier n (l ∷ ls) S one h =
     go false e ih blank = of_json (json_of l) ih e
 
 schema_one : (s : Schema) → is_first_schema s ≡ true → s.shards ≡ 1
-schema_one s e = same s.shards (and_parts (s.shards == 1) (list_all (λ f. is_one_text f.kind) s.fields) e).0
+schema_one s e = same s.shards (and_parts (s.shards == 1) (list_all (λ f. holds_texts f.kind) s.fields) e).0
   where
     same : (n : ℕ) → (n == 1) ≡ true → n ≡ 1
     same n e = grind arith
 
-first_schema_one : (d : Data) (s : Schema) → first_schema_of d ≡ Some s → s.shards ≡ 1
-first_schema_one d s h = go (schema_of d) h
+schema_line_one : (d : Data) (s : Schema) → schema_line d ≡ Some s → s.shards ≡ 1
+schema_line_one d s h = go (option_and_then schema_of (only_member (codes "schema") d)) h
   where
-    go : (o : Option Schema) → option_and_then (λ t. cond (is_first_schema t) (Some t) None) o ≡ Some s → s.shards ≡ 1
+    go : (o : Option Schema) → option_and_then first_form o ≡ Some s → s.shards ≡ 1
     go None e = cc
     go (Some t) e = let found = cond_Some (is_first_schema t) t s e in subst (λ u. u.shards ≡ 1) found.1 (schema_one t found.0)
-
-schema_line_one : (d : Data) (s : Schema) → schema_line d ≡ Some s → s.shards ≡ 1
-schema_line_one d s h = go (only_member (codes "schema") d) h
-  where
-    go : (o : Option Data) → option_and_then first_schema_of o ≡ Some s → s.shards ≡ 1
-    go None e = cc
-    go (Some inside) e = first_schema_one inside s e
 
 OneShard-lines_from : (limits : Limits) (n : ℕ) (ls : List Text) (S : FirstScript) → lines_from limits n ls ≡ Ok S → OneShard S
 OneShard-lines_from limits n [] S h = cc

@@ -4,7 +4,7 @@ use Rattle.std.specs.List.{filter, flat_map}
 use Rattle.std.proofs.Common.{refl, ap, ◌∙◌, append-nil}
 use Rattle.fc_spec.specs.Document.{Document, Block}
 use Rattle.fc_spec.specs.World.{Place, places, shard_places, block_places}
-use Rattle.fc_run.specs.PlainReply.{documents_in}
+use Rattle.fc_spec.specs.Totals.{documents_in}
 
 -- the documents of places
 abbrev pub documents_at : List Place → List Document

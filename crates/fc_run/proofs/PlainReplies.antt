@@ -17,8 +17,9 @@ use Rattle.fc_spec.specs.Values.{value_places, entries_in}
 use Rattle.fc_spec.specs.Printed.{terms_keys}
 use Rattle.fc_spec.specs.SortingLaw.{PagesAreCuts}
 use Rattle.fc_spec.specs.WithoutLimits.{IsExactWithoutLimits}
-use Rattle.fc_run.specs.FirstRequest.{one_facet}
-use Rattle.fc_run.specs.PlainReply.{plain_request, documents_in, documents_with, value_counts, counted_row, IsPlainOnOneShard}
+use Rattle.fc_spec.specs.Totals.{documents_in}
+use Rattle.fc_run.specs.FirstRequest.{one_facet, plain_request}
+use Rattle.fc_run.specs.PlainReply.{documents_with, value_counts, counted_row, IsPlainOnOneShard}
 use Rattle.fc_run.proofs.PlainPlaces.{documents_at, documents_at-places, flat_map-documents_at, documents_at-filter, filter_true}
 use Rattle.fc_run.proofs.PlainKeys.{every_value, terms_keys_are}
 

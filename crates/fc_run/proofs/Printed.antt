@@ -9,11 +9,11 @@ use Rattle.fc_spec.specs.Lines.{reply_line}
 use Rattle.fc_spec.specs.Outputs.{IsOutputBy}
 use Rattle.fc_spec.specs.RefinedPaths.{AreRefinedPathsExact}
 use Rattle.fc_spec.specs.WithoutLimits.{IsSingleWithoutLimits}
-use Rattle.fc_run.specs.PlainReply.{plain_request}
-use Rattle.fc_spec.specs.Totals.{document_total}
+use Rattle.fc_spec.specs.Totals.{documents_in, document_total}
 use Rattle.fc_base.specs.declared.error.WantMemory.{WantMemory}
 use Rattle.fc_docs.specs.View.{batch_view}
-use Rattle.fc_run.specs.PlainReply.{documents_in, HaveDifferentValues}
+use Rattle.fc_run.specs.FirstRequest.{plain_request}
+use Rattle.fc_run.specs.PlainReply.{HaveDifferentValues}
 use Rattle.fc_run.specs.FirstScript.{blocks_of}
 use Rattle.fc_run.specs.FirstLines.{FirstScript, script_limits}
 use Rattle.fc_run.specs.FirstView.{first_view}

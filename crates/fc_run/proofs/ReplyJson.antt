@@ -14,12 +14,12 @@ use Rattle.fc_spec.specs.Val.{Text}
 use Rattle.fc_spec.specs.Document as document
 use Rattle.fc_spec.specs.Reply.{bucket, no_facets, many}
 use Rattle.fc_spec.specs.Json.{natural_data, bucket_data, listed_items, put_row}
-use Rattle.fc_spec.specs.Totals.{documents_of, document_total}
+use Rattle.fc_spec.specs.Totals.{documents_of, documents_in, document_total}
 use Rattle.fc_base.specs.declared.value.Val.{Val}
 use Rattle.fc_base.specs.View.{val_view}
 use Rattle.fc_docs.specs.declared.block.Block.{Block}
 use Rattle.fc_docs.specs.View.{block_view}
-use Rattle.fc_run.specs.PlainReply.{documents_in, value_counts, counted_row, plain_reply}
+use Rattle.fc_run.specs.PlainReply.{value_counts, counted_row, plain_reply}
 
 -- the bucket of an entry
 abbrev pub entry_data : Bor Val × ℕ → Data

@@ -14,19 +14,19 @@ use Rattle.std.proofs.lemmas.List.Sums.{sum_by-append, sum_by-cons, count_by-le-
 use Rattle.fc_spec.specs.Val as definition
 use Rattle.fc_spec.specs.Val.{val_cmp, same_val, has_val, distinct}
 use Rattle.fc_spec.specs.Document.{Document, values_of}
-use Rattle.fc_spec.specs.Totals.{documents_of}
+use Rattle.fc_spec.specs.Totals.{documents_of, documents_in}
 use Rattle.fc_base.specs.declared.value.Val.{Val}
 use Rattle.fc_base.specs.View.{val_view}
 use Rattle.fc_docs.specs.declared.block.Block.{Block}
 use Rattle.fc_docs.specs.View.{block_view}
-use Rattle.fc_run.specs.PlainReply.{documents_in, values_at, documents_with, value_counts, AreDifferent, HaveDifferentValues}
+use Rattle.fc_run.specs.PlainReply.{values_at, documents_with, value_counts, AreDifferent, HaveDifferentValues}
 use Rattle.fc_run.specs.Tally.{Tally, tally_view, key_cmp, with_more, Counts, HasRoom}
 use Rattle.fc_run.proofs.IndexOrder.{val_cmp_total, val_cmp_exact, same_val_exact}
 use Rattle.fc_run.proofs.SameEntries.{same_entries}
 use Rattle.fc_run.proofs.DistinctValues.{has_val-distinct, distinct_ascends}
 
 -- a test that no member passes counts none, and one that some member passes counts one at least
-list_any-false : {X : Type 0} (p : X → Bool) (xs : List X) → list_any p xs ≡ false → count_by p xs ≡ 0
+pub list_any-false : {X : Type 0} (p : X → Bool) (xs : List X) → list_any p xs ≡ false → count_by p xs ≡ 0
 list_any-false p [] h = refl
 list_any-false p (x ∷ xs) h =
     let parts = or_parts (p x) (list_any p xs) h in

@@ -1,9 +1,9 @@
 -- A script as far as it has been read, and what the lines behind make of it.
-use Rattle.std.specs.Prelude.{ℕ, suc, List, [], ◌∷◌, ◌++◌, ◌&&◌, Option, None, Some, Result, Ok, Err, if◌then◌else◌}
+use Rattle.std.specs.Prelude.{ℕ, suc, List, [], ◌∷◌, ◌++◌, Option, None, Some, Result, Ok, Err, if◌then◌else◌}
 use Rattle.std.specs.List.{last_or}
 use Rattle.serde_json.specs.Data.{Data}
 use Rattle.fc_spec.specs.Schema.{Schema}
-use Rattle.fc_run.specs.FirstScript.{ScriptLine, Refused, not_built, FirstFault, Limits, said_by, may_follow, is_new, within, blocks_of}
+use Rattle.fc_run.specs.FirstScript.{ScriptLine, Refused, not_built, FirstFault, Limits, said_by, may_stand}
 use Rattle.fc_run.specs.FirstLines.{FirstScript, is_whole, lines_after}
 use Rattle.fc_run.specs.Said.{Left}
 
@@ -15,10 +15,7 @@ pub record Drafted : Type 0 where
 
 -- with a line behind the others, where it may stand there
 abbrev pub with_line : Drafted → ScriptLine → Result Drafted Refused
-with_line d l =
-    if may_follow (last_or None d.lines) l && is_new d.lines l && within d.limits (blocks_of (d.lines ++ l ∷ []))
-    then Ok (record d { lines = d.lines ++ l ∷ [] })
-    else Err not_built
+with_line d l = if may_stand d.limits d.lines l then Ok (record d { lines = d.lines ++ l ∷ [] }) else Err not_built
 
 -- with what a value says
 abbrev pub with_said : Drafted → Option ScriptLine → Result Drafted Refused

@@ -4,7 +4,7 @@ use Rattle.std.specs.List.{last_or}
 use Rattle.serde_json.specs.Data.{Data, no_members, string as json_string, put}
 use Rattle.fc_spec.specs.Val.{Text}
 use Rattle.fc_spec.specs.Schema.{Schema}
-use Rattle.fc_spec.specs.FirstForm.{first_schema_of}
+use Rattle.fc_spec.specs.SchemaReading.{schema_of}
 use Rattle.fc_spec.specs.Request.{Request}
 use Rattle.fc_spec.specs.RequestFault.{RequestFault}
 use Rattle.fc_spec.specs.ScriptFault.{not_json, too_long}
@@ -12,7 +12,7 @@ use Rattle.fc_spec.specs.ScriptLines.{lines_of, is_blank, json_of}
 use Rattle.fc_spec.specs.Script.{asks, Script}
 use Rattle.fc_spec.specs.Json.{natural_data}
 use Rattle.fc_spec.specs.Lines.{line_of, fault_line}
-use Rattle.fc_run.specs.FirstScript.{ScriptLine, Refused, not_built, faulty, FirstFault, Limits, only_member, line_after}
+use Rattle.fc_run.specs.FirstScript.{ScriptLine, Refused, not_built, faulty, FirstFault, Limits, is_first_schema, only_member, line_after}
 
 -- no more bytes in a line, without its LF, and in all
 abbrev pub line_limit : ℕ
@@ -43,9 +43,13 @@ lines_after limits s earlier n (l ∷ ls) =
     else (if is_blank l then lines_after limits s earlier (suc n) ls
     else given (json_of l) n (faulty not_json) (λ d. given (line_after limits s earlier d) n not_built (λ now. lines_after limits s (earlier ++ now ∷ []) (suc n) ls)))
 
+-- the schema, where it is one of this form
+abbrev pub first_form : Schema → Option Schema
+first_form s = if is_first_schema s then Some s else None
+
 -- the schema that a line is
 abbrev pub schema_line : Data → Option Schema
-schema_line d = option_and_then first_schema_of (only_member (codes "schema") d)
+schema_line d = option_and_then first_form (option_and_then schema_of (only_member (codes "schema") d))
 
 -- the lines from the n-th on, none of which was more than blank so far: the first that is more must be the schema
 abbrev pub lines_from : Limits → ℕ → List Text → Result FirstScript FirstFault

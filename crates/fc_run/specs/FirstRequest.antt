@@ -40,6 +40,10 @@ whole_terms field = terms (record {
 abbrev pub one_facet : Text → ℕ → Nodes
 one_facet name field = facet (record { name = name; change = record { exclude = []; block = stay; filters = [] }; kind = whole_terms field }) no_nodes no_nodes
 
+-- every document, and one terms facet of this name over this field
+abbrev pub plain_request : Text → ℕ → Request
+plain_request name field = record { query = all; filters = []; nodes = one_facet name field }
+
 -- the name is taken by what each bucket has
 abbrev pub is_reserved : Text → Bool
 is_reserved name = same_text name (codes "count") || same_text name (codes "val")

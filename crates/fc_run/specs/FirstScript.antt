@@ -1,18 +1,19 @@
--- The first form of script: a schema, adds, one commit, one sync, one search; and the first fault of another script.
-use Rattle.std.specs.Prelude.{ℕ, List, [], ◌∷◌, ◌++◌, length, codes, Bool, true, false, not, ◌&&◌, ◌==◌, nat_le, Option, None, Some, option_map, option_and_then, Result, Ok, Err, if◌then◌else◌}
-use Rattle.std.specs.List.{list_any, filter_map, last_or}
+-- The first form of script: a schema of one shard whose fields hold texts, adds, one commit, one sync, one search; and the first fault of another script.
+use Rattle.std.specs.Prelude.{ℕ, List, [], ◌∷◌, ◌++◌, length, codes, Bool, true, false, not, ◌&&◌, ◌||◌, ◌==◌, nat_le, Option, None, Some, option_map, option_and_then, Result, Ok, Err, if◌then◌else◌}
+use Rattle.std.specs.List.{list_all, list_any, filter_map, flat_map, last_or}
 use Rattle.serde_json.specs.Data.{Data, object, Members, no_members, member}
 use Rattle.serde_json.specs.Find.{get_member, as_str}
 use Rattle.fc_spec.specs.Val.{Text, Val, same_text, has_val}
 use Rattle.fc_spec.specs.Document.{Block, values_of}
 use Rattle.fc_spec.specs.Schema.{Schema}
 use Rattle.fc_spec.specs.SchemaReading.{member_count}
-use Rattle.fc_spec.specs.FirstForm.{first_block_of}
+use Rattle.fc_spec.specs.BlockReading.{block_of}
+use Rattle.fc_spec.specs.ValidBlocks.{holds_texts}
 use Rattle.fc_spec.specs.Request.{Request}
 use Rattle.fc_spec.specs.RequestFault.{RequestFault}
 use Rattle.fc_spec.specs.ScriptFault.{LineFault}
 use Rattle.fc_spec.specs.Script.{Line, add, commit, sync, asks, added_to}
-use Rattle.fc_spec.specs.Totals.{document_total, value_total}
+use Rattle.fc_spec.specs.Totals.{documents_of, document_total, value_total}
 use Rattle.fc_run.specs.FirstRequest.{request_of}
 
 -- a line after the schema; a search asks a request, which has no fault here
@@ -34,6 +35,10 @@ pub record Limits : Type 0 where
   pub documents : ℕ
   pub values : ℕ
 
+-- one shard, and every field holds texts
+abbrev pub is_first_schema : Schema → Bool
+is_first_schema s = (s.shards == 1) && list_all (λ f. holds_texts f.kind) s.fields
+
 -- the value of an object's only member, where it has this name
 abbrev pub only_member : Text → Data → Option Data
 only_member name (object (member k d no_members)) = if same_text name k then Some d else None
@@ -49,7 +54,7 @@ ok_of (Err e) = None
 
 -- `{"add":{"doc":D}}`
 abbrev pub add_of : Schema → Data → Option ScriptLine
-add_of s d = option_map (add 0) (option_and_then (λ doc. ok_of (first_block_of s doc)) (option_and_then (only_member (codes "doc")) (only_member (codes "add") d)))
+add_of s d = option_map (add 0) (option_and_then (λ doc. ok_of (block_of s doc)) (option_and_then (only_member (codes "doc")) (only_member (codes "add") d)))
 
 -- an object of one empty object of this name
 abbrev pub bare_of : Text → ScriptLine → Data → Option ScriptLine
@@ -96,19 +101,31 @@ may_follow _ _ = false
 abbrev pub blocks_of : List ScriptLine → List Block
 blocks_of ls = filter_map (added_to 0) ls
 
--- the values of the `id` of a block's parent
-abbrev pub id_values : Block → List Val
-id_values b = values_of b.parent 0
+-- the `id` values of a block's documents, children and parent alike
+abbrev pub ids_of : Block → List Val
+ids_of b = flat_map (λ d. values_of d 0) (documents_of b)
 
--- an add's id stands in no earlier one
+-- a value stands twice in the list
+abbrev pub has_repeat : List Val → Bool
+has_repeat [] = false
+has_repeat (v ∷ vs) = has_val v vs || has_repeat vs
+
+-- no value of a list stands twice in it, or among those known before
+abbrev pub are_new : (known vs : List Val) → Bool
+are_new known vs = not (has_repeat vs) && not (list_any (λ v. has_val v known) vs)
+
+-- no id of an add stands twice in its block, or in an earlier one
 abbrev pub is_new : List ScriptLine → ScriptLine → Bool
-is_new earlier (add s b) = not (list_any (λ c. list_any (λ v. has_val v (id_values c)) (id_values b)) (blocks_of earlier))
+is_new earlier (add s b) = are_new (flat_map ids_of (blocks_of earlier)) (ids_of b)
 is_new earlier _ = true
 
 abbrev pub within : Limits → List Block → Bool
 within limits blocks = nat_le (document_total blocks) limits.documents && nat_le (value_total blocks) limits.values
 
+-- whether a line may stand behind the earlier ones
+abbrev pub may_stand : Limits → List ScriptLine → ScriptLine → Bool
+may_stand limits earlier l = may_follow (last_or None earlier) l && is_new earlier l && within limits (blocks_of (earlier ++ l ∷ []))
+
 -- the line that may stand behind the earlier ones
 abbrev pub line_after : Limits → Schema → List ScriptLine → Data → Option ScriptLine
-line_after limits s earlier d =
-    option_and_then (λ l. if may_follow (last_or None earlier) l && is_new earlier l && within limits (blocks_of (earlier ++ l ∷ [])) then Some l else None) (said_by s d)
+line_after limits s earlier d = option_and_then (λ l. if may_stand limits earlier l then Some l else None) (said_by s d)

@@ -1,24 +1,20 @@
 -- The blocks of a script so far, and whether one more has a place among them.
-use Rattle.std.specs.Prelude.{◌≡◌, ◌+◌, ◌-◌, List, [], ◌∷◌, ◌++◌, length, sum_by, Bool, not, ◌&&◌, nat_le, Option, None, Some, Result, Ok, Err, if◌then◌else◌}
-use Rattle.std.specs.List.{list_any}
+use Rattle.std.specs.Prelude.{◌≡◌, ◌+◌, ◌-◌, List, [], ◌∷◌, ◌++◌, length, sum_by, ◌&&◌, ◌||◌, nat_le, Option, None, Some, Result, Ok, Err, if◌then◌else◌}
+use Rattle.std.specs.List.{flat_map}
 use Rattle.fc_spec.specs.Val.{Val, has_val}
 use Rattle.fc_spec.specs.Document.{Block}
 use Rattle.fc_spec.specs.Totals.{documents_of, document_total, value_total}
-use Rattle.fc_run.specs.FirstScript.{Refused, not_built, Limits, id_values, within}
+use Rattle.fc_run.specs.FirstScript.{Refused, not_built, Limits, ids_of, are_new, within}
 
 -- with the limits that they are held to
 pub record Gathered : Type 0 where
   pub limits : Limits
   pub blocks : List Block
 
--- one of the values is an `id` of one of the blocks
-abbrev pub has_id_in : List Val → List Block → Bool
-has_id_in ids blocks = list_any (λ c. list_any (λ v. has_val v (id_values c)) ids) blocks
-
--- with a block behind the others, where its `id` is new and the limits allow it
+-- with a block behind the others, where its ids are new and the limits allow it
 abbrev pub with_block : Gathered → Block → Result Gathered Refused
 with_block g b =
-    if not (has_id_in (id_values b) g.blocks) && within g.limits (g.blocks ++ b ∷ [])
+    if are_new (flat_map ids_of g.blocks) (ids_of b) && within g.limits (g.blocks ++ b ∷ [])
     then Ok (record g { blocks = g.blocks ++ b ∷ [] })
     else Err not_built
 
@@ -37,4 +33,12 @@ limits_with left blocks = record { documents = left.documents + document_total b
 
 -- the ids are the blocks'
 pub record AreIdsOf (ids : List Val) (blocks : List Block) : Type 0 where
-  pub same : (v : Val) → has_val v ids ≡ list_any (λ c. has_val v (id_values c)) blocks
+  pub same : (v : Val) → has_val v ids ≡ has_val v (flat_map ids_of blocks)
+
+-- the values are known too, beside those known before
+pub record AreKnownToo (vs old new : List Val) : Type 0 where
+  pub members : (v : Val) → has_val v new ≡ (has_val v vs || has_val v old)
+
+-- nothing, where the values are new
+abbrev pub if_new : (known vs : List Val) → Result (Unit {0}) Refused
+if_new known vs = if are_new known vs then Ok tt else Err not_built

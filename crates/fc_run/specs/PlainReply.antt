@@ -3,20 +3,10 @@ use Rattle.std.specs.Prelude.{◌≡◌, ℕ, List, [], ◌∷◌, map, count_by
 use Rattle.std.specs.List.{flat_map}
 use Rattle.fc_spec.specs.Val.{Text, Val, same_val, has_val, distinct}
 use Rattle.fc_spec.specs.Document.{Document, Block, values_of}
-use Rattle.fc_spec.specs.Totals.{documents_of, document_total}
-use Rattle.fc_spec.specs.Query.{all}
-use Rattle.fc_spec.specs.Request.{Request}
+use Rattle.fc_spec.specs.Totals.{documents_in, document_total}
 use Rattle.fc_spec.specs.Reply.{listed, Bucket, bucket, no_facets, many, Row, no_parts, part}
 use Rattle.fc_spec.specs.Distributed.{distributed}
-use Rattle.fc_run.specs.FirstRequest.{one_facet}
-
--- every document, and one terms facet of this name over this field
-abbrev pub plain_request : Text → ℕ → Request
-plain_request name field = record { query = all; filters = []; nodes = one_facet name field }
-
--- the documents of the blocks, in their order
-abbrev pub documents_in : List Block → List Document
-documents_in blocks = flat_map documents_of blocks
+use Rattle.fc_run.specs.FirstRequest.{plain_request}
 
 -- the values in a field: one for each pair of a document and a value of it
 abbrev pub values_at : ℕ → List Document → List Val

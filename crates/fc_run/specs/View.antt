@@ -1,14 +1,13 @@
 -- What the types of this crate stand for in the definitions.
-use Rattle.std.specs.Prelude.{ℕ, [], None, Ok, codes}
+use Rattle.std.specs.Prelude.{ℕ, None, Ok, codes}
 use Rattle.fc_base.specs.declared.error.Refusal.{Refusal}
 use Rattle.fc_base.specs.declared.error.Refusal.TheVariants as refusal
 use Rattle.fc_spec.specs.Val.{Text}
 use Rattle.fc_spec.specs.ScriptFault.{not_json, too_long, line_fault_name, line_fault_number}
-use Rattle.fc_spec.specs.Query.{all}
 use Rattle.fc_spec.specs.Request.{Nodes, Request}
 use Rattle.fc_spec.specs.Script.{add, commit, sync, asks}
 use Rattle.fc_docs.specs.View.{block_view}
-use Rattle.fc_run.specs.FirstRequest.{one_facet}
+use Rattle.fc_run.specs.FirstRequest.{one_facet, plain_request}
 use Rattle.fc_run.specs.FirstScript as definition
 use Rattle.fc_run.specs.declared.fault.Fault.{Fault}
 use Rattle.fc_run.specs.declared.fault.Fault.TheVariants.{NotBuilt, NotJson, TooLong}
@@ -48,7 +47,7 @@ abbrev pub facet_view : Facet → Nodes
 facet_view f = one_facet f.name f.field.0
 
 abbrev pub request_view : Facet → Request
-request_view f = record { query = all; filters = []; nodes = facet_view f }
+request_view f = plain_request f.name f.field.0
 
 -- a session's search
 abbrev pub search_view : Search → definition.ScriptLine

@@ -1,18 +1,15 @@
 // The blocks that a script adds.
-ghost use Rattle.std.specs.Prelude.{◌≡◌, ◌-◌, ◌||◌, [], length, map, sum_by, nat_le, IfOk, OnOk, Some, None, option_map, if◌then◌else◌, IsTrue};
-ghost use Rattle.std.specs.List.{list_any};
-ghost use Rattle.fc_spec.specs.Val as definition;
-ghost use Rattle.fc_spec.specs.Val.{has_val, same_val};
+ghost use Rattle.std.specs.Prelude.{◌≡◌, ◌-◌, [], ◌∷◌, length, map, sum_by, nat_le, IfOk, OnOk, Some, None, option_map, if◌then◌else◌, IsTrue};
 ghost use Rattle.fc_base.specs.View.{val_view};
 ghost use Rattle.fc_base.specs.Answers.{Answers};
 ghost use Rattle.fc_docs.specs.View.{block_view};
-ghost use Rattle.fc_run.specs.FirstScript.{within};
+ghost use Rattle.fc_run.specs.FirstScript.{ids_of, within};
 ghost use Rattle.fc_run.specs.View.{refused_view, limits_view};
-ghost use Rattle.fc_run.specs.Gathered.{limits_after as left_after, with_block};
+ghost use Rattle.fc_run.specs.Gathered.{AreKnownToo, if_new, limits_after as left_after, with_block};
 
 use crate::fault::Fault;
 use crate::limits::Limits;
-use fc_base::{FieldId, Refusal, Val, WantMemory};
+use fc_base::{FieldId, Refusal, Val};
 use fc_docs::{Block, Document};
 use std::alloc::Global;
 use std::collections::BTreeSet;
@@ -20,35 +17,44 @@ use std::marker::Model;
 
 const ID: FieldId = FieldId(0);
 
-fn has_id(ids: &BTreeSet<Val>, id: &Val) -> bool
-    ensures { result ≡ has_val (val_view id.now) (map val_view ids.now.keys) }
+/// Makes an id known, which was not known.
+fn insert_id(alloc: Global, ids: &mut BTreeSet<Val>, id: &Val) -> Result<(), Refusal<Fault>>
+    ensures new { Answers (λ done. tt) refused_view result
+        (if_new (map val_view ids.old.keys) (val_view id.now ∷ [])) }
+    ensures known { OnOk result
+        (AreKnownToo (val_view id.now ∷ []) (map val_view ids.old.keys) (map val_view ids.new.keys)) }
 {
-    ids.contains(id)
+    if ids.insert(id.copy(alloc)?)? {
+        Ok(())
+    } else {
+        Err(Refusal::Fault(Fault::NotBuilt))
+    }
 }
 
-/// Whether one of the values is among the ids.
-fn has_any(ids: &BTreeSet<Val>, values: &[Val]) -> bool
-    ensures { result ≡ list_any (λ value. has_val (val_view value) (map val_view ids.now.keys)) values.now }
-{
-    values.iter().any(|value| has_id(ids, value))
-}
-
-fn insert_id(alloc: Global, ids: &mut BTreeSet<Val>, id: &Val) -> Result<(), WantMemory>
-    ensures { OnOk result ((v : definition.Val) → has_val v (map val_view ids.new.keys)
-        ≡ (same_val v (val_view id.now) || has_val v (map val_view ids.old.keys))) }
-{
-    ids.insert(id.copy(alloc)?)?;
-    Ok(())
-}
-
-fn insert_all(alloc: Global, ids: &mut BTreeSet<Val>, values: &[Val]) -> Result<(), WantMemory>
-    ensures { OnOk result ((v : definition.Val) → has_val v (map val_view ids.new.keys)
-        ≡ (has_val v (map val_view values.now) || has_val v (map val_view ids.old.keys))) }
+/// Makes each of the values known, none of which was known or stands there twice.
+fn insert_all(alloc: Global, ids: &mut BTreeSet<Val>, values: &[Val]) -> Result<(), Refusal<Fault>>
+    ensures new { Answers (λ done. tt) refused_view result
+        (if_new (map val_view ids.old.keys) (map val_view values.now)) }
+    ensures known { OnOk result
+        (AreKnownToo (map val_view values.now) (map val_view ids.old.keys) (map val_view ids.new.keys)) }
 {
     for value in values {
         insert_id(alloc, ids, value)?;
     }
     Ok(())
+}
+
+/// Makes the ids of a block's documents known, none of which was known or stands there twice.
+fn insert_ids(alloc: Global, ids: &mut BTreeSet<Val>, block: &Block) -> Result<(), Refusal<Fault>>
+    ensures new { Answers (λ done. tt) refused_view result
+        (if_new (map val_view ids.old.keys) (ids_of (block_view block.now))) }
+    ensures known { OnOk result (AreKnownToo (ids_of (block_view block.now))
+        (map val_view ids.old.keys) (map val_view ids.new.keys)) }
+{
+    for child in &block.children {
+        insert_all(alloc, ids, child.values(ID))?;
+    }
+    insert_all(alloc, ids, block.parent.values(ID))
 }
 
 /// What is left of the room when each value of the documents takes one place, where there is enough.
@@ -112,7 +118,7 @@ impl Added {
         }
     }
 
-    /// The blocks with one more, where its id is new and the limits leave room for it.
+    /// The blocks with one more, where its ids are new and the limits leave room for it.
     pub(crate) fn with(self, alloc: Global, block: Block) -> Result<Added, Refusal<Fault>>
         ensures added { Answers (λ added. added) refused_view result (with_block self (block_view block)) }
         ensures held { IfOk result (λ added. IsTrue (within added.limits added.blocks)) }
@@ -122,13 +128,10 @@ impl Added {
             mut ids,
             left,
         } = self;
-        if has_any(&ids, block.parent.values(ID)) {
-            return Err(Refusal::Fault(Fault::NotBuilt));
-        }
         let Some(left) = limits_after(left, &block) else {
             return Err(Refusal::Fault(Fault::NotBuilt));
         };
-        insert_all(alloc, &mut ids, block.parent.values(ID))?;
+        insert_ids(alloc, &mut ids, &block)?;
         blocks.push(block)?;
         Ok(Added { blocks, ids, left })
     }

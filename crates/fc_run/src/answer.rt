@@ -8,7 +8,7 @@ ghost use Rattle.fc_run.specs.Outcome.{ArePrinted, IsAnswer, IsSpelled, too_many
 
 use crate::fault::{Fault, FirstFault};
 use crate::first::{First, read_first};
-use crate::limits::Limits;
+use crate::limits::SCRIPT_LIMITS;
 use crate::refusal::refused_line;
 use crate::reply::reply_line;
 use fc_base::{Refusal, WantMemory};
@@ -21,11 +21,6 @@ pub(crate) enum Answer {
     Lines(Vec<u8>),
     Fault(Vec<u8>),
 }
-
-const SCRIPT_LIMITS: Limits = Limits {
-    documents: 1_048_576,
-    values: 16_777_216,
-};
 
 /// The line of the one search.
 fn printed(alloc: Global, first: &First) -> Result<Vec<u8>, WantMemory>

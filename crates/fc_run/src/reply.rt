@@ -2,14 +2,15 @@
 ghost use Rattle.std.specs.Prelude.{◌≡◌, ◌^◌, ◌<◌, [], ◌∷◌, map, codes, Some, IfOk};
 ghost use Rattle.serde_json.specs.Data.{string, array, object, member, no_members, put};
 ghost use Rattle.serde_json.specs.View.{view};
-ghost use Rattle.fc_spec.specs.Totals.{document_total};
+ghost use Rattle.fc_spec.specs.Totals.{documents_in, document_total};
 ghost use Rattle.fc_spec.specs.Reply.{bucket, no_facets};
 ghost use Rattle.fc_spec.specs.Json.{natural_data, val_data, bucket_data, listed_items};
 ghost use Rattle.fc_spec.specs.Lines.{numbers_data, reply_line};
 ghost use Rattle.fc_spec.specs.Distributed.{distributed};
 ghost use Rattle.fc_base.specs.View.{val_view};
 ghost use Rattle.fc_docs.specs.View.{block_view};
-ghost use Rattle.fc_run.specs.PlainReply.{plain_request, documents_in, HaveDifferentValues, counted_row, plain_reply, IsPlainOnOneShard};
+ghost use Rattle.fc_run.specs.FirstRequest.{plain_request};
+ghost use Rattle.fc_run.specs.PlainReply.{HaveDifferentValues, counted_row, plain_reply, IsPlainOnOneShard};
 ghost use Rattle.fc_run.specs.Tally.{tally_view};
 
 use crate::tally::{Tally, tally_values};

@@ -3,8 +3,8 @@ ghost use Rattle.std.specs.Prelude.{◌≡◌, ◌^◌, ◌<◌, [], ◌∷◌, 
 ghost use Rattle.fc_spec.specs.Document.{values_of};
 ghost use Rattle.fc_base.specs.View.{val_view};
 ghost use Rattle.fc_docs.specs.View.{block_view};
-ghost use Rattle.fc_spec.specs.Totals.{documents_of, document_total};
-ghost use Rattle.fc_run.specs.PlainReply.{values_at, documents_in, value_counts, HaveDifferentValues};
+ghost use Rattle.fc_spec.specs.Totals.{documents_of, documents_in, document_total};
+ghost use Rattle.fc_run.specs.PlainReply.{values_at, value_counts, HaveDifferentValues};
 ghost use Rattle.fc_run.specs.Tally.{tally_view, Counts, HasRoom};
 
 use fc_base::{FieldId, Val, WantMemory};

@@ -9,13 +9,11 @@ ghost use Rattle.fc_run.specs.Outcome.{by_single_index, takes, Ends, IfDone, IsC
 ghost use Rattle.fc_run.specs.declared.status.Status.TheVariants.{Usage};
 
 use crate::answer::{Answer, answer_to, too_long};
+use crate::limits::SCRIPT_LIMIT;
 use crate::status::Status;
 use fc_base::WantMemory;
 use fc_io::{AllRead, Sink, Source, WriteEnd, read_all, write_all};
 use std::alloc::Global;
-
-/// No more bytes in a script.
-const SCRIPT_LIMIT: usize = 67_108_864;
 
 /// Writes the answer, where there is one.
 fn give<K: Sink>(sink: &mut K, answer: &Result<Answer, WantMemory>) -> Status

@@ -51,7 +51,6 @@ pub mod Merging
 pub mod RoundsEnd
 pub mod ScriptLines
 pub mod SchemaReading
-pub mod FirstForm
 pub mod Walks
 pub mod IntegerTexts
 pub mod BlockReading

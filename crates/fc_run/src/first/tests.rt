@@ -1,7 +1,7 @@
 // Scripts at every rule of the first form.
 use super::{First, read_first};
 use crate::fault::{Fault, FirstFault};
-use crate::limits::Limits;
+use crate::limits::{Limits, SCRIPT_LIMIT, SCRIPT_LIMITS};
 use fc_base::{FieldId, Refusal, Val};
 use std::alloc::Global;
 use std::test::Fail;
@@ -23,11 +23,6 @@ const REQUEST: &str =
 
 const SEARCH: &str =
     r#"{"search":{"session":"a","request":{"query":"*:*","facet":{"cats":{"type":"terms","field":"cat","limit":-1,"sort":"index"}}}}}"#;
-
-const LIMITS: Limits = Limits {
-    documents: 1_048_576,
-    values: 16_777_216,
-};
 
 const fn not_built(line: u32) -> Result<usize, FirstFault> {
     Err(FirstFault {
@@ -100,7 +95,11 @@ fn lines_in_order(rt: HostRuntime) -> Result<(), Fail> {
     ];
     for (lines, wanted) in rows {
         let text = script(alloc, lines)?;
-        assert_eq!(rt; outcome(alloc, LIMITS, text.as_bytes())?, *wanted, "{text}");
+        assert_eq!(rt;
+            outcome(alloc, SCRIPT_LIMITS, text.as_bytes())?,
+            *wanted,
+            "{text}"
+        );
     }
     Ok(())
 }
@@ -175,7 +174,11 @@ fn each_line(rt: HostRuntime) -> Result<(), Fail> {
     ];
     for (place, line, wanted) in rows {
         let text = replaced(alloc, *place, line)?;
-        assert_eq!(rt; outcome(alloc, LIMITS, text.as_bytes())?, *wanted, "{text}");
+        assert_eq!(rt;
+            outcome(alloc, SCRIPT_LIMITS, text.as_bytes())?,
+            *wanted,
+            "{text}"
+        );
     }
     Ok(())
 }
@@ -189,7 +192,7 @@ fn outcome_of_search(
 ) -> Result<Result<usize, FirstFault>, Fail> {
     let line = format!(in alloc; "{head}{middle}{tail}")?;
     let text = replaced(alloc, 4, line.as_str())?;
-    outcome(alloc, LIMITS, text.as_bytes())
+    outcome(alloc, SCRIPT_LIMITS, text.as_bytes())
 }
 
 fn wanted_of(is_taken: bool) -> Result<usize, FirstFault> {
@@ -344,7 +347,7 @@ fn sizes(rt: HostRuntime) -> Result<(), Fail> {
         let line = filled(alloc, head, *fill, *count, tail)?;
         let text = replaced(alloc, *place, line.as_str())?;
         assert_eq!(rt;
-            outcome(alloc, LIMITS, text.as_bytes())?,
+            outcome(alloc, SCRIPT_LIMITS, text.as_bytes())?,
             *wanted,
             "{head}, {count}"
         );
@@ -375,19 +378,19 @@ fn limits_and_bytes(rt: HostRuntime) -> Result<(), Fail> {
             "{documents}, {values}"
         );
     }
-    assert_eq!(rt; outcome(alloc, LIMITS, b"")?, not_built(0));
-    assert_eq!(rt; outcome(alloc, LIMITS, b"\"\xff\"")?, not_json(1));
-    assert_eq!(rt; outcome(alloc, LIMITS, b"\0")?, not_json(1));
-    let too_long = vec![in alloc; b'\n'; 67_108_865]?;
+    assert_eq!(rt; outcome(alloc, SCRIPT_LIMITS, b"")?, not_built(0));
+    assert_eq!(rt; outcome(alloc, SCRIPT_LIMITS, b"\"\xff\"")?, not_json(1));
+    assert_eq!(rt; outcome(alloc, SCRIPT_LIMITS, b"\0")?, not_json(1));
+    let too_long = vec![in alloc; b'\n'; SCRIPT_LIMIT + 1]?;
     let fault = FirstFault {
         line: 0,
         fault: Fault::TooLong,
     };
-    assert_eq!(rt; outcome(alloc, LIMITS, &too_long)?, Err(fault));
+    assert_eq!(rt; outcome(alloc, SCRIPT_LIMITS, &too_long)?, Err(fault));
     let without_lf = bytes.len().saturating_sub(1);
-    assert_eq!(rt; outcome(alloc, LIMITS, &bytes[..without_lf])?, Ok(2));
+    assert_eq!(rt; outcome(alloc, SCRIPT_LIMITS, &bytes[..without_lf])?, Ok(2));
     let crs = text.replace(alloc, "\n", "\r\n")?;
-    assert_eq!(rt; outcome(alloc, LIMITS, crs.as_bytes())?, Ok(2));
+    assert_eq!(rt; outcome(alloc, SCRIPT_LIMITS, crs.as_bytes())?, Ok(2));
     Ok(())
 }
 
@@ -401,7 +404,7 @@ fn what_is_read(rt: HostRuntime) -> Result<(), Fail> {
             batch,
             search,
         },
-    ) = read_first(alloc, LIMITS, text.as_bytes())
+    ) = read_first(alloc, SCRIPT_LIMITS, text.as_bytes())
     else {
         return Err(Fail::from("no script"));
     };

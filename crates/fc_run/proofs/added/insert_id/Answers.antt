@@ -1,10 +1,17 @@
-use Rattle.std.proofs.Common.{◌||◌, map, ◌∙◌, ap}
-use Rattle.fc_spec.specs.Val.{same_val, has_val}
-use Rattle.fc_base.specs.View.{val_view}
-use Rattle.fc_run.proofs.IdSets.{has_val-inserted}
+use Rattle.std.proofs.Common.{Result, Ok, Err, cond, ◌∙◌, ap}
+use Rattle.fc_run.specs.FirstScript.{Refused, not_built}
+use Rattle.fc_run.proofs.IdSets.{if_new-added, known_too}
 use Rattle.fc_run.proofs.added.insert_id.Goals as goal
 
-pub returns : goal.returns
-returns c = λ v.
-    has_val-inserted c.in_ok-copy.field-0 _ _ c.in_ok-insert.ensures.updates.0 v
-    ∙ ap (λ id. same_val v (val_view id) || has_val v (map val_view c.args.ids.now.keys)) c.in_ok-copy.ensures
+pub returns-then-branch-clause-new : goal.returns-then-branch-clause-new
+returns-then-branch-clause-new c =
+    if_new-added c.in_ok-copy.field-0 c.args.id.now c.args.ids.now.keys c.in_ok-insert.field-0 c.in_ok-copy.ensures c.in_ok-insert.ensures.added
+    ∙ ap (λ t. cond {A = Result (Unit {0}) Refused} t (Ok tt) (Err not_built)) c.if-branch.true
+
+pub returns-then-branch-clause-known : goal.returns-then-branch-clause-known
+returns-then-branch-clause-known c = known_too c.in_ok-copy.field-0 c.args.id.now c.args.ids.now.keys _ c.in_ok-copy.ensures c.in_ok-insert.ensures.updates.0
+
+pub returns-else-branch-clause-new : goal.returns-else-branch-clause-new
+returns-else-branch-clause-new c =
+    if_new-added c.in_ok-copy.field-0 c.args.id.now c.args.ids.now.keys c.in_ok-insert.field-0 c.in_ok-copy.ensures c.in_ok-insert.ensures.added
+    ∙ ap (λ t. cond {A = Result (Unit {0}) Refused} t (Ok tt) (Err not_built)) c.if-branch.false

@@ -1,7 +1,7 @@
 use Rattle.std.proofs.Common.{map, arith}
-use Rattle.fc_spec.specs.Totals.{documents_of}
+use Rattle.fc_spec.specs.Totals.{documents_of, documents_in}
 use Rattle.fc_docs.specs.View.{block_view}
-use Rattle.fc_run.specs.PlainReply.{values_at, documents_in}
+use Rattle.fc_run.specs.PlainReply.{values_at}
 use Rattle.fc_run.proofs.TallySteps.{Counts-none, Counts-more, Counts-all, HasRoom-at}
 use Rattle.fc_run.proofs.TallyCounts.{HasRoom-start, values_at-blocks, tally_view-counted}
 use Rattle.fc_run.proofs.tally.tally_values.Goals as goal
