@@ -12,6 +12,16 @@ const ADD: &str = r#"{"add":{"doc":{"id":"1","cat":"b"}}}"#;
 
 const ADD_2: &str = r#"{"add":{"doc":{"id":"2","cat":"a"}}}"#;
 
+/// A parent 3 with a child 1.
+const ADD_3: &str = r#"{"add":{"doc":{"id":"3","_childDocuments_":[{"id":"1"}]}}}"#;
+
+/// A parent 4 with a child 1.
+const ADD_4: &str = r#"{"add":{"doc":{"id":"4","_childDocuments_":[{"id":1}]}}}"#;
+
+/// Three documents and five values.
+const FAMILY: &str =
+    r#"{"add":{"doc":{"id":"3","cat":["a"],"_childDocuments_":[{"id":"1"},{"id":"2","cat":"b"}]}}}"#;
+
 const COMMIT: &str = r#"{"commit":{}}"#;
 
 const SYNC: &str = r#"{"sync":{}}"#;
@@ -92,6 +102,10 @@ fn lines_in_order(rt: HostRuntime) -> Result<(), Fail> {
         (&[SCHEMA, COMMIT, SYNC, SEARCH, "", SEARCH], not_built(6)),
         (&[SCHEMA, COMMIT, SYNC, SEARCH, "{"], not_json(5)),
         (&[SCHEMA, ADD, ADD_2, ADD], not_built(4)),
+        (&[SCHEMA, ADD_2, ADD_3, COMMIT, SYNC, SEARCH], Ok(2)),
+        (&[SCHEMA, ADD, ADD_3], not_built(3)),
+        (&[SCHEMA, ADD_3, ADD], not_built(3)),
+        (&[SCHEMA, ADD_3, ADD_2, ADD_4], not_built(4)),
     ];
     for (lines, wanted) in rows {
         let text = script(alloc, lines)?;
@@ -120,7 +134,22 @@ fn each_line(rt: HostRuntime) -> Result<(), Fail> {
         ),
         (
             0,
-            r#"{"schema":{"shards":1,"fields":{"cat":"strings"}}}"#,
+            r#"{"schema":{"shards":1,"fields":{"cat":"strings","dog":"string"}}}"#,
+            Ok(1),
+        ),
+        (
+            0,
+            r#"{"schema":{"shards":1,"fields":{"cat":"string","n":"plong"}}}"#,
+            not_built(1),
+        ),
+        (
+            0,
+            r#"{"schema":{"shards":1,"fields":{"a":"plongs","cat":"string"}}}"#,
+            not_built(1),
+        ),
+        (
+            0,
+            r#"{"schema":{"shards":0,"fields":{"cat":"string"}}}"#,
             not_built(1),
         ),
         (
@@ -151,14 +180,6 @@ fn each_line(rt: HostRuntime) -> Result<(), Fail> {
         (1, r#"{"add":{"doc":{"id":"1"}},"commit":{}}"#, not_built(2)),
         (1, r#"{"add":{"doc":{"cat":"b"}}}"#, not_built(2)),
         (1, r#"{"add":{"doc":{"id":"1","dog":"b"}}}"#, not_built(2)),
-        (
-            1,
-            r#"{"add":{"doc":{"id":"1","_version_":"b"}}}"#,
-            not_built(2),
-        ),
-        (1, r#"{"add":{"doc":{"id":"1","cat":null}}}"#, not_built(2)),
-        (1, r#"{"add":{"doc":{"id":"1","cat":["b"]}}}"#, not_built(2)),
-        (1, r#"{"add":{"doc":{"id":1}}}"#, not_built(2)),
         (1, r#"{"add":{"doc":[]}}"#, not_built(2)),
         (1, r#"{"add":{}}"#, not_built(2)),
         (1, r#"{"add":{"doc":{"id":"1"}}"#, not_json(2)),
@@ -178,6 +199,72 @@ fn each_line(rt: HostRuntime) -> Result<(), Fail> {
             outcome(alloc, SCRIPT_LIMITS, text.as_bytes())?,
             *wanted,
             "{text}"
+        );
+    }
+    Ok(())
+}
+
+#[test]
+fn each_block(rt: HostRuntime) -> Result<(), Fail> {
+    let alloc = rt.alloc();
+    // The members of the parent's object, and whether the block is taken.
+    let rows: &[(&str, bool)] = &[
+        (r#""id":1"#, true),
+        (r#""id":["1"]"#, true),
+        (r#""id":-9223372036854775808"#, true),
+        (r#""id":9223372036854775808"#, false),
+        (r#""id":1.0"#, false),
+        (r#""id":true"#, false),
+        (r#""id":null"#, false),
+        (r#""id":[]"#, false),
+        (r#""id":["1","2"]"#, false),
+        (r#""id":"1","cat":null"#, true),
+        (r#""id":"1","cat":[null,"b",null]"#, true),
+        (r#""id":"1","cat":["b","b"]"#, false),
+        (r#""id":"1","cat":[["b"]]"#, false),
+        (r#""id":"1","cat":{}"#, false),
+        (r#""id":"1","_version_":{"a":1},"__":0"#, true),
+        (r#""id":"1","_":0"#, false),
+        (r#""id":"1","_root":0"#, false),
+        (r#""id":"1","_childDocuments_":null"#, true),
+        (r#""id":"1","_childDocuments_":[]"#, true),
+        (
+            r#""id":"1","_childDocuments_":[{"id":"2"},{"id":3,"cat":"b"}]"#,
+            true,
+        ),
+        (r#""id":"1","_childDocuments_":{"id":"2"}"#, false),
+        (r#""id":"1","_childDocuments_":[null]"#, false),
+        (r#""id":"1","_childDocuments_":[{"cat":"b"}]"#, false),
+        (
+            r#""id":"1","_childDocuments_":[{"id":"2","dog":"b"}]"#,
+            false,
+        ),
+        (
+            r#""id":"1","_childDocuments_":[{"id":"2","_childDocuments_":[]}]"#,
+            true,
+        ),
+        (
+            r#""id":"1","_childDocuments_":[{"id":"2","_childDocuments_":[{"id":"3"}]}]"#,
+            false,
+        ),
+        (r#""id":"1","_childDocuments_":[{"id":"1"}]"#, false),
+        (
+            r#""id":"1","_childDocuments_":[{"id":"2"},{"id":2}]"#,
+            false,
+        ),
+        (
+            r#""id":7,"_childDocuments_":[{"id":"2"},{"id":"07"}]"#,
+            true,
+        ),
+    ];
+    for (members, is_taken) in rows {
+        let line = format!(in alloc; "{{\"add\":{{\"doc\":{{{members}}}}}}}")?;
+        let text = replaced(alloc, 1, line.as_str())?;
+        let wanted = if *is_taken { Ok(1) } else { not_built(2) };
+        assert_eq!(rt;
+            outcome(alloc, SCRIPT_LIMITS, text.as_bytes())?,
+            wanted,
+            "{members}"
         );
     }
     Ok(())
@@ -336,6 +423,14 @@ fn sizes(rt: HostRuntime) -> Result<(), Fail> {
         (1, head, 'b', 32_766, r#""}}}"#, Ok(1)),
         (1, head, 'b', 32_767, r#""}}}"#, not_built(2)),
         (1, head, 'é', 16_383, r#""}}}"#, Ok(1)),
+        (
+            1,
+            r#"{"add":{"doc":{"id":"1","_cat_":""#,
+            'b',
+            32_767,
+            r#""}}}"#,
+            Ok(1),
+        ),
         (3, SYNC, ' ', 1_048_576 - 11, "", Ok(1)),
         (3, SYNC, ' ', 1_048_576 - 10, "", not_built(4)),
         (3, "{", ' ', 1_048_576, "", not_built(4)),
@@ -360,14 +455,18 @@ fn limits_and_bytes(rt: HostRuntime) -> Result<(), Fail> {
     let alloc = rt.alloc();
     let text = script(alloc, &[SCHEMA, ADD, ADD_2, COMMIT, SYNC, SEARCH])?;
     let bytes = text.as_bytes();
-    let rows: &[(u64, u64, Result<usize, FirstFault>)] = &[
-        (2, 4, Ok(2)),
-        (1, 4, not_built(3)),
-        (2, 3, not_built(3)),
-        (2, 1, not_built(2)),
-        (0, 0, not_built(2)),
+    let family = script(alloc, &[SCHEMA, FAMILY, COMMIT, SYNC, SEARCH])?;
+    let rows: &[(&[u8], u64, u64, Result<usize, FirstFault>)] = &[
+        (bytes, 2, 4, Ok(2)),
+        (bytes, 1, 4, not_built(3)),
+        (bytes, 2, 3, not_built(3)),
+        (bytes, 2, 1, not_built(2)),
+        (bytes, 0, 0, not_built(2)),
+        (family.as_bytes(), 3, 5, Ok(1)),
+        (family.as_bytes(), 2, 5, not_built(2)),
+        (family.as_bytes(), 3, 4, not_built(2)),
     ];
-    for (documents, values, wanted) in rows {
+    for (bytes, documents, values, wanted) in rows {
         let limits = Limits {
             documents: *documents,
             values: *values,

@@ -46,7 +46,7 @@ fn script_of(
 ) -> Result<String, Fail> {
     let mut script = String::from_str(
         alloc,
-        r#"{"schema":{"shards":1,"fields":{"cat":"string"}}}"#,
+        r#"{"schema":{"shards":1,"fields":{"cat":"string","tags":"strings"}}}"#,
     )?;
     for document in documents {
         script.push_str("\n{\"add\":{\"doc\":")?;
@@ -145,6 +145,11 @@ fn long_scripts(rt: HostRuntime) -> Result<(), Fail> {
 #[test]
 fn lines_by_hand(rt: HostRuntime) -> Result<(), Fail> {
     let alloc = rt.alloc();
+    let families: &[&str] = &[
+        r#"{"id":"p1","tags":["x","y","x"],"_childDocuments_":[{"id":"c1","tags":"y"},{"id":"c2","tags":["z","y"],"cat":"b"}]}"#,
+        r#"{"id":7,"tags":[],"cat":null,"_childDocuments_":[],"_version_":1}"#,
+        r#"{"id":"p3","tags":[10,null,"x"]}"#,
+    ];
     // The documents, the session, the name and the field of the facet, and the line without its LF.
     let rows: &[(&[&str], &str, &str, &str, &str)] = &[
         (
@@ -191,6 +196,27 @@ fn lines_by_hand(rt: HostRuntime) -> Result<(), Fail> {
             "",
             "cat",
             r#"{"facets":{"":{"buckets":[{"count":1,"val":""},{"count":1,"val":"\n\u0001"},{"count":1,"val":"\"\\"},{"count":2,"val":"ß/"}]},"count":5},"generations":[1],"session":"a\""}"#,
+        ),
+        (
+            families,
+            "a",
+            "t",
+            "tags",
+            r#"{"facets":{"count":5,"t":{"buckets":[{"count":1,"val":"10"},{"count":2,"val":"x"},{"count":3,"val":"y"},{"count":1,"val":"z"}]}},"generations":[1],"session":"a"}"#,
+        ),
+        (
+            families,
+            "a",
+            "ids",
+            "id",
+            r#"{"facets":{"count":5,"ids":{"buckets":[{"count":1,"val":"7"},{"count":1,"val":"c1"},{"count":1,"val":"c2"},{"count":1,"val":"p1"},{"count":1,"val":"p3"}]}},"generations":[1],"session":"a"}"#,
+        ),
+        (
+            families,
+            "a",
+            "cats",
+            "cat",
+            r#"{"facets":{"cats":{"buckets":[{"count":1,"val":"b"}]},"count":5},"generations":[1],"session":"a"}"#,
         ),
     ];
     for (texts, session, name, field, wanted) in rows {
