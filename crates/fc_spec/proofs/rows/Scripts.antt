@@ -209,13 +209,13 @@ unfolding written is_utf8 chars
 fourth_value = refl
 
 -- ---- sums are over each field by itself, of absolute values
-abbrev documents : List Document
-documents = (said "1" ∷ [] ∷ (long (negsuc 4) ∷ long (pos 2) ∷ []) ∷ []) ∷ (said "2" ∷ [] ∷ (long (pos 9) ∷ []) ∷ []) ∷ []
+abbrev pair : List Document
+pair = (said "1" ∷ [] ∷ (long (negsuc 4) ∷ long (pos 2) ∷ []) ∷ []) ∷ (said "2" ∷ [] ∷ (long (pos 9) ∷ []) ∷ []) ∷ []
 
-pub sum_of_a_field : absolute_total documents 2 ≡ 16
+pub sum_of_a_field : absolute_total pair 2 ≡ 16
 sum_of_a_field = refl
 
-pub no_sum_of_texts : absolute_total documents 0 ≡ 0
+pub no_sum_of_texts : absolute_total pair 0 ≡ 0
 no_sum_of_texts = refl
 
 -- ---- a sum before the number of documents
