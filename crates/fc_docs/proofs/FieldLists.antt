@@ -12,7 +12,7 @@ use Rattle.fc_base.specs.declared.value.Val.{Val}
 use Rattle.fc_base.specs.View.{val_view}
 use Rattle.fc_docs.specs.Fields.{FieldValues, values_at, EndBelow, document_of}
 
-length-document_of : (count : ℕ) (m : FieldValues) → length (document_of count m) ≡ count
+pub length-document_of : (count : ℕ) (m : FieldValues) → length (document_of count m) ≡ count
 length-document_of count m = length-map-range_with_len (values_at m) 0 count
 
 pub count_of_length : (count n : ℕ) (m : FieldValues) (d : Document) → document_of count m ≡ d → n < length d → n < count

@@ -1,4 +1,6 @@
+pub mod AbsoluteSums
 pub mod DifferentValues
+pub mod Entries
 pub mod FieldLists
 pub mod Items
 pub mod MemberFields

@@ -1,9 +1,16 @@
 // Documents.
-ghost use Rattle.std.specs.Prelude.{◌≡◌, ◌-◌, ◌<◌, [], OnErr, OnOk, length, map, nat_le, replicate, slice_set, sum_by, if◌then◌else◌};
+mod sums;
+#[cfg(test)]
+mod tests;
+
+ghost use Rattle.std.specs.Prelude.{◌≡◌, ℕ, ◌+◌, ◌-◌, ◌<◌, ◌≤◌, [], All, OnErr, OnOk, length, map, nat_le, replicate, slice_index, slice_set, sum_by, if◌then◌else◌};
+ghost use Rattle.std.specs.Bool.{OnTrue};
+ghost use Rattle.std.specs.List.{list_all, range_with_len};
 ghost use Rattle.std.specs.BTreeMap.{IsOrdered, values};
 ghost use Rattle.std.specs.Ordering.{nat_cmp};
 ghost use Rattle.fc_base.specs.View.{val_view};
 ghost use Rattle.fc_spec.specs.Document.{values_of};
+ghost use Rattle.fc_docs.specs.Sums.{absolute_sum};
 
 use fc_base::{FieldId, Val, WantMemory};
 use std::alloc::Global;
@@ -68,6 +75,23 @@ impl Document {
             if nat_le count room then Some (room - count) else None) }
     {
         room_after(&self.values, room)
+    }
+
+    /// Adds the absolute values of the integers in each field to the field's sum, and says whether
+    /// every sum stayed within 9,223,372,036,854,775,807. Where one did not, nothing is claimed of
+    /// the sums.
+    pub fn add_to_sums(&self, sums: &mut [u64]) -> bool
+        requires room { length self.now ≤ length sums.old }
+        requires within { All (λ sum. sum ≤ 9_223_372_036_854_775_807) sums.old }
+        ensures fits { result ≡ list_all
+            (λ field. nat_le (slice_index sums.old field + absolute_sum self.now field)
+            9_223_372_036_854_775_807)
+            (range_with_len 0 (length self.now)) }
+        ensures sums { OnTrue result ((field : ℕ) →
+            slice_index sums.new field ≡ slice_index sums.old field + absolute_sum self.now field) }
+        ensures still { OnTrue result (All (λ sum. sum ≤ 9_223_372_036_854_775_807) sums.new) }
+    {
+        sums::add_to_sums(&self.values, sums)
     }
 }
 
