@@ -5,6 +5,8 @@ mod builder;
 mod column;
 mod parents;
 mod segment;
+#[cfg(test)]
+mod tests;
 
 pub use column::Column;
 pub use segment::Segment;
