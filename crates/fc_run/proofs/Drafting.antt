@@ -11,7 +11,8 @@ use Rattle.fc_run.specs.declared.said.Line.TheVariants as line
 use Rattle.fc_run.specs.declared.draft.Draft.{Draft}
 use Rattle.fc_run.specs.declared.draft.Stage.{Stage}
 use Rattle.fc_run.specs.declared.draft.Stage.TheVariants as stage
-use Rattle.fc_run.specs.FirstScript.{ScriptLine, Refused, not_built, FirstFault, Limits, may_follow, ids_of, are_new, is_new, within, blocks_of}
+use Rattle.fc_spec.specs.ScriptTotals.{Limits}
+use Rattle.fc_run.specs.FirstScript.{ScriptLine, Refused, not_built, FirstFault, may_follow, ids_of, are_new, is_new, within, blocks_of}
 use Rattle.fc_run.specs.FirstLines.{FirstScript, is_whole}
 use Rattle.fc_run.specs.Gathered.{Gathered, with_block}
 use Rattle.fc_run.specs.Drafted.{Drafted, with_line, finished}

@@ -17,8 +17,10 @@ use Rattle.fc_spec.specs.SchemaReading.{member_count}
 use Rattle.fc_spec.specs.Request.{Request}
 use Rattle.fc_spec.specs.Script.{add, commit, sync, asks, added_to}
 use Rattle.fc_run.specs.FirstRequest.{request_of}
-use Rattle.fc_run.specs.FirstScript.{ScriptLine, not_built, faulty, FirstFault, Limits, may_follow, is_new, only_member, is_empty_object, ok_of, add_of, bare_of, session_of, search_of_members, search_of_object, search_of, or_else, said_by, blocks_of, within, may_stand, line_after}
-use Rattle.fc_run.specs.FirstLines.{line_limit, script_limit, FirstScript, given, is_whole, lines_after, schema_line, lines_from, first_script}
+use Rattle.fc_spec.specs.ScriptTotals.{Limits}
+use Rattle.fc_run.specs.FirstScript.{ScriptLine, not_built, faulty, FirstFault, may_follow, is_new, only_member, is_empty_object, ok_of, add_of, bare_of, session_of, search_of_members, search_of_object, search_of, or_else, said_by, blocks_of, within, may_stand, line_after}
+use Rattle.fc_spec.specs.ScriptReading.{line_limit, script_limit}
+use Rattle.fc_run.specs.FirstLines.{FirstScript, given, is_whole, lines_after, schema_line, lines_from, first_script}
 use Rattle.fc_spec.specs.ScriptFault.{not_json}
 use Rattle.fc_spec.specs.ScriptLines.{lines_of, is_blank, json_of}
 use Rattle.fc_run.specs.PlainReply.{AreDifferent, HaveDifferentValues}

@@ -5,8 +5,10 @@ use Rattle.fc_spec.specs.Val.{Text}
 use Rattle.fc_spec.specs.Schema.{Schema}
 use Rattle.fc_spec.specs.ScriptFault.{not_json}
 use Rattle.fc_spec.specs.ScriptLines.{is_blank, json_of}
-use Rattle.fc_run.specs.FirstScript.{ScriptLine, not_built, faulty, FirstFault, Limits, line_after, said_by, may_stand}
-use Rattle.fc_run.specs.FirstLines.{FirstScript, line_limit, given, lines_after, lines_from, schema_line}
+use Rattle.fc_spec.specs.ScriptTotals.{Limits}
+use Rattle.fc_run.specs.FirstScript.{ScriptLine, not_built, faulty, FirstFault, line_after, said_by, may_stand}
+use Rattle.fc_spec.specs.ScriptReading.{line_limit}
+use Rattle.fc_run.specs.FirstLines.{FirstScript, given, lines_after, lines_from, schema_line}
 use Rattle.fc_run.specs.Said.{Left, Said, needed, said_at, said_behind, first_said}
 use Rattle.fc_run.specs.Drafted.{Drafted, with_said, with_value, with_left, numbered, finished}
 

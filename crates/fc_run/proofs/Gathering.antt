@@ -6,13 +6,14 @@ use Rattle.std.proofs.lemmas.List.Sums.{sum_by-append}
 use Rattle.std.proofs.lemmas.Bool.{leb-true}
 use Rattle.std.proofs.lemmas.Bool.Decides.{nat_tests}
 use Rattle.fc_spec.specs.Val.{Val}
-use Rattle.fc_spec.specs.Document.{Document, Block}
-use Rattle.fc_spec.specs.Totals.{documents_of, document_total, value_total}
+use Rattle.fc_spec.specs.Document.{Block}
+use Rattle.fc_spec.specs.Totals.{documents_of, document_total, value_count, value_total}
 use Rattle.fc_base.specs.declared.error.Refusal.{Refusal}
 use Rattle.fc_base.specs.declared.error.Refusal.TheVariants as refusal
 use Rattle.fc_run.specs.declared.fault.Fault.{Fault}
 use Rattle.fc_run.specs.View.{refused_view}
-use Rattle.fc_run.specs.FirstScript.{Refused, not_built, Limits, ids_of, are_new, within}
+use Rattle.fc_spec.specs.ScriptTotals.{Limits}
+use Rattle.fc_run.specs.FirstScript.{Refused, not_built, ids_of, are_new, within}
 use Rattle.fc_run.specs.Gathered.{Gathered, with_block, limits_after, limits_with, AreIdsOf, if_new}
 use Rattle.fc_run.proofs.NewIds.{new_among, by_test, not_by_test, Refuses}
 
@@ -24,12 +25,8 @@ documents_joined blocks b = flat_map-append documents_of blocks (b ∷ []) ∙ a
 document_total-append : (blocks : List Block) (b : Block) → document_total (blocks ++ b ∷ []) ≡ document_total blocks + length (documents_of b)
 document_total-append blocks b = ap length (documents_joined blocks b) ∙ length-append (flat_map documents_of blocks) (documents_of b)
 
--- the number of values of documents
-abbrev value_sum : List Document → ℕ
-value_sum ds = sum_by (λ d. sum_by (λ vs. length vs) d) ds
-
-value_total-append : (blocks : List Block) (b : Block) → value_total (blocks ++ b ∷ []) ≡ value_total blocks + value_sum (documents_of b)
-value_total-append blocks b = ap value_sum (documents_joined blocks b) ∙ sum_by-append (λ d. sum_by (λ vs. length vs) d) (flat_map documents_of blocks) (documents_of b)
+value_total-append : (blocks : List Block) (b : Block) → value_total (blocks ++ b ∷ []) ≡ value_total blocks + value_count (documents_of b)
+value_total-append blocks b = ap value_count (documents_joined blocks b) ∙ sum_by-append (λ d. sum_by (λ vs. length vs) d) (flat_map documents_of blocks) (documents_of b)
 
 fits : (total left n : ℕ) → nat_le (total + n) (left + total) ≡ nat_le n left
 fits total left n = grind (arith, nat_tests)
@@ -43,8 +40,8 @@ pub within-append : (left : Limits) (blocks : List Block) (b : Block) → within
 within-append left blocks b =
     ap (λ n. nat_le n (left.documents + document_total blocks) && nat_le (value_total (blocks ++ b ∷ [])) (left.values + value_total blocks)) (document_total-append blocks b)
     ∙ ap (λ n. nat_le (document_total blocks + length (documents_of b)) (left.documents + document_total blocks) && nat_le n (left.values + value_total blocks)) (value_total-append blocks b)
-    ∙ ap (λ t. t && nat_le (value_total blocks + value_sum (documents_of b)) (left.values + value_total blocks)) (fits (document_total blocks) left.documents (length (documents_of b)))
-    ∙ ap (λ t. nat_le (length (documents_of b)) left.documents && t) (fits (value_total blocks) left.values (value_sum (documents_of b)))
+    ∙ ap (λ t. t && nat_le (value_total blocks + value_count (documents_of b)) (left.values + value_total blocks)) (fits (document_total blocks) left.documents (length (documents_of b)))
+    ∙ ap (λ t. nat_le (length (documents_of b)) left.documents && t) (fits (value_total blocks) left.values (value_count (documents_of b)))
     ∙ sym (is_some-cond _ _)
 
 abbrev limits : (documents values : ℕ) → Limits
@@ -68,7 +65,7 @@ same_limits a b c d first second = ap (λ n. limits n c) first ∙ ap (λ n. lim
 -- what a block takes is what is left less
 pub limits_with-append : (left after : Limits) (blocks : List Block) (b : Block) → limits_after left b ≡ Some after → limits_with after (blocks ++ b ∷ []) ≡ limits_with left blocks
 limits_with-append left after blocks b is =
-    let parts = taken _ _ left after (length (documents_of b)) (value_sum (documents_of b)) refl refl is in
+    let parts = taken _ _ left after (length (documents_of b)) (value_count (documents_of b)) refl refl is in
     let documents = document_total-append blocks b in
     let values = value_total-append blocks b in
     same_limits (after.documents + document_total (blocks ++ b ∷ [])) (left.documents + document_total blocks) (after.values + value_total (blocks ++ b ∷ [])) (left.values + value_total blocks)

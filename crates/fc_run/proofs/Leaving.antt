@@ -7,7 +7,9 @@ use Rattle.fc_base.specs.declared.error.WantMemory.{WantMemory}
 use Rattle.fc_io.specs.AllRead.{TakesSome}
 use Rattle.fc_io.specs.WriteEnd.{AppendsFront}
 use Rattle.fc_run.specs.FirstScript.{FirstFault}
-use Rattle.fc_run.specs.FirstLines.{FirstScript, script_limit, first_script, script_limits, lines_from}
+use Rattle.fc_spec.specs.ScriptTotals.{script_limits}
+use Rattle.fc_spec.specs.ScriptReading.{script_limit}
+use Rattle.fc_run.specs.FirstLines.{FirstScript, first_script, lines_from}
 use Rattle.fc_spec.specs.ScriptLines.{lines_of}
 use Rattle.fc_run.specs.Outcome.{IsWhole, Leaves, IsAnswer, Ends, too_many}
 use Rattle.fc_run.specs.declared.answer.Answer.{Answer}

@@ -6,12 +6,13 @@ use Rattle.std.proofs.lemmas.List.{take_all, take_more, take-append-drop}
 use Rattle.std.proofs.lemmas.List.Concat.{flat_map-append}
 use Rattle.std.proofs.lemmas.List.Folds.{list_any-append}
 use Rattle.fc_spec.specs.Val.{Val, same_val, has_val}
+use Rattle.fc_spec.specs.ScriptTotals.{has_repeat}
 use Rattle.fc_spec.specs.Document.{Block, values_of}
 use Rattle.fc_base.specs.declared.error.Refusal.{Refusal}
 use Rattle.fc_base.specs.declared.error.Refusal.TheVariants as refusal
 use Rattle.fc_run.specs.declared.fault.Fault.{Fault}
 use Rattle.fc_run.specs.View.{refused_view}
-use Rattle.fc_run.specs.FirstScript.{Refused, not_built, ids_of, has_repeat, are_new}
+use Rattle.fc_run.specs.FirstScript.{Refused, not_built, ids_of, are_new}
 use Rattle.fc_run.specs.Gathered.{AreIdsOf, AreKnownToo, if_new}
 use Rattle.fc_run.proofs.IndexOrder.{same_val_equiv}
 

@@ -9,8 +9,10 @@ use Rattle.fc_spec.specs.SchemaReading.{schema_of}
 use Rattle.fc_spec.specs.ValidBlocks.{holds_texts}
 use Rattle.fc_spec.specs.ScriptFault.{not_json}
 use Rattle.fc_spec.specs.ScriptLines.{lines_of, is_blank, json_of}
-use Rattle.fc_run.specs.FirstScript.{ScriptLine, not_built, faulty, FirstFault, Limits, is_first_schema, only_member, line_after}
-use Rattle.fc_run.specs.FirstLines.{line_limit, script_limit, FirstScript, given, is_whole, lines_after, first_form, schema_line, lines_from, first_script}
+use Rattle.fc_spec.specs.ScriptTotals.{Limits}
+use Rattle.fc_run.specs.FirstScript.{ScriptLine, not_built, faulty, FirstFault, is_first_schema, only_member, line_after}
+use Rattle.fc_spec.specs.ScriptReading.{line_limit, script_limit}
+use Rattle.fc_run.specs.FirstLines.{FirstScript, given, is_whole, lines_after, first_form, schema_line, lines_from, first_script}
 use Rattle.fc_run.proofs.FirstPremises.{Ok_one, cond_Some, unless_refused}
 
 -- the schema of a script that lines spell is the one that it was read with

@@ -15,7 +15,8 @@ use Rattle.fc_docs.specs.View.{batch_view}
 use Rattle.fc_run.specs.FirstRequest.{plain_request}
 use Rattle.fc_run.specs.PlainReply.{HaveDifferentValues}
 use Rattle.fc_run.specs.FirstScript.{blocks_of}
-use Rattle.fc_run.specs.FirstLines.{FirstScript, script_limits}
+use Rattle.fc_spec.specs.ScriptTotals.{script_limits}
+use Rattle.fc_run.specs.FirstLines.{FirstScript}
 use Rattle.fc_run.specs.FirstView.{first_view}
 use Rattle.fc_run.specs.View.{request_view}
 use Rattle.fc_run.specs.Outcome.{by_single_index, ArePrinted, IsSpelled}

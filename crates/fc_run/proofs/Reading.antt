@@ -6,7 +6,8 @@ use Rattle.fc_base.specs.declared.error.Refusal.{Refusal}
 use Rattle.fc_base.specs.declared.error.Refusal.TheVariants as refusal
 use Rattle.fc_run.specs.declared.fault.FirstFault.{FirstFault}
 use Rattle.fc_run.specs.FirstScript as definition
-use Rattle.fc_run.specs.FirstScript.{Limits, not_built}
+use Rattle.fc_spec.specs.ScriptTotals.{Limits}
+use Rattle.fc_run.specs.FirstScript.{not_built}
 use Rattle.fc_run.specs.FirstLines.{lines_from, schema_line}
 use Rattle.fc_run.specs.Said.{Left, Said, first_said}
 use Rattle.fc_run.specs.Drafted.{Drafted, with_value, with_left, numbered, finished}

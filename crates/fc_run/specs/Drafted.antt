@@ -3,7 +3,8 @@ use Rattle.std.specs.Prelude.{ℕ, suc, List, [], ◌∷◌, ◌++◌, Option, N
 use Rattle.std.specs.List.{last_or}
 use Rattle.serde_json.specs.Data.{Data}
 use Rattle.fc_spec.specs.Schema.{Schema}
-use Rattle.fc_run.specs.FirstScript.{ScriptLine, Refused, not_built, FirstFault, Limits, said_by, may_stand}
+use Rattle.fc_spec.specs.ScriptTotals.{Limits}
+use Rattle.fc_run.specs.FirstScript.{ScriptLine, Refused, not_built, FirstFault, said_by, may_stand}
 use Rattle.fc_run.specs.FirstLines.{FirstScript, is_whole, lines_after}
 use Rattle.fc_run.specs.Said.{Left}
 

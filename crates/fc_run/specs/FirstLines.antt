@@ -12,14 +12,9 @@ use Rattle.fc_spec.specs.ScriptLines.{lines_of, is_blank, json_of}
 use Rattle.fc_spec.specs.Script.{asks, Script}
 use Rattle.fc_spec.specs.Json.{natural_data}
 use Rattle.fc_spec.specs.Lines.{line_of, fault_line}
-use Rattle.fc_run.specs.FirstScript.{ScriptLine, Refused, not_built, faulty, FirstFault, Limits, is_first_schema, only_member, line_after}
-
--- no more bytes in a line, without its LF, and in all
-abbrev pub line_limit : ℕ
-line_limit = 1_048_576
-
-abbrev pub script_limit : ℕ
-script_limit = 67_108_864
+use Rattle.fc_spec.specs.ScriptReading.{line_limit, script_limit}
+use Rattle.fc_spec.specs.ScriptTotals.{Limits}
+use Rattle.fc_run.specs.FirstScript.{ScriptLine, Refused, not_built, faulty, FirstFault, is_first_schema, only_member, line_after}
 
 abbrev pub FirstScript : Type 0
 FirstScript = Script (Result Request RequestFault)
@@ -62,10 +57,6 @@ lines_from limits n (l ∷ ls) =
 -- the script that the bytes spell, or its first fault
 abbrev pub first_script : Limits → List ℕ → Result FirstScript FirstFault
 first_script limits bytes = if nat_lt script_limit (length bytes) then Err (record { line = 0; fault = faulty too_long }) else lines_from limits 1 (lines_of bytes)
-
--- the limits of every script
-abbrev pub script_limits : Limits
-script_limits = record { documents = 1_048_576; values = 16_777_216 }
 
 -- the line of a script refused so, at its n-th line
 abbrev pub refused_as : ℕ → Refused → Text

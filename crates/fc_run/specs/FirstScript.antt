@@ -1,10 +1,10 @@
 -- The first form of script: a schema of one shard whose fields hold texts, adds, one commit, one sync, one search; and the first fault of another script.
-use Rattle.std.specs.Prelude.{ℕ, List, [], ◌∷◌, ◌++◌, length, codes, Bool, true, false, not, ◌&&◌, ◌||◌, ◌==◌, nat_le, Option, None, Some, option_map, option_and_then, Result, Ok, Err, if◌then◌else◌}
+use Rattle.std.specs.Prelude.{ℕ, List, [], ◌∷◌, ◌++◌, length, codes, Bool, true, false, not, ◌&&◌, ◌==◌, nat_le, Option, None, Some, option_map, option_and_then, Result, Ok, Err, if◌then◌else◌}
 use Rattle.std.specs.List.{list_all, list_any, filter_map, flat_map, last_or}
 use Rattle.serde_json.specs.Data.{Data, object, Members, no_members, member}
 use Rattle.serde_json.specs.Find.{get_member, as_str}
 use Rattle.fc_spec.specs.Val.{Text, Val, same_text, has_val}
-use Rattle.fc_spec.specs.Document.{Block, values_of}
+use Rattle.fc_spec.specs.Document.{Block}
 use Rattle.fc_spec.specs.Schema.{Schema}
 use Rattle.fc_spec.specs.SchemaReading.{member_count}
 use Rattle.fc_spec.specs.BlockReading.{block_of}
@@ -13,6 +13,7 @@ use Rattle.fc_spec.specs.Request.{Request}
 use Rattle.fc_spec.specs.RequestFault.{RequestFault}
 use Rattle.fc_spec.specs.ScriptFault.{LineFault}
 use Rattle.fc_spec.specs.Script.{Line, add, commit, sync, asks, added_to}
+use Rattle.fc_spec.specs.ScriptTotals.{Limits, ids_in, has_repeat}
 use Rattle.fc_spec.specs.Totals.{documents_of, document_total, value_total}
 use Rattle.fc_run.specs.FirstRequest.{request_of}
 
@@ -29,11 +30,6 @@ pub data Refused : Type 0 where
 pub record FirstFault : Type 0 where
   pub line : ℕ
   pub fault : Refused
-
--- how many documents, and how many values in them, a script may have
-pub record Limits : Type 0 where
-  pub documents : ℕ
-  pub values : ℕ
 
 -- one shard, and every field holds texts
 abbrev pub is_first_schema : Schema → Bool
@@ -103,12 +99,7 @@ blocks_of ls = filter_map (added_to 0) ls
 
 -- the `id` values of a block's documents, children and parent alike
 abbrev pub ids_of : Block → List Val
-ids_of b = flat_map (λ d. values_of d 0) (documents_of b)
-
--- a value stands twice in the list
-abbrev pub has_repeat : List Val → Bool
-has_repeat [] = false
-has_repeat (v ∷ vs) = has_val v vs || has_repeat vs
+ids_of b = ids_in (documents_of b)
 
 -- no value of a list stands twice in it, or among those known before
 abbrev pub are_new : (known vs : List Val) → Bool

@@ -1,10 +1,11 @@
 -- The blocks of a script so far, and whether one more has a place among them.
-use Rattle.std.specs.Prelude.{◌≡◌, ◌+◌, ◌-◌, List, [], ◌∷◌, ◌++◌, length, sum_by, ◌&&◌, ◌||◌, nat_le, Option, None, Some, Result, Ok, Err, if◌then◌else◌}
+use Rattle.std.specs.Prelude.{◌≡◌, ◌+◌, ◌-◌, List, [], ◌∷◌, ◌++◌, length, ◌&&◌, ◌||◌, nat_le, Option, None, Some, Result, Ok, Err, if◌then◌else◌}
 use Rattle.std.specs.List.{flat_map}
 use Rattle.fc_spec.specs.Val.{Val, has_val}
 use Rattle.fc_spec.specs.Document.{Block}
-use Rattle.fc_spec.specs.Totals.{documents_of, document_total, value_total}
-use Rattle.fc_run.specs.FirstScript.{Refused, not_built, Limits, ids_of, are_new, within}
+use Rattle.fc_spec.specs.Totals.{documents_of, document_total, value_count, value_total}
+use Rattle.fc_spec.specs.ScriptTotals.{Limits}
+use Rattle.fc_run.specs.FirstScript.{Refused, not_built, ids_of, are_new, within}
 
 -- with the limits that they are held to
 pub record Gathered : Type 0 where
@@ -22,7 +23,7 @@ with_block g b =
 abbrev pub limits_after : Limits → Block → Option Limits
 limits_after left b =
     let documents = length (documents_of b) in
-    let values = sum_by (λ d. sum_by (λ vs. length vs) d) (documents_of b) in
+    let values = value_count (documents_of b) in
     if nat_le documents left.documents && nat_le values left.values
     then Some (record { documents = left.documents - documents; values = left.values - values })
     else None

@@ -14,7 +14,8 @@ use Rattle.fc_spec.specs.ScriptFault.{too_long}
 use Rattle.fc_base.specs.declared.error.WantMemory.{WantMemory}
 use Rattle.fc_io.specs.WriteEnd.{AppendsFront}
 use Rattle.fc_run.specs.FirstScript.{FirstFault, faulty}
-use Rattle.fc_run.specs.FirstLines.{FirstScript, first_script, script_limits, refused_line}
+use Rattle.fc_spec.specs.ScriptTotals.{script_limits}
+use Rattle.fc_run.specs.FirstLines.{FirstScript, first_script, refused_line}
 use Rattle.fc_run.specs.declared.answer.Answer.{Answer}
 use Rattle.fc_run.specs.declared.answer.Answer.TheVariants.{Lines, Fault}
 use Rattle.fc_run.specs.declared.status.Status.{Status}

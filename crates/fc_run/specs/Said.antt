@@ -5,7 +5,7 @@ use Rattle.fc_spec.specs.Val.{Text}
 use Rattle.fc_spec.specs.ScriptFault.{not_json}
 use Rattle.fc_spec.specs.ScriptLines.{is_blank, json_of}
 use Rattle.fc_run.specs.FirstScript.{Refused, not_built, faulty, FirstFault}
-use Rattle.fc_run.specs.FirstLines.{line_limit}
+use Rattle.fc_spec.specs.ScriptReading.{line_limit}
 
 -- the value of a line that must be JSON
 abbrev pub needed : Option Data → Result (Option Data) Refused

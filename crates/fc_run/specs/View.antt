@@ -5,6 +5,7 @@ use Rattle.fc_base.specs.declared.error.Refusal.TheVariants as refusal
 use Rattle.fc_spec.specs.Val.{Text}
 use Rattle.fc_spec.specs.ScriptFault.{not_json, too_long, line_fault_name, line_fault_number}
 use Rattle.fc_spec.specs.Request.{Nodes, Request}
+use Rattle.fc_spec.specs.ScriptTotals as totals
 use Rattle.fc_spec.specs.Script.{add, commit, sync, asks}
 use Rattle.fc_docs.specs.View.{block_view}
 use Rattle.fc_run.specs.FirstRequest.{one_facet, plain_request}
@@ -40,7 +41,7 @@ abbrev pub refusal_at : ℕ → Refusal Fault → Refusal FirstFault
 refusal_at n refusal.Memory = refusal.Memory
 refusal_at n (refusal.Fault fault) = refusal.Fault (record { line = n; fault = fault })
 
-abbrev pub limits_view : Limits → definition.Limits
+abbrev pub limits_view : Limits → totals.Limits
 limits_view m = record { documents = m.documents; values = m.values }
 
 abbrev pub facet_view : Facet → Nodes

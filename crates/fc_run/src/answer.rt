@@ -2,7 +2,8 @@
 ghost use Rattle.std.specs.Prelude.{◌≡◌, Err, IfOk};
 ghost use Rattle.fc_spec.specs.RefinedPaths.{AreRefinedPathsExact};
 ghost use Rattle.fc_spec.specs.WithoutLimits.{IsSingleWithoutLimits};
-ghost use Rattle.fc_run.specs.FirstLines.{first_script, script_limits};
+ghost use Rattle.fc_spec.specs.ScriptTotals.{script_limits};
+ghost use Rattle.fc_run.specs.FirstLines.{first_script};
 ghost use Rattle.fc_run.specs.FirstView.{first_view};
 ghost use Rattle.fc_run.specs.Outcome.{ArePrinted, IsAnswer, IsSpelled, too_many};
 

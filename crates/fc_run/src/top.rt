@@ -4,7 +4,8 @@ ghost use Rattle.std.specs.Io.KnownBytes.{Appends, IsAtEnd};
 ghost use Rattle.fc_spec.specs.Val.{Text};
 ghost use Rattle.fc_spec.specs.Outputs.{IsOutputBy};
 ghost use Rattle.fc_io.specs.Faults.{Rose};
-ghost use Rattle.fc_run.specs.FirstLines.{first_script, script_limits};
+ghost use Rattle.fc_spec.specs.ScriptTotals.{script_limits};
+ghost use Rattle.fc_run.specs.FirstLines.{first_script};
 ghost use Rattle.fc_run.specs.Outcome.{by_single_index, takes, Ends, IfDone, IsCountedOutput, Leaves, OnDone, OnRead, OnUsage, OnWrite};
 ghost use Rattle.fc_run.specs.declared.status.Status.TheVariants.{Usage};
 

@@ -1,5 +1,6 @@
 use Rattle.std.proofs.Common.{IfOk, subst}
-use Rattle.fc_run.specs.FirstLines.{first_script, script_limits}
+use Rattle.fc_spec.specs.ScriptTotals.{script_limits}
+use Rattle.fc_run.specs.FirstLines.{first_script}
 use Rattle.fc_run.specs.Outcome.{IsAnswer}
 use Rattle.fc_run.proofs.Leaving.{left_of_all, left_of_many}
 use Rattle.fc_run.proofs.top.run.Goals as goal
