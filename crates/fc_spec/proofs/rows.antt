@@ -50,3 +50,7 @@ pub mod RefiningInside
 pub mod Blocks
 pub mod Scripts
 pub mod ScriptLimits
+pub mod QueryWords
+pub mod QueryTokens
+pub mod QueryTrees
+pub mod Filters

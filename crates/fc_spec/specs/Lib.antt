@@ -63,3 +63,17 @@ pub mod ValidScripts
 pub mod Totals
 pub mod Bits
 pub mod Columns
+pub mod QueryFault
+pub mod QueryTokens
+pub mod QueryCharacters
+pub mod Options
+pub mod QueryWords
+pub mod QueryRanges
+pub mod QueryRow
+pub mod QueryTrees
+pub mod QueryForms
+pub mod QuerySpellingLaw
+pub mod QueryMeaning
+pub mod QueryTexts
+pub mod FilterReading
+pub mod ValidQueries

@@ -1,0 +1,51 @@
+-- Which row of tokens a query text is: white space separates tokens and has no other meaning. Guide: Standard Query Parser.
+use Rattle.std.specs.Prelude.{ℕ, zero, suc, List, [], ◌∷◌, length, Bool, true, false, ◌&&◌, ◌||◌, ◌==◌, Option, None, Some, option_map, if◌then◌else◌}
+use Rattle.std.specs.Str.{chars}
+use Rattle.fc_spec.specs.Options.{◌>>=◌}
+use Rattle.fc_spec.specs.Val.{Text}
+use Rattle.fc_spec.specs.QueryTokens.{quoted, star, plus, minus, exclamation, Token, value, sign, opening, closing, colon}
+use Rattle.fc_spec.specs.QueryCharacters.{Character, bare, escaped, characters, is_ordinary, begins, is_blank}
+use Rattle.fc_spec.specs.QueryWords.{word_at, quoted_at}
+use Rattle.fc_spec.specs.QueryRanges.{range_at}
+
+-- a character that is a token by itself
+unfoldable pub single : ℕ → Option Token
+single c =
+    if c == 43 then Some (sign plus)
+    else if c == 45 then Some (sign minus)
+    else if c == 33 then Some (sign exclamation)
+    else if c == 40 then Some opening
+    else if c == 41 then Some closing
+    else if c == 58 then Some colon
+    else None
+
+-- the token that begins with this character, and what is left behind it. Directly behind a colon `-` begins a word
+unfoldable pub token_at : (behind_colon : Bool) → Character → List Character → Option (Token × List Character)
+token_at behind_colon (escaped c) cs = word_at (escaped c) cs
+token_at behind_colon (bare c) cs =
+    if is_ordinary (bare c) || (behind_colon && c == 45) then word_at (bare c) cs
+    else if c == 34 then option_map (λ q. (value (quoted q.0), q.1)) (quoted_at cs)
+    else if c == 91 then range_at true cs
+    else if c == 123 then range_at false cs
+    else if c == 42 then (if begins is_ordinary cs then None else Some (value star, cs))
+    else option_map (λ t. (t, cs)) (single c)
+
+abbrev pub is_colon : Token → Bool
+is_colon colon = true
+is_colon _ = false
+
+-- the tokens of a row of at most n characters
+unfoldable pub tokens_within : (n : ℕ) → (behind_colon : Bool) → List Character → Option (List Token)
+tokens_within zero behind_colon cs = Some []
+tokens_within (suc n) behind_colon [] = Some []
+tokens_within (suc n) behind_colon (c ∷ cs) = elim (is_blank c) [
+  | true ↦ tokens_within n false cs
+  | false ↦ do
+    first ← token_at behind_colon c cs
+    others ← tokens_within n (is_colon first.0) first.1
+    Some (first.0 ∷ others)
+]
+
+-- the row of tokens of a text, where it has one
+abbrev pub tokens_of : Text → Option (List Token)
+tokens_of t = let cs = characters (chars t) in tokens_within (length cs) false cs
