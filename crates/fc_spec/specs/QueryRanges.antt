@@ -12,7 +12,8 @@ use Rattle.fc_spec.specs.QueryWords.{quoted_at}
 unfoldable pub written_end_at : List Character → Option (Text × List Character)
 written_end_at cs =
     let row = take_while stands_in_end cs in
-    if is_empty row || (list_all is_bare row && same_text (text_of row) (codes "TO")) then None else Some (text_of row, behind stands_in_end cs)
+    let end = text_of row in
+    if is_empty end || (list_all is_bare row && same_text end (codes "TO")) then None else Some (end, behind stands_in_end cs)
 
 -- an end of a range, and what is left behind it
 unfoldable pub end_at : List Character → Option (Option Text × List Character)

@@ -4,7 +4,7 @@ use Rattle.std.specs.Str.{chars}
 use Rattle.fc_spec.specs.Options.{◌>>=◌}
 use Rattle.fc_spec.specs.Val.{Text}
 use Rattle.fc_spec.specs.QueryTokens.{quoted, star, plus, minus, exclamation, Token, value, sign, opening, closing, colon}
-use Rattle.fc_spec.specs.QueryCharacters.{Character, bare, escaped, characters, is_ordinary, begins, is_blank}
+use Rattle.fc_spec.specs.QueryCharacters.{Character, characters, code, is_ordinary, is_char, begins, is_blank}
 use Rattle.fc_spec.specs.QueryWords.{word_at, quoted_at}
 use Rattle.fc_spec.specs.QueryRanges.{range_at}
 
@@ -19,16 +19,23 @@ single c =
     else if c == 58 then Some colon
     else None
 
--- the token that begins with this character, and what is left behind it. Directly behind a colon `-` begins a word
-unfoldable pub token_at : (behind_colon : Bool) → Character → List Character → Option (Token × List Character)
-token_at behind_colon (escaped c) cs = word_at (escaped c) cs
-token_at behind_colon (bare c) cs =
-    if is_ordinary (bare c) || (behind_colon && c == 45) then word_at (bare c) cs
-    else if c == 34 then option_map (λ q. (value (quoted q.0), q.1)) (quoted_at cs)
+-- the token of a character that begins no word, and what is left behind it
+unfoldable pub marked_at : ℕ → List Character → Option (Token × List Character)
+marked_at c cs =
+    if c == 34 then option_map (λ q. (value (quoted q.0), q.1)) (quoted_at cs)
     else if c == 91 then range_at true cs
     else if c == 123 then range_at false cs
     else if c == 42 then (if begins is_ordinary cs then None else Some (value star, cs))
     else option_map (λ t. (t, cs)) (single c)
+
+-- directly behind a colon `-` begins a word too
+abbrev pub begins_word : (behind_colon : Bool) → Character → Bool
+begins_word behind_colon c = is_ordinary c || (behind_colon && is_char 45 c)
+
+-- the first token, and what is left behind it
+unfoldable pub token_at : (behind_colon : Bool) → List Character → Option (Token × List Character)
+token_at behind_colon [] = None
+token_at behind_colon (c ∷ cs) = if begins_word behind_colon c then word_at (c ∷ cs) else marked_at (code c) cs
 
 abbrev pub is_colon : Token → Bool
 is_colon colon = true
@@ -41,7 +48,7 @@ tokens_within (suc n) behind_colon [] = Some []
 tokens_within (suc n) behind_colon (c ∷ cs) = elim (is_blank c) [
   | true ↦ tokens_within n false cs
   | false ↦ do
-    first ← token_at behind_colon c cs
+    first ← token_at behind_colon (c ∷ cs)
     others ← tokens_within n (is_colon first.0) first.1
     Some (first.0 ∷ others)
 ]

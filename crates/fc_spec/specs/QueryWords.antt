@@ -1,5 +1,5 @@
 -- Words and quoted values in query texts. Guide: Standard Query Parser, "Specifying Terms for the Standard Query Parser", "Boolean Operators Supported by the Standard Query Parser".
-use Rattle.std.specs.Prelude.{List, ◌∷◌, codes, ◌||◌, Option, None, Some, if◌then◌else◌}
+use Rattle.std.specs.Prelude.{List, codes, ◌||◌, Option, None, Some, if◌then◌else◌}
 use Rattle.std.specs.List.{list_all, take_while}
 use Rattle.fc_spec.specs.Options.{◌>>=◌}
 use Rattle.fc_spec.specs.Val.{Text, same_text}
@@ -17,9 +17,9 @@ plain_word t =
 abbrev pub word_token : List Character → Token
 word_token cs = if list_all is_bare cs then plain_word (text_of cs) else value (word (text_of cs))
 
--- the word that begins with this character, as long as it goes on, and what is left behind it; no star touches it
-unfoldable pub word_at : Character → List Character → Option (Token × List Character)
-word_at c cs = if begins (is_char 42) (behind goes_on cs) then None else Some (word_token (c ∷ take_while goes_on cs), behind goes_on cs)
+-- the word in front, as long as it goes on, and what is left behind it; no star touches it
+unfoldable pub word_at : List Character → Option (Token × List Character)
+word_at cs = if begins (is_char 42) (behind goes_on cs) then None else Some (word_token (take_while goes_on cs), behind goes_on cs)
 
 -- behind `"`: the text up to the next `"`, and what is left behind that
 unfoldable pub quoted_at : List Character → Option (Text × List Character)

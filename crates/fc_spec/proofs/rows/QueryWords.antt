@@ -5,12 +5,12 @@ use Prim.Native.String.{String}
 use Rattle.fc_spec.specs.QueryTokens.{word, quoted, Token, value, colon}
 use Rattle.fc_spec.specs.QueryWords.{plain_word, word_at, quoted_at}
 use Rattle.fc_spec.specs.QueryRanges.{written_end_at, end_at, past_to, bracket_at, range_at}
-use Rattle.fc_spec.specs.QueryRow.{single, token_at, tokens_within}
+use Rattle.fc_spec.specs.QueryRow.{single, marked_at, token_at, tokens_within}
 use Rattle.fc_spec.proofs.rows.Words.{written}
 
 -- what an answer unfolds to compute the tokens of a literal
 unfoldable pub cut : ⊤
-unfolding written chars plain_word word_at quoted_at written_end_at end_at past_to bracket_at range_at single token_at tokens_within
+unfolding written chars plain_word word_at quoted_at written_end_at end_at past_to bracket_at range_at single marked_at token_at tokens_within
 cut = tt
 
 abbrev pub a_word : String → Token

@@ -1,0 +1,3 @@
+pub mod FirstCharacters
+pub mod Fronts
+pub mod FirstTokens

@@ -1,0 +1,37 @@
+-- What functions that cut a text answer.
+use Rattle.std.specs.Prelude.{◌≡◌, List, [], ◌∷◌, Option, None, Some}
+use Rattle.std.specs.Prelude.{Bool, true, false, Result, Ok, Err, string_bytes}
+use Rattle.std.specs.List.{list_all, take_while}
+use denote.Ref.{Bor}
+use Rattle.fc_base.specs.declared.error.Refusal.{Refusal}
+use Rattle.fc_base.specs.declared.error.Refusal.TheVariants.{Memory, Fault}
+use Rattle.fc_query.specs.declared.fault.QueryFault.{QueryFault}
+use Rattle.fc_query.specs.declared.fault.QueryFault.TheVariants.{Syntax}
+use Rattle.fc_query.specs.declared.lex.Run.{Run}
+use Rattle.std.specs.Prelude.{ℕ}
+use Rattle.std.specs.Str.{chars}
+use Rattle.fc_spec.specs.QueryCharacters as definition
+use Rattle.fc_query.specs.declared.characters.Character.{Character}
+use Rattle.fc_query.specs.View.{character_view}
+
+-- the first of these characters, and the text of the others; or there is none
+abbrev pub IsFirst : Option (Character × Bor (List ℕ)) → List definition.Character → Type 0
+IsFirst None cs = cs ≡ []
+IsFirst (Some x) cs = cs ≡ character_view x.0 ∷ definition.characters (chars x.1.now)
+
+-- it took what it sought, and this is left; or there was none, and nothing was taken
+abbrev pub TakesPast : Bool → Option (List definition.Character) → (old new : List definition.Character) → Type 0
+TakesPast true past old new = past ≡ Some new
+TakesPast false past old new = (past ≡ None) × (new ≡ old)
+
+-- it took what the definition takes, and this is left; or there is none; or memory ran out
+abbrev pub Takes : {A V : Type 0} → (A → V) → List definition.Character → Result A (Refusal QueryFault) → Option (V × List definition.Character) → Type 0
+Takes view left (Ok value) defined = defined ≡ Some (view value, left)
+Takes view left (Err Memory) defined = Unit {0}
+Takes view left (Err (Fault fault)) defined = (defined ≡ None) × (fault ≡ Syntax)
+
+-- the text of the front that passes the test, whether each of its characters stands as it is, and what is left
+pub record IsRun (test : definition.Character → Bool) (run : Run) (old new : List definition.Character) : Type 0 where
+  pub text : string_bytes run.text ≡ definition.text_of (take_while test old)
+  pub plain : run.plain ≡ list_all definition.is_bare (take_while test old)
+  pub left : new ≡ definition.behind test old
