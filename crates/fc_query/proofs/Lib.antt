@@ -1,3 +1,5 @@
 pub mod FirstCharacters
 pub mod Fronts
 pub mod FirstTokens
+pub mod Shorter
+pub mod SoFar

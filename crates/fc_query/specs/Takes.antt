@@ -35,3 +35,9 @@ pub record IsRun (test : definition.Character → Bool) (run : Run) (old new : L
   pub text : string_bytes run.text ≡ definition.text_of (take_while test old)
   pub plain : run.plain ≡ list_all definition.is_bare (take_while test old)
   pub left : new ≡ definition.behind test old
+
+-- it gives what the definition gives; or there is none; or memory ran out
+abbrev pub Gives : {A V : Type 0} → (A → V) → Result A (Refusal QueryFault) → Option V → Type 0
+Gives view (Ok value) defined = defined ≡ Some (view value)
+Gives view (Err Memory) defined = Unit {0}
+Gives view (Err (Fault fault)) defined = (defined ≡ None) × (fault ≡ Syntax)

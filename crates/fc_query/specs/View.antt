@@ -1,5 +1,7 @@
 -- What the types of this crate stand for in the definitions.
-use Rattle.std.specs.Prelude.{Bool, option_map, string_bytes}
+use Rattle.std.specs.Prelude.{Bool, List, map, option_map, string_bytes}
+use Rattle.std.specs.declared.vec.Vec.{Vec}
+use Rattle.std.specs.declared.alloc.Global.{Global}
 use Rattle.fc_spec.specs.QueryCharacters as definition
 use Rattle.fc_spec.specs.QueryTokens as token
 use Rattle.fc_query.specs.declared.characters.Character.{Character}
@@ -52,3 +54,6 @@ token_view (t.Operator o) = token.operator (operator_view o)
 token_view t.Opening = token.opening
 token_view t.Closing = token.closing
 token_view t.Colon = token.colon
+
+abbrev pub tokens_view : Vec Token Global → List token.Token
+tokens_view ts = map token_view ts.items

@@ -15,6 +15,7 @@ pub(crate) enum Character {
 }
 
 /// What is left of a text, seen as the list of its characters.
+#[derive(Drop)]
 pub(crate) struct Cursor<'a> {
     left: &'a str,
 }

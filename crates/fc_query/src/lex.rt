@@ -8,8 +8,8 @@ ghost use Rattle.fc_spec.specs.QueryTokens.{star as a_star, value};
 ghost use Rattle.fc_spec.specs.QueryRanges.{bracket_at, end_at, past_to, range_at, written_end_at};
 ghost use Rattle.fc_spec.specs.QueryRow.{marked_at, single as single_of, token_at, tokens_of};
 ghost use Rattle.fc_spec.specs.QueryWords.{plain_word, quoted_at, word_at};
-ghost use Rattle.fc_query.specs.Takes.{IsRun, Takes};
-ghost use Rattle.fc_query.specs.View.{part_test, token_view};
+ghost use Rattle.fc_query.specs.Takes.{Gives, IsRun, Takes};
+ghost use Rattle.fc_query.specs.View.{part_test, token_view, tokens_view};
 
 use crate::QueryFault;
 use crate::characters::{Character, Cursor};
@@ -224,4 +224,24 @@ fn token(
             marked(alloc, cursor, first.code())
         }
     }
+}
+
+/// The row of tokens of a text.
+pub(crate) fn tokens(alloc: Global, text: &str) -> Result<Vec<Token>, Refusal<QueryFault>>
+    ensures { Gives tokens_view result (tokens_of text.now) }
+{
+    let mut cursor = Cursor::new(text);
+    let mut tokens = Vec::new(alloc);
+    let mut behind_colon = false;
+    while let Some(first) = cursor.peek() {
+        if first.is_blank() {
+            cursor.advance();
+            behind_colon = false;
+            continue;
+        }
+        let token = token(alloc, &mut cursor, behind_colon)?;
+        behind_colon = token.is_colon();
+        tokens.push(token)?;
+    }
+    Ok(tokens)
 }

@@ -1,4 +1,7 @@
 // Tokens of query texts.
+ghost use Rattle.std.specs.Prelude.{◌≡◌};
+ghost use Rattle.fc_spec.specs.QueryRow.{is_colon};
+ghost use Rattle.fc_query.specs.View.{token_view};
 
 /// An end that is not there is a star.
 #[derive(Debug, Drop)]
@@ -39,4 +42,12 @@ pub(crate) enum Token {
     Opening,
     Closing,
     Colon,
+}
+
+impl Token {
+    pub(crate) fn is_colon(&self) -> bool
+        ensures { result ≡ is_colon (token_view self.now) }
+    {
+        matches!(self, Token::Colon)
+    }
 }
