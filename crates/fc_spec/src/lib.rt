@@ -6,6 +6,7 @@
 
 ghost use Rattle.fc_spec.specs.CombiningLaw.{CombinesLists, CombinesParts};
 ghost use Rattle.fc_spec.specs.Merging.{MergesIntoReply};
+ghost use Rattle.fc_spec.specs.QuerySpellingLaw.{HasOneTree};
 ghost use Rattle.fc_spec.specs.RefinedPaths.{AreRefinedPathsExact};
 ghost use Rattle.fc_spec.specs.RoundsEnd.{NothingLacksBeyond, RoundsAnswer, RoundsAreFew, RoundsComplete, SearchesEnd};
 ghost use Rattle.fc_spec.specs.ShardAlone.{AnswersFromItsBlocks};
@@ -64,4 +65,9 @@ pub fn rounds_end()
 /// No two messages have the same bytes, and no bytes of a message are the front of another's.
 pub fn messages_have_one_spelling()
     ensures { HasOneSpelling }
+{}
+
+/// No two trees of query texts have the same tokens.
+pub fn query_trees_have_one_spelling()
+    ensures { HasOneTree }
 {}
