@@ -3,3 +3,5 @@ pub mod Fronts
 pub mod FirstTokens
 pub mod Shorter
 pub mod SoFar
+pub mod GroupsSoFar
+pub mod NestedAtoms

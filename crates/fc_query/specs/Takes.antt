@@ -24,11 +24,15 @@ abbrev pub TakesPast : Bool → Option (List definition.Character) → (old new 
 TakesPast true past old new = past ≡ Some new
 TakesPast false past old new = (past ≡ None) × (new ≡ old)
 
+-- there is none, or memory ran out
+abbrev pub Stops : {V : Type 0} → Refusal QueryFault → Option V → Type 0
+Stops Memory defined = Unit {0}
+Stops (Fault fault) defined = (defined ≡ None) × (fault ≡ Syntax)
+
 -- it took what the definition takes, and this is left; or there is none; or memory ran out
 abbrev pub Takes : {A V : Type 0} → (A → V) → List definition.Character → Result A (Refusal QueryFault) → Option (V × List definition.Character) → Type 0
 Takes view left (Ok value) defined = defined ≡ Some (view value, left)
-Takes view left (Err Memory) defined = Unit {0}
-Takes view left (Err (Fault fault)) defined = (defined ≡ None) × (fault ≡ Syntax)
+Takes view left (Err stop) defined = Stops stop defined
 
 -- the text of the front that passes the test, whether each of its characters stands as it is, and what is left
 pub record IsRun (test : definition.Character → Bool) (run : Run) (old new : List definition.Character) : Type 0 where
@@ -39,5 +43,4 @@ pub record IsRun (test : definition.Character → Bool) (run : Run) (old new : L
 -- it gives what the definition gives; or there is none; or memory ran out
 abbrev pub Gives : {A V : Type 0} → (A → V) → Result A (Refusal QueryFault) → Option V → Type 0
 Gives view (Ok value) defined = defined ≡ Some (view value)
-Gives view (Err Memory) defined = Unit {0}
-Gives view (Err (Fault fault)) defined = (defined ≡ None) × (fault ≡ Syntax)
+Gives view (Err stop) defined = Stops stop defined

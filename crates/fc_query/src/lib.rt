@@ -3,8 +3,10 @@
 
 mod characters;
 mod classes;
+mod descent;
 mod fault;
 mod lex;
 mod tokens;
+mod trees;
 
 pub use fault::QueryFault;

@@ -32,7 +32,7 @@ pub record IsGroupOf (depth : ℕ) (in_field : Bool) (ts : Row) (g : Group × Ro
   pub shallow : nesting g.0 ≤ depth
 
 -- what a reader reads inside a parenthesis is spelled, and one level more is open around it
-abbrev ReadsGroups : ℕ → Reader → Type 0
+abbrev pub ReadsGroups : ℕ → Reader → Type 0
 ReadsGroups depth deeper = (b : Bool) (ts : Row) → IfSome (deeper b ts) (λ g. (ts ≡ group_tokens g.0 ++ g.1) × IsGroup b g.0 × (suc (nesting g.0) ≤ depth))
 
 closing_is : (ts : Row) → IfSome (past_closing ts) (λ left. ts ≡ closing ∷ left)
@@ -136,7 +136,7 @@ operator_is (opening ∷ ts) = refl
 operator_is (closing ∷ ts) = refl
 operator_is (colon ∷ ts) = refl
 
-clause_of : (depth : ℕ) (deeper : Reader) (in_field : Bool) (ts : Row) → ReadsGroups depth deeper → IfSome (clause_at deeper in_field ts) (IsClauseOf depth in_field ts)
+pub clause_of : (depth : ℕ) (deeper : Reader) (in_field : Bool) (ts : Row) → ReadsGroups depth deeper → IfSome (clause_at deeper in_field ts) (IsClauseOf depth in_field ts)
 unfolding clause_at
 clause_of depth deeper in_field ts reads =
     let s = sign_at ts in

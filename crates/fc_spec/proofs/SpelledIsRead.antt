@@ -155,7 +155,7 @@ no_more_again n deeper b (opening ∷ ts) h = absurd h
 no_more_again n deeper b (closing ∷ ts) h = refl
 no_more_again n deeper b (colon ∷ ts) h = absurd h
 
-some_tokens : (a : Atom) → 1 ≤ length (atom_tokens a)
+pub some_tokens : (a : Atom) → 1 ≤ length (atom_tokens a)
 some_tokens (plain None v) = omega arith
 some_tokens (plain (Some name) v) = omega arith
 some_tokens everything = omega arith
