@@ -5,3 +5,5 @@ pub mod Shorter
 pub mod SoFar
 pub mod GroupsSoFar
 pub mod NestedAtoms
+pub mod OneOptional
+pub mod ClausesSoFar

@@ -6,13 +6,17 @@ use Rattle.fc_spec.specs.QueryTrees.{Atom, nested, Group}
 use Rattle.fc_spec.proofs.TreeReading.{Row, Reader, past_closing, nested_at}
 use Rattle.fc_base.specs.declared.error.Refusal.{Refusal}
 use Rattle.fc_base.specs.declared.error.Refusal.TheVariants.{Memory, Fault}
+use Rattle.fc_query.specs.declared.fault.QueryFault.TheVariants.{Syntax}
 use Rattle.fc_query.specs.declared.fault.QueryFault.{QueryFault}
-use Rattle.fc_query.specs.Takes.{Stops}
+use Rattle.fc_query.specs.Takes.{Stops, StopsBy}
 
 -- where there is none of one, there is none of another
+pub stops_by : {V W : Type 0} (which : QueryFault) (stop : Refusal QueryFault) (d : Option V) (d' : Option W) → (d ≡ None → d' ≡ None) → StopsBy which stop d → StopsBy which stop d'
+stops_by which Memory d d' f h = tt
+stops_by which (Fault fault) d d' f h = (f h.0, h.1)
+
 pub stops_on : {V W : Type 0} (stop : Refusal QueryFault) (d : Option V) (d' : Option W) → (d ≡ None → d' ≡ None) → Stops stop d → Stops stop d'
-stops_on Memory d d' f h = tt
-stops_on (Fault fault) d d' f h = (f h.0, h.1)
+stops_on stop d d' f h = stops_by Syntax stop d d' f h
 
 abbrev closed : Option Text → Option (Group × Row) → Option (Atom × Row)
 closed name o = o >>= λ g. past_closing g.1 >>= λ left. Some (nested name g.0, left)

@@ -1,3 +1,4 @@
 pub mod View
 pub mod Takes
 pub mod TreeView
+pub mod QueryView

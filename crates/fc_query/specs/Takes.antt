@@ -6,7 +6,7 @@ use denote.Ref.{Bor}
 use Rattle.fc_base.specs.declared.error.Refusal.{Refusal}
 use Rattle.fc_base.specs.declared.error.Refusal.TheVariants.{Memory, Fault}
 use Rattle.fc_query.specs.declared.fault.QueryFault.{QueryFault}
-use Rattle.fc_query.specs.declared.fault.QueryFault.TheVariants.{Syntax}
+use Rattle.fc_query.specs.declared.fault.QueryFault.TheVariants.{Syntax, BadValue}
 use Rattle.fc_query.specs.declared.lex.Run.{Run}
 use Rattle.std.specs.Prelude.{ℕ}
 use Rattle.std.specs.Str.{chars}
@@ -24,10 +24,13 @@ abbrev pub TakesPast : Bool → Option (List definition.Character) → (old new 
 TakesPast true past old new = past ≡ Some new
 TakesPast false past old new = (past ≡ None) × (new ≡ old)
 
--- there is none, or memory ran out
+-- there is none, which is this fault, or memory ran out
+abbrev pub StopsBy : {V : Type 0} → QueryFault → Refusal QueryFault → Option V → Type 0
+StopsBy which Memory defined = Unit {0}
+StopsBy which (Fault fault) defined = (defined ≡ None) × (fault ≡ which)
+
 abbrev pub Stops : {V : Type 0} → Refusal QueryFault → Option V → Type 0
-Stops Memory defined = Unit {0}
-Stops (Fault fault) defined = (defined ≡ None) × (fault ≡ Syntax)
+Stops stop defined = StopsBy Syntax stop defined
 
 -- it took what the definition takes, and this is left; or there is none; or memory ran out
 abbrev pub Takes : {A V : Type 0} → (A → V) → List definition.Character → Result A (Refusal QueryFault) → Option (V × List definition.Character) → Type 0
@@ -44,3 +47,8 @@ pub record IsRun (test : definition.Character → Bool) (run : Run) (old new : L
 abbrev pub Gives : {A V : Type 0} → (A → V) → Result A (Refusal QueryFault) → Option V → Type 0
 Gives view (Ok value) defined = defined ≡ Some (view value)
 Gives view (Err stop) defined = Stops stop defined
+
+-- the same, where none is a bad value
+abbrev pub Means : {A V : Type 0} → (A → V) → Result A (Refusal QueryFault) → Option V → Type 0
+Means view (Ok value) defined = defined ≡ Some (view value)
+Means view (Err stop) defined = StopsBy BadValue stop defined

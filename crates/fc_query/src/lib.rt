@@ -5,8 +5,12 @@ mod characters;
 mod classes;
 mod descent;
 mod fault;
+mod faults;
 mod lex;
+mod meaning;
+mod query;
 mod tokens;
 mod trees;
 
 pub use fault::QueryFault;
+pub use query::{Bound, Clause, Need, Query};

@@ -85,6 +85,13 @@ value_query field kind (quoted t) = option_map (is field) (written_value kind t)
 value_query field kind (range r) = range_query field kind r
 value_query field kind star = Some (has field)
 
+-- what a value means in a field, where there is the field
+abbrev pub plain_query : Schema → (field : Option ℕ) → Value → Option Query
+plain_query s at v = do
+  number ← at
+  field ← slice_get s.fields number
+  value_query number field.kind v
+
 -- the field of a name; without a name that of the group around it
 abbrev pub field_under : Schema → (around : Option ℕ) → Option Text → Option ℕ
 field_under s around None = around
@@ -118,10 +125,7 @@ abbrev mutual
     Some (query_clause (need_of sign o (next_operator g)) q cs)
 
   pub atom_query : Schema → (around : Option ℕ) → Atom → Option Query
-  atom_query s around (plain n v) = do
-    number ← field_under s around n
-    field ← slice_get s.fields number
-    value_query number field.kind v
+  atom_query s around (plain n v) = plain_query s (field_under s around n) v
   atom_query s around everything = Some all
   atom_query s around (nested n g) = option_map grouped (clauses_query s (field_under s around n) g)
 

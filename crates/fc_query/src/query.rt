@@ -1,0 +1,43 @@
+// Queries.
+use fc_base::{FieldId, Val};
+
+/// Which documents match.
+#[cycle(query)]
+#[derive(Debug, Drop, PartialEq, Eq)]
+pub enum Query {
+    /// Every document.
+    All,
+    /// Those that have a value in the field.
+    Has(FieldId),
+    /// Those that have this value in the field.
+    Is(FieldId, Val),
+    /// Those that have a value in the field between the two bounds, the lower one first.
+    Between(FieldId, Bound, Bound),
+    /// Those that match each required clause and no forbidden one, and an optional one where there
+    /// is one and none is required.
+    Group(Vec<Clause>),
+}
+
+/// An end of a range.
+#[derive(Debug, Drop, PartialEq, Eq)]
+pub enum Bound {
+    Unbounded,
+    Including(Val),
+    Excluding(Val),
+}
+
+/// A clause of a group.
+#[cycle(query)]
+#[derive(Debug, Drop, PartialEq, Eq)]
+pub struct Clause {
+    pub need: Need,
+    pub query: Query,
+}
+
+/// Required, forbidden, or optional.
+#[derive(Clone, Copy, Debug, PartialEq, Eq)]
+pub enum Need {
+    Must,
+    MustNot,
+    May,
+}
