@@ -168,7 +168,7 @@ fn is_end(tokens: &[Token]) -> bool
 
 // A group in which at most `depth` parentheses are open at once.
 #[cycle(descent)]
-fn group<'a>(
+pub(crate) fn group<'a>(
     alloc: Global,
     tokens: &'a [Token],
     depth: u8,

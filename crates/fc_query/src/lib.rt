@@ -9,8 +9,10 @@ mod faults;
 mod lex;
 mod meaning;
 mod query;
+mod text;
 mod tokens;
 mod trees;
 
 pub use fault::QueryFault;
 pub use query::{Bound, Clause, Need, Query};
+pub use text::parse;
