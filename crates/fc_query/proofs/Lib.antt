@@ -9,3 +9,5 @@ pub mod OneOptional
 pub mod ClausesSoFar
 pub mod Validity
 pub mod Readings
+pub mod Fronting
+pub mod SoleMembers

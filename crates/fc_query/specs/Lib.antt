@@ -2,3 +2,4 @@ pub mod View
 pub mod Takes
 pub mod TreeView
 pub mod QueryView
+pub mod FilterView

@@ -29,3 +29,14 @@ impl From<QueryFault> for Refusal<QueryFault> {
         Refusal::Fault(fault)
     }
 }
+
+/// What is wrong with a filter.
+#[derive(Clone, Copy, Debug, Error, PartialEq, Eq)]
+pub enum FilterFault {
+    /// It is neither a text nor an object of one member, a text whose key begins with `#`.
+    #[error("bad-parameter")]
+    Shape,
+    /// Its tags or its query text are at fault.
+    #[error("{0}")]
+    Query(QueryFault),
+}

@@ -6,6 +6,7 @@ mod classes;
 mod descent;
 mod fault;
 mod faults;
+mod filter;
 mod lex;
 mod meaning;
 mod query;
@@ -13,6 +14,7 @@ mod text;
 mod tokens;
 mod trees;
 
-pub use fault::QueryFault;
+pub use fault::{FilterFault, QueryFault};
+pub use filter::{Filter, read_filter};
 pub use query::{Bound, Clause, Need, Query};
 pub use text::parse;

@@ -1,10 +1,12 @@
 -- Filters and their tags: a text, or an object of one member. Guide: Faceting, "Tagging and Excluding Filters".
-use Rattle.std.specs.Prelude.{◌≡◌, ℕ, suc, List, [], length, take, drop, codes, slice_index, Bool, not, ◌&&◌, ◌||◌, ◌==◌, nat_le, nat_lt, Option, None, Some, option_map, Result, Ok, Err, ok_or, MatchResult, if◌then◌else◌}
-use Rattle.std.specs.List.{list_all, prefix_len, slice_split}
-use Rattle.serde_json.specs.Data.{Data, string, object, no_members, member}
-use Rattle.fc_spec.specs.Val.{Text, same_text}
+use Rattle.std.specs.Prelude.{◌≡◌, ℕ, List, [], length, drop, codes, Bool, not, ◌&&◌, ◌||◌, ◌==◌, nat_lt, Option, None, Some, option_map, unwrap_or, Result, Ok, Err, ok_or, MatchResult, if◌then◌else◌}
+use Rattle.std.specs.List.{list_all, slice_split, starts_with, position_or_len, before_first, after_first}
+use Rattle.serde_json.specs.Data.{Data, string}
+use Rattle.fc_spec.specs.Val.{Text}
+use Rattle.fc_spec.specs.LineReading.{sole_member}
 use Rattle.fc_spec.specs.Lists.{is_empty}
 use Rattle.fc_spec.specs.Schema.{Schema}
+use Rattle.fc_spec.specs.SchemaReading.{is_name_byte}
 use Rattle.fc_spec.specs.Query.{Query}
 use Rattle.fc_spec.specs.Request.{Filter}
 use Rattle.fc_spec.specs.QueryFault.{QueryFault, syntax, FilterFault, shape, query}
@@ -12,7 +14,7 @@ use Rattle.fc_spec.specs.QueryTexts.{IsReadingOf}
 
 -- an ASCII letter or digit, `_`, `-`, `.`
 abbrev pub is_tag_byte : ℕ → Bool
-is_tag_byte b = (nat_le 65 b && nat_le b 90) || (nat_le 97 b && nat_le b 122) || (nat_le 48 b && nat_le b 57) || b == 95 || b == 45 || b == 46
+is_tag_byte b = is_name_byte b || b == 45 || b == 46
 
 abbrev pub is_tag : Text → Bool
 is_tag t = not (is_empty t) && list_all is_tag_byte t
@@ -25,29 +27,45 @@ tags_of t = let parts = slice_split (λ b. b == 44) t in if list_all is_tag part
 abbrev pub tagged : (list query_text : Text) → Result (List Text × Text) FilterFault
 tagged list query_text = ok_or (option_map (λ tags. (tags, query_text)) (tags_of list)) (query syntax)
 
+-- what is behind this front, where it stands
+abbrev pub past_front : (front t : Text) → Option Text
+past_front front t = if starts_with (◌==◌) t front then Some (drop (length front) t) else None
+
+-- what stands before the first of this byte, and what behind it, where there is one
+abbrev pub cut_at : ℕ → Text → Option (Text × Text)
+cut_at b t = let is_it = λ (c : ℕ). c == b in if nat_lt (position_or_len is_it t) (length t) then Some (before_first is_it t, after_first is_it t) else None
+
 -- behind `{!tag=`: tags up to the first `}`, and then the query text
 unfoldable pub local_tags : Text → Result (List Text × Text) FilterFault
-local_tags t = let end = prefix_len (λ b. not (b == 125)) t in if nat_lt end (length t) then tagged (take end t) (drop (suc end) t) else Err (query syntax)
+local_tags t = unwrap_or (option_map (λ cut. tagged cut.0 cut.1) (cut_at 125 t)) (Err (query syntax))
 
 -- a text; any other that begins with `{!` is a query text without a tree
 unfoldable pub text_filter : Text → Result (List Text × Text) FilterFault
-text_filter t = if same_text (take 6 t) (codes "{!tag=") then local_tags (drop 6 t) else Ok ([], t)
+text_filter t = unwrap_or (option_map local_tags (past_front (codes "{!tag=") t)) (Ok ([], t))
 
 -- a member: its key is `#` and then tags, its value the query text
 unfoldable pub member_filter : (key query_text : Text) → Result (List Text × Text) FilterFault
-member_filter key query_text = if slice_index key 0 == 35 then tagged (drop 1 key) query_text else Err shape
+member_filter key query_text = unwrap_or (option_map (λ list. tagged list query_text) (past_front (codes "#") key)) (Err shape)
+
+-- an object's only member, where there is one
+unfoldable pub object_filter : Option (Text × Data) → Result (List Text × Text) FilterFault
+object_filter (Some (key, string t)) = member_filter key t
+object_filter _ = Err shape
 
 -- the tags and the query text of a filter
 unfoldable pub filter_parts : Data → Result (List Text × Text) FilterFault
 filter_parts (string t) = text_filter t
-filter_parts (object (member key (string t) no_members)) = member_filter key t
-filter_parts _ = Err shape
+filter_parts d = object_filter (sole_member d)
 
 -- with what its query text means
 abbrev pub filter_with : List Text → Result Query QueryFault → Result Filter FilterFault
 filter_with tags (Ok q) = Ok (record { tags = tags; query = q })
 filter_with tags (Err e) = Err (query e)
 
+-- what tags and a query text mean for a schema, or the fault
+abbrev pub IsFilterBy : Schema → Result (List Text × Text) FilterFault → Result Filter FilterFault → Type 0
+IsFilterBy s parts r = MatchResult parts (λ p. (q : Result Query QueryFault) × IsReadingOf s p.1 q × (r ≡ filter_with p.0 q)) (λ e. r ≡ Err e)
+
 -- what a filter means for a schema, or its fault
 abbrev pub IsFilterOf : Schema → Data → Result Filter FilterFault → Type 0
-IsFilterOf s d r = MatchResult (filter_parts d) (λ p. (q : Result Query QueryFault) × IsReadingOf s p.1 q × (r ≡ filter_with p.0 q)) (λ e. r ≡ Err e)
+IsFilterOf s d r = IsFilterBy s (filter_parts d) r

@@ -3,7 +3,7 @@ use Rattle.std.specs.Prelude.{◌≡◌, List, [], ◌∷◌, map, Ok, Err, refl
 use Prim.Native.String.{String}
 use Rattle.serde_json.specs.Data.{Data, null, string, array, object, no_items, no_members, member}
 use Rattle.fc_spec.specs.QueryFault.{syntax, FilterFault, shape, query}
-use Rattle.fc_spec.specs.FilterReading.{tags_of, local_tags, text_filter, member_filter, filter_parts}
+use Rattle.fc_spec.specs.FilterReading.{tags_of, local_tags, text_filter, member_filter, object_filter, filter_parts}
 use Rattle.fc_spec.proofs.rows.Words.{written}
 
 -- a filter has these tags and this query text
@@ -29,7 +29,7 @@ pub texts :
     × Fails (a_text "{!tag=A,}cat:a") (query syntax)
     × Fails (a_text "{!tag=A B}cat:a") (query syntax)
     × Fails (a_text "{!tag=A") (query syntax)
-unfolding written tags_of local_tags text_filter member_filter filter_parts
+unfolding written tags_of local_tags text_filter member_filter object_filter filter_parts
 texts = (refl, refl, refl, refl, refl, refl, refl, refl, refl)
 
 pub objects :
@@ -44,5 +44,5 @@ pub objects :
     × Fails (object (member (codes "#A") (a_text "*:*") (member (codes "#B") (a_text "*:*") no_members))) shape
     × Fails null shape
     × Fails (array no_items) shape
-unfolding written tags_of local_tags text_filter member_filter filter_parts
+unfolding written tags_of local_tags text_filter member_filter object_filter filter_parts
 objects = (refl, refl, refl, refl, refl, refl, refl, refl, refl, refl, refl)

@@ -1,0 +1,219 @@
+// Filters and their tags.
+ghost use Rattle.std.specs.Prelude.{◌≡◌, ◌==◌, IfOk, map, option_map};
+ghost use Rattle.std.specs.List.{list_all, slice_split};
+ghost use Rattle.serde_json.specs.View.{view};
+ghost use Rattle.fc_spec.specs.FilterReading as reading;
+ghost use Rattle.fc_spec.specs.LineReading.{sole_member};
+ghost use Rattle.fc_spec.specs.ValidQueries.{IsValidQuery};
+ghost use Rattle.fc_base.specs.Answers.{AnswersBy};
+ghost use Rattle.fc_query.specs.FilterView.{filter_fault_view, filter_view, Tagged};
+ghost use Rattle.fc_query.specs.QueryView.{query_view};
+
+use crate::{FilterFault, Query, QueryFault, parse};
+use fc_base::{Name, Refusal, Schema, WantMemory};
+use serde_json::Value;
+use std::alloc::{AllocError, Global};
+
+/// A query that keeps documents, and the tags under which facets can leave it out.
+#[derive(Debug, Drop, PartialEq, Eq)]
+pub struct Filter {
+    pub tags: Vec<Name>,
+    pub query: Query,
+}
+
+fn is_tag_byte(byte: u8) -> bool
+    ensures { result ≡ reading.is_tag_byte byte }
+{
+    byte.is_ascii_alphanumeric() || byte == b'_' || byte == b'-' || byte == b'.'
+}
+
+fn are_tag_bytes(text: &[u8]) -> bool
+    ensures { result ≡ list_all reading.is_tag_byte text.now }
+{
+    text.iter().all(|byte| is_tag_byte(*byte))
+}
+
+fn is_tag(text: &str) -> bool
+    ensures { result ≡ reading.is_tag text.now }
+{
+    !text.is_empty() && are_tag_bytes(text.as_bytes())
+}
+
+// What stands between the commas.
+fn parts_of(alloc: Global, list: &str) -> Result<Vec<&str>, AllocError>
+    ensures { IfOk result (λ parts. map (λ x. x.now) parts.items ≡ slice_split (λ b. b == 44) list.now) }
+{
+    list.split(',').collect(alloc)
+}
+
+fn are_tags(parts: &[&str]) -> bool
+    ensures { result ≡ list_all reading.is_tag (map (λ x. x.now) parts.now) }
+{
+    for part in parts {
+        if !is_tag(part) {
+            return false;
+        }
+    }
+    true
+}
+
+fn names_of(alloc: Global, parts: &[&str]) -> Result<Vec<Name>, WantMemory>
+    ensures { IfOk result (λ names. names.items ≡ map (λ x. x.now) parts.now) }
+{
+    let mut names = Vec::new(alloc);
+    for part in parts {
+        names.push(Name::new(alloc, part)?)?;
+    }
+    Ok(names)
+}
+
+// The tags between the commas of a text.
+#[tactic(auto, unfolding(fc_spec::specs::FilterReading::tags_of))]
+fn tags_of(alloc: Global, list: &str) -> Result<Vec<Name>, Refusal<FilterFault>>
+    ensures { Tagged result (reading.tags_of list.now) }
+{
+    let parts = parts_of(alloc, list)?;
+    if !are_tags(&parts) {
+        return Err(Refusal::Fault(FilterFault::Query(QueryFault::Syntax)));
+    }
+    Ok(names_of(alloc, &parts)?)
+}
+
+// What is behind this front, where it stands.
+fn past_front<'a>(text: &'a str, front: &str) -> Option<&'a str>
+    ensures { option_map (λ x. x.now) result ≡ reading.past_front front.now text.now }
+{
+    text.strip_prefix(front)
+}
+
+// What stands before the first `}`, and what behind it.
+fn cut_at_brace(text: &str) -> Option<(&str, &str)>
+    ensures { option_map (λ x. (x.0.now, x.1.now)) result ≡ reading.cut_at 125 text.now }
+{
+    text.split_once('}')
+}
+
+// The only member of an object.
+fn sole_entry(value: &Value) -> Option<(&str, &Value)>
+    ensures { option_map (λ entry. (entry.0.now, view entry.1.now)) result ≡ sole_member (view value.now) }
+{
+    let members = value.as_object()?;
+    if members.len() != 1 {
+        return None;
+    }
+    let (name, inside) = members.first_key_value()?;
+    Some((name.as_str(), inside))
+}
+
+// These tags before a query text.
+fn with_query(
+    alloc: Global,
+    schema: &Schema,
+    tags: Vec<Name>,
+    text: &str,
+) -> Result<Filter, Refusal<FilterFault>>
+    ensures answer { AnswersBy filter_view filter_fault_view result
+        (reading.IsFilterBy schema.now (Ok (tags.items, text.now))) }
+    ensures valid { IfOk result (λ filter. IsValidQuery schema.now (query_view filter.query)) }
+{
+    match parse(alloc, schema, text) {
+        Ok(query) => Ok(Filter { tags, query }),
+        Err(Refusal::Memory) => Err(Refusal::Memory),
+        Err(Refusal::Fault(fault)) => Err(Refusal::Fault(FilterFault::Query(fault))),
+    }
+}
+
+// The tags of a list before a query text.
+fn tagged(
+    alloc: Global,
+    schema: &Schema,
+    list: &str,
+    text: &str,
+) -> Result<Filter, Refusal<FilterFault>>
+    ensures answer { AnswersBy filter_view filter_fault_view result
+        (reading.IsFilterBy schema.now (reading.tagged list.now text.now)) }
+    ensures valid { IfOk result (λ filter. IsValidQuery schema.now (query_view filter.query)) }
+{
+    let tags = tags_of(alloc, list)?;
+    with_query(alloc, schema, tags, text)
+}
+
+// Behind `{!tag=`.
+#[tactic(auto, unfolding(fc_spec::specs::FilterReading::local_tags))]
+fn local_filter(alloc: Global, schema: &Schema, text: &str) -> Result<Filter, Refusal<FilterFault>>
+    ensures answer { AnswersBy filter_view filter_fault_view result
+        (reading.IsFilterBy schema.now (reading.local_tags text.now)) }
+    ensures valid { IfOk result (λ filter. IsValidQuery schema.now (query_view filter.query)) }
+{
+    match cut_at_brace(text) {
+        Some((list, text)) => tagged(alloc, schema, list, text),
+        None => Err(Refusal::Fault(FilterFault::Query(QueryFault::Syntax))),
+    }
+}
+
+#[tactic(auto, unfolding(fc_spec::specs::FilterReading::text_filter))]
+fn text_filter(alloc: Global, schema: &Schema, text: &str) -> Result<Filter, Refusal<FilterFault>>
+    ensures answer { AnswersBy filter_view filter_fault_view result
+        (reading.IsFilterBy schema.now (reading.text_filter text.now)) }
+    ensures valid { IfOk result (λ filter. IsValidQuery schema.now (query_view filter.query)) }
+{
+    match past_front(text, "{!tag=") {
+        Some(left) => local_filter(alloc, schema, left),
+        None => with_query(alloc, schema, Vec::new(alloc), text),
+    }
+}
+
+#[tactic(auto, unfolding(fc_spec::specs::FilterReading::member_filter))]
+fn member_filter(
+    alloc: Global,
+    schema: &Schema,
+    key: &str,
+    text: &str,
+) -> Result<Filter, Refusal<FilterFault>>
+    ensures answer { AnswersBy filter_view filter_fault_view result
+        (reading.IsFilterBy schema.now (reading.member_filter key.now text.now)) }
+    ensures valid { IfOk result (λ filter. IsValidQuery schema.now (query_view filter.query)) }
+{
+    match past_front(key, "#") {
+        Some(list) => tagged(alloc, schema, list, text),
+        None => Err(Refusal::Fault(FilterFault::Shape)),
+    }
+}
+
+#[tactic(auto, unfolding(fc_spec::specs::FilterReading::object_filter))]
+fn object_filter(
+    alloc: Global,
+    schema: &Schema,
+    json: &Value,
+) -> Result<Filter, Refusal<FilterFault>>
+    ensures answer { AnswersBy filter_view filter_fault_view result
+        (reading.IsFilterBy schema.now (reading.object_filter (sole_member (view json.now)))) }
+    ensures valid { IfOk result (λ filter. IsValidQuery schema.now (query_view filter.query)) }
+{
+    let Some((key, value)) = sole_entry(json) else {
+        return Err(Refusal::Fault(FilterFault::Shape));
+    };
+    match value.as_str() {
+        Some(text) => member_filter(alloc, schema, key, text),
+        None => Err(Refusal::Fault(FilterFault::Shape)),
+    }
+}
+
+/// Reads a filter: a query text, perhaps behind `{!tag=A,B}`; or an object of one member, whose key
+/// is `#` and then tags separated by commas, and whose value is the query text. A fault of the tags
+/// is found before the query text is read.
+#[tactic(auto, unfolding(fc_spec::specs::FilterReading::filter_parts))]
+pub fn read_filter(
+    alloc: Global,
+    schema: &Schema,
+    json: &Value,
+) -> Result<Filter, Refusal<FilterFault>>
+    ensures answer { AnswersBy filter_view filter_fault_view result
+        (reading.IsFilterOf schema.now (view json.now)) }
+    ensures valid { IfOk result (λ filter. IsValidQuery schema.now (query_view filter.query)) }
+{
+    match json.as_str() {
+        Some(text) => text_filter(alloc, schema, text),
+        None => object_filter(alloc, schema, json),
+    }
+}
