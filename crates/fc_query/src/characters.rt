@@ -7,6 +7,9 @@ ghost use Rattle.fc_query.specs.Takes.{IsFirst, TakesPast};
 
 use std::marker::Model;
 
+// The character before which a backslash is no escape.
+const NEVER_ESCAPED: char = 'u';
+
 /// A character as it stands, or behind a backslash.
 #[derive(Clone, Copy, Debug, PartialEq, Eq)]
 pub(crate) enum Character {
@@ -41,7 +44,10 @@ fn first_of(text: &str) -> Option<(Character, &str)>
         return Some((Character::Bare(first), behind));
     }
     match left.next() {
-        Some(second) if second != 'u' => Some((Character::Escaped(second), left.as_str())),
+        Some(second) if second != NEVER_ESCAPED => Some((
+            Character::Escaped(second),
+            left.as_str(),
+        )),
         _ => Some((Character::Bare(first), behind)),
     }
 }

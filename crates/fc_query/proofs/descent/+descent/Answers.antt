@@ -17,7 +17,7 @@ pub group-others-init : goal.group-others-init
 group-others-init t c =
     let a = c.args in
     let pushed : map clause_view c.push.new.self.items ≡ clause_view c.in_ok-first.first ∷ [] =
-    ap (map clause_view) (c.in_ok-push.ensures.items ∙ ap (λ xs. xs ++ c.in_ok-first.first ∷ []) c.new-clauses.ensures.items) in
+    ap (map clause_view) c.in_ok-push.ensures.items ∙ ap (λ xs. map clause_view (xs ++ c.in_ok-first.first ∷ [])) c.new-clauses.ensures.items in
     rw (pushed, group_is a.depth a.in_field (row_of a.tokens.now)) (first_read (deeper_than a.depth) a.in_field (row_of a.tokens.now) _ _ c.in_ok-first.ensures)
 
 pub group-returns-in_err-next : goal.group-returns-in_err-next
