@@ -24,3 +24,10 @@ pub mod FirstOutput
 pub mod OneShard
 pub mod Printed
 pub mod Leaving
+pub mod ScriptMembers
+pub mod InRange
+pub mod SessionOrder
+pub mod CountedLines
+pub mod CountedDocuments
+pub mod SumsOfBlocks
+pub mod WithinLimits

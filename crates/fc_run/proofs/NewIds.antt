@@ -39,7 +39,7 @@ same_any p q (x ∷ xs) same = ap (λ b. b || list_any p xs) (same x) ∙ ap (λ
 same_new : (a b vs : List Val) → ((v : Val) → has_val v a ≡ has_val v b) → are_new a vs ≡ are_new b vs
 same_new a b vs same = ap (λ t. not (has_repeat vs) && not t) (same_any (λ v. has_val v a) (λ v. has_val v b) vs same)
 
-among : (v : Val) (known vs : List Val) → list_any (λ w. has_val w (v ∷ known)) vs ≡ (has_val v vs || list_any (λ w. has_val w known) vs)
+pub among : (v : Val) (known vs : List Val) → list_any (λ w. has_val w (v ∷ known)) vs ≡ (has_val v vs || list_any (λ w. has_val w known) vs)
 among v known vs =
     any_of_two (λ w. same_val w v) (λ w. has_val w known) vs
     ∙ ap (λ t. t || list_any (λ w. has_val w known) vs) (same_any (λ w. same_val w v) (same_val v) vs (λ w. same_val_equiv.symm w v))

@@ -8,5 +8,12 @@ pub mod Gathered
 pub mod Looking
 pub mod Said
 pub mod View
+pub mod ScriptView
+pub mod DocumentCounts
+pub mod Counts
+pub mod ReadSoFar
+pub mod ReadView
+pub mod Sessions
+pub mod Commits
 pub mod PlainReply
 pub mod Tally

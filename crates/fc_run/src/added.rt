@@ -45,7 +45,11 @@ fn insert_all(alloc: Global, ids: &mut BTreeSet<Val>, values: &[Val]) -> Result<
 }
 
 /// Makes the ids of a block's documents known, none of which was known or stands there twice.
-fn insert_ids(alloc: Global, ids: &mut BTreeSet<Val>, block: &Block) -> Result<(), Refusal<Fault>>
+pub(crate) fn insert_ids(
+    alloc: Global,
+    ids: &mut BTreeSet<Val>,
+    block: &Block,
+) -> Result<(), Refusal<Fault>>
     ensures new { Answers (λ done. tt) refused_view result
         (if_new (map val_view ids.old.keys) (ids_of (block_view block.now))) }
     ensures known { OnOk result (AreKnownToo (ids_of (block_view block.now))
@@ -70,7 +74,7 @@ fn room_after(documents: &[Document], room: u64) -> Option<u64>
 }
 
 /// What is left when the block takes its places, where there is enough.
-fn limits_after(left: Limits, block: &Block) -> Option<Limits>
+pub(crate) fn limits_after(left: Limits, block: &Block) -> Option<Limits>
     ensures { option_map limits_view result ≡ left_after (limits_view left) (block_view block.now) }
 {
     let children = block.children.len() as u64;

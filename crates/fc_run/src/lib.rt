@@ -13,6 +13,7 @@ mod refusal;
 mod reply;
 mod request;
 mod said;
+mod script;
 mod status;
 mod tally;
 mod text_line;

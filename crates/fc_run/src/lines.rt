@@ -34,7 +34,7 @@ fn cut_line(bytes: &[u8]) -> (&[u8], &[u8])
 }
 
 /// Spaces, tabs and CRs alone.
-fn is_blank(line: &[u8]) -> bool
+pub(crate) fn is_blank(line: &[u8]) -> bool
     ensures { result ≡ blank line.now }
 {
     line.iter()
@@ -42,7 +42,7 @@ fn is_blank(line: &[u8]) -> bool
 }
 
 /// What the line says, where it is JSON.
-fn json_of(alloc: Global, line: &[u8]) -> Result<Option<Value>, WantMemory>
+pub(crate) fn json_of(alloc: Global, line: &[u8]) -> Result<Option<Value>, WantMemory>
     ensures { IfOk result (λ found. option_map view found ≡ json line.now) }
 {
     match Value::from_slice(alloc, line) {
@@ -110,7 +110,8 @@ impl<'a> Lines<'a> {
         self.number
     }
 
-    fn next_line(&mut self) -> Option<&'a [u8]>
+    /// The next line.
+    pub(crate) fn next_line(&mut self) -> Option<&'a [u8]>
         ensures lines { MatchOption result (self.old.lines ≡ []) (λ line. self.old.lines ≡ line.now ∷ self.new.lines) }
         ensures number { OnSome result (self.new.number ≡ suc self.old.number) }
     {

@@ -1,0 +1,286 @@
+use super::*;
+use crate::limits::{Limits, SCRIPT_LIMIT, SCRIPT_LIMITS};
+use fc_base::Refusal;
+use fc_docs::DocFault;
+use std::alloc::{AllocError, Global};
+use std::test::Fail;
+
+// One script a line: its first fault with the line, or `ok` and the number of its lines behind the
+// schema; then the lines of the script, each behind a `~`. S is a schema of two shards with a field of
+// each type, and `^` a tab.
+const CASES: &str = r#"
+no-schema 0
+no-schema 0 ~ ~^
+no-schema 1 ~[]
+no-schema 3 ~~ ~7
+no-schema 1 ~{}
+no-schema 1 ~{"schema":{"shards":1,"fields":{}},"more":1}
+no-schema 1 ~{"commit":{}}
+not-json 1 ~{
+not-json 2 ~S~{]~x
+not-json 2 ~S~{"sync":{}} {}
+not-json 2 ~S~{"sync":{"x":1e400}}
+not-json 2 ~S~{"sync":{}}^x
+bad-schema 1 ~{"schema":[]}
+bad-schema 1 ~{"schema":{"shards":1}}
+bad-schema 1 ~{"schema":{"shards":65,"fields":{}}}
+bad-schema 2 ~~{"schema":{"shards":0,"fields":{}}}
+ok 0 ~{"schema":{"shards":64,"fields":{}}}
+ok 0 ~S
+unknown-line 2 ~S~S
+unknown-line 2 ~S~[]
+unknown-line 2 ~S~{}
+unknown-line 2 ~S~{"sync":{},"commit":{}}
+unknown-line 2 ~S~{"sync":null}
+unknown-line 2 ~S~{"sync":{"shard":0}}
+unknown-line 2 ~S~{"commit":[]}
+unknown-line 2 ~S~{"commit":{"shards":0}}
+unknown-line 2 ~S~{"add":{"shard":9}}
+unknown-line 2 ~S~{"add":{"doc":{},"shard":9,"boost":1}}
+unknown-line 2 ~S~{"delete":{"id":"1"}}
+unknown-line 2 ~S~{"search":{"session":"a"}}
+unknown-line 2 ~S~{"search":{"request":{},"session":7}}
+unknown-line 2 ~S~{"search":{"request":{},"session":null}}
+unknown-line 2 ~S~{"search":{"request":{},"session":""}}
+unknown-line 2 ~S~{"search":{"request":{},"limit":1}}
+bad-shard 2 ~S~{"commit":{"shard":2}}
+bad-shard 2 ~S~{"commit":{"shard":-1}}
+bad-shard 2 ~S~{"commit":{"shard":1.0}}
+bad-shard 2 ~S~{"commit":{"shard":null}}
+bad-shard 2 ~S~{"commit":{"shard":"0"}}
+bad-shard 2 ~S~{"add":{"doc":{},"shard":2}}
+bad-shard 2 ~S~{"commit":{"shard":0,"shard":2}}
+bad-document/wrong-type 2 ~S~{"add":{"doc":null}}
+bad-document/no-id 2 ~S~{"add":{"doc":{}}}
+bad-document/unknown-field 2 ~S~{"add":{"doc":{"x":1}}}
+bad-document/too-many-values 2 ~S~{"add":{"doc":{"id":["1","1"]}}}
+bad-document/deep-children 2 ~S~{"add":{"doc":{"id":"1","_childDocuments_":[{"_childDocuments_":[1]}]}}}
+bad-document/unknown-field 3 ~S~{"add":{"doc":{"id":"1"}}}~{"add":{"doc":{"id":"1","x":1}}}
+duplicate-id 3 ~S~{"add":{"doc":{"id":"7"}}}~{"add":{"doc":{"id":7}}}
+duplicate-id 4 ~S~{"add":{"doc":{"id":"7"}}}~{"commit":{}}~{"add":{"doc":{"id":"7"},"shard":1}}
+duplicate-id 2 ~S~{"add":{"doc":{"id":"7","_childDocuments_":[{"id":"7"}]}}}
+duplicate-id 2 ~S~{"add":{"doc":{"id":"7","_childDocuments_":[{"id":"8"},{"id":"8"}]}}}
+duplicate-id 3 ~S~{"add":{"doc":{"id":"7","_childDocuments_":[{"id":"8"}]}}}~{"add":{"doc":{"id":"8"}}}
+duplicate-id 3 ~S~{"add":{"doc":{"id":"7"}}}~{"add":{"doc":{"id":"7","n":-9223372036854775808}}}
+field-total 2 ~S~{"add":{"doc":{"id":"7","n":-9223372036854775808}}}
+field-total 3 ~S~{"add":{"doc":{"id":"7","n":9223372036854775807}}}~{"add":{"doc":{"id":"8","n":-1},"shard":1}}
+field-total 2 ~S~{"add":{"doc":{"id":"7","ns":[1,9223372036854775806],"_childDocuments_":[{"id":"8","ns":-1}]}}}
+ok 2 ~S~{"add":{"doc":{"id":"7","n":9223372036854775807}}}~{"add":{"doc":{"id":"8","ns":9223372036854775807}}}
+ok 2 ~S~{"add":{"doc":{"id":"7","ns":[5,5,"5",-5]}}}~{"add":{"doc":{"id":"8","ns":9223372036854775797}}}
+ok 1 ~S~{"commit":{"shard":1}}
+ok 1 ~S~{"commit":{"shard":5,"shard":0}}
+ok 3 ~S~{"search":{"request":{}}}~ ~{"search":{"request":7,"session":"main"}}~{"search":{"session":"b","request":null}}
+ok 4 ~~^~S~{"add":{"doc":{"id":"7"}}}~{"commit":{}}~{"sync":{}}~{"search":{"request":[]}}~
+not-json 3 ~S~{"sync":{}}~{"sync":
+unknown-line 2 ~S~{"sync":{"x":1}}~{
+"#;
+
+const SCHEMA: &str =
+    r#"{"schema":{"shards":2,"fields":{"cat":"string","n":"plong","ns":"plongs","tags":"strings"}}}"#;
+
+// The bytes of a case: each `~` begins a line, and S stands for the schema.
+fn bytes_of(alloc: Global, case: &str) -> Result<Vec<u8>, AllocError> {
+    let mut bytes = Vec::new(alloc);
+    for (number, line) in case.split('~').enumerate() {
+        if number > 1 {
+            bytes.push(b'\n')?;
+        }
+        if number > 0 {
+            let line = if line == "S" { SCHEMA } else { line };
+            for byte in line.bytes() {
+                bytes.push(if byte == b'^' { b'\t' } else { byte })?;
+            }
+        }
+    }
+    Ok(bytes)
+}
+
+// The first fault with its line, or how many lines stand behind the schema.
+fn shown(alloc: Global, limits: Limits, bytes: &[u8]) -> Result<String, Fail> {
+    match read_script(alloc, limits, bytes) {
+        Ok(script) => Ok(format!(in alloc; "ok {}", script.lines.len())?),
+        Err(Refusal::Memory) => Err(Fail::new("memory ran out")),
+        Err(Refusal::Fault(ScriptFault { line, fault })) => {
+            let name = fault.name();
+            match fault {
+                LineFault::BadDocument(detail) => Ok(format!(in alloc; "{name}/{detail} {line}")?),
+                _ => Ok(format!(in alloc; "{name} {line}")?),
+            }
+        }
+    }
+}
+
+#[test]
+fn scripts_have_their_first_fault(rt: HostRuntime) -> Result<(), Fail> {
+    let alloc = rt.alloc();
+    let mut count = 0u32;
+    for case in CASES.split('\n') {
+        if case.is_empty() {
+            continue;
+        }
+        let (expected, _) = case.split_once(" ~").unwrap_or((case, ""));
+        let bytes = bytes_of(alloc, case)?;
+        let found = shown(alloc, SCRIPT_LIMITS, &bytes)?;
+        assert!(rt; found.as_str() == expected, "{found} at {case}");
+        count = count.wrapping_add(1);
+    }
+    assert_eq!(rt; count, 64);
+    Ok(())
+}
+
+// The schema, and so many lines of this text.
+fn repeated(alloc: Global, line: &str, count: u32) -> Result<Vec<u8>, AllocError> {
+    let mut bytes = Vec::new(alloc);
+    bytes.extend_from_slice(SCHEMA.as_bytes())?;
+    for _ in 0..count {
+        bytes.push(b'\n')?;
+        bytes.extend_from_slice(line.as_bytes())?;
+    }
+    Ok(bytes)
+}
+
+#[test]
+fn commits_and_syncs_are_few(rt: HostRuntime) -> Result<(), Fail> {
+    let alloc = rt.alloc();
+    for (line, count, expected) in [
+        (r#"{"commit":{}}"#, 4096, "ok 4096"),
+        (r#"{"commit":{}}"#, 4097, "too-many-commits 4098"),
+        (r#"{"commit":{"shard":1}}"#, 4097, "too-many-commits 4098"),
+        (r#"{"sync":{}}"#, 4096, "ok 4096"),
+        (r#"{"sync":{}}"#, 4097, "too-many-syncs 4098"),
+    ] {
+        let bytes = repeated(alloc, line, count)?;
+        let found = shown(alloc, SCRIPT_LIMITS, &bytes)?;
+        assert!(rt; found.as_str() == expected, "{found} at {count} of {line}");
+    }
+    Ok(())
+}
+
+#[test]
+fn sessions_are_few(rt: HostRuntime) -> Result<(), Fail> {
+    let alloc = rt.alloc();
+    for (sessions, expected) in [(16, "ok 32"), (17, "too-many-sessions 35")] {
+        let mut text = String::from_str(alloc, SCHEMA)?;
+        for number in 0..sessions {
+            write!(
+                text,
+                "\n{{\"search\":{{\"request\":{{}},\"session\":\"s0\"}}}}"
+            )?;
+            write!(
+                text,
+                "\n{{\"search\":{{\"request\":{{}},\"session\":\"s{number}\"}}}}"
+            )?;
+        }
+        let found = shown(alloc, SCRIPT_LIMITS, text.as_bytes())?;
+        assert!(rt; found.as_str() == expected, "{found} at {sessions}");
+    }
+    for (length, expected) in [(64, "ok 1"), (65, "unknown-line 2")] {
+        let session = "s".repeat(alloc, length)?;
+        let text = format!(in alloc;
+            "{SCHEMA}\n{{\"search\":{{\"request\":{{}},\"session\":\"{session}\"}}}}"
+        )?;
+        let found = shown(alloc, SCRIPT_LIMITS, text.as_bytes())?;
+        assert!(rt; found.as_str() == expected, "{found} at {length} bytes");
+    }
+    Ok(())
+}
+
+#[test]
+fn lines_have_a_length(rt: HostRuntime) -> Result<(), Fail> {
+    let alloc = rt.alloc();
+    for (line, spaces, expected) in [
+        (r#"{"sync":{}}"#, 1_048_565, "ok 1"),
+        (r#"{"sync":{}}"#, 1_048_566, "long-line 2"),
+        ("", 1_048_576, "ok 0"),
+        ("", 1_048_577, "long-line 2"),
+        ("{", 1_048_577, "long-line 2"),
+    ] {
+        let spaces = " ".repeat(alloc, spaces)?;
+        let text = format!(in alloc; "{SCHEMA}\n{line}{spaces}")?;
+        let found = shown(alloc, SCRIPT_LIMITS, text.as_bytes())?;
+        assert!(rt; found.as_str() == expected, "{found} at {line}");
+    }
+    Ok(())
+}
+
+#[test]
+fn documents_and_values_are_few(rt: HostRuntime) -> Result<(), Fail> {
+    let alloc = rt.alloc();
+    let bytes = bytes_of(
+        alloc,
+        r#" ~S~{"add":{"doc":{"id":"1","ns":[5,5],"_childDocuments_":[{"id":"2"}]}}}~{"add":{"doc":{"id":"3","n":1}}}"#,
+    )?;
+    for (documents, values, expected) in [
+        (3, 5, "ok 2"),
+        (2, 5, "too-many-documents 3"),
+        (3, 4, "too-many-documents 3"),
+        (1, 5, "too-many-documents 2"),
+        (3, 2, "too-many-documents 2"),
+    ] {
+        let limits = Limits { documents, values };
+        let found = shown(alloc, limits, &bytes)?;
+        assert!(rt;
+            found.as_str() == expected,
+            "{found} at {documents} and {values}"
+        );
+    }
+    Ok(())
+}
+
+#[test]
+fn scripts_have_a_length(rt: HostRuntime) -> Result<(), Fail> {
+    let alloc = rt.alloc();
+    let bytes = vec![in alloc; b' '; SCRIPT_LIMIT + 1]?;
+    assert_eq!(rt; shown(alloc, SCRIPT_LIMITS, &bytes)?.as_str(), "too-long 0");
+    Ok(())
+}
+
+#[test]
+fn lines_are_kept(rt: HostRuntime) -> Result<(), Fail> {
+    let alloc = rt.alloc();
+    let bytes = bytes_of(
+        alloc,
+        r#" ~S~{"add":{"shard":1,"doc":{"id":"1","_childDocuments_":[{"id":"2"}]}}}~{"commit":{"shard":1}}~{"commit":{}}~{"sync":{}}~{"search":{"request":7}}"#,
+    )?;
+    let script = read_script(alloc, SCRIPT_LIMITS, &bytes).map_err(|_| Fail::new("no script"))?;
+    assert_eq!(rt; script.schema.shards(), 2);
+    let mut shown = String::new(alloc);
+    for line in &script.lines {
+        match line {
+            Line::Add(shard, block) => write!(shown, " add {shard} {}", block.children.len())?,
+            Line::Commit(None) => shown.push_str(" commit")?,
+            Line::Commit(Some(shard)) => write!(shown, " commit {shard}")?,
+            Line::Sync => shown.push_str(" sync")?,
+            Line::Search(session, request) => {
+                write!(shown, " search {} {:?}", session.text(), request.as_u64())?;
+            }
+        }
+    }
+    assert_eq!(rt;
+        shown.as_str(),
+        " add 1 1 commit 1 commit sync search main Some(7)"
+    );
+    Ok(())
+}
+
+#[test]
+fn faults_have_numbers(rt: HostRuntime) {
+    for (number, fault) in [
+        (1, LineFault::NotJson),
+        (2, LineFault::NoSchema),
+        (3, LineFault::UnknownLine),
+        (4, LineFault::BadSchema),
+        (5, LineFault::BadShard),
+        (6, LineFault::BadDocument(DocFault::NoId)),
+        (7, LineFault::DuplicateId),
+        (8, LineFault::FieldTotal),
+        (9, LineFault::TooManyDocuments),
+        (10, LineFault::TooManySessions),
+        (11, LineFault::LongLine),
+        (12, LineFault::TooLong),
+        (13, LineFault::TooManyCommits),
+        (14, LineFault::TooManySyncs),
+    ] {
+        assert_eq!(rt; fault.number(), number);
+    }
+}
