@@ -17,7 +17,8 @@ use fc_base::{Name, Refusal, Schema, WantMemory};
 use serde_json::Value;
 use std::alloc::{AllocError, Global};
 
-/// A query that keeps documents, and the tags under which facets can leave it out.
+/// A query that keeps documents, and the tags by which facets can leave it out, in their order.
+/// (Guide: Faceting, "Tagging and Excluding Filters")
 #[derive(Debug, Drop, PartialEq, Eq)]
 pub struct Filter {
     pub tags: Vec<Name>,

@@ -1,7 +1,7 @@
 // Queries.
 use fc_base::{FieldId, Val};
 
-/// Which documents match.
+/// Which documents match. (Guide: Standard Query Parser)
 #[cycle(query)]
 #[derive(Debug, Drop, PartialEq, Eq)]
 pub enum Query {
@@ -18,7 +18,7 @@ pub enum Query {
     Group(Vec<Clause>),
 }
 
-/// An end of a range.
+/// An end of a range: no bound, or a value that is in the range or not.
 #[derive(Debug, Drop, PartialEq, Eq)]
 pub enum Bound {
     Unbounded,
@@ -26,7 +26,7 @@ pub enum Bound {
     Excluding(Val),
 }
 
-/// A clause of a group.
+/// A clause of a group: what it asks of a document, and whether that is needed.
 #[cycle(query)]
 #[derive(Debug, Drop, PartialEq, Eq)]
 pub struct Clause {

@@ -52,8 +52,9 @@ fn tree_query(
     group_query(alloc, schema, clauses)
 }
 
-/// Reads a query text: the profile of the Standard Query Parser. Its fault is the first of the four
-/// kinds that stands anywhere in the text.
+/// Reads a query text. Its fault is the first of the four kinds that stands anywhere in the text:
+/// syntax, then AND and OR in one group, then a name that is no field's, then a value that is none of
+/// its field's. What is read is valid for the schema. (Guide: Standard Query Parser)
 pub fn parse(alloc: Global, schema: &Schema, text: &str) -> Result<Query, Refusal<QueryFault>>
     ensures answer { AnswersBy query_view query_fault_view result
         (IsReadingOf schema.now text.now) }
