@@ -210,19 +210,17 @@ fn documents_and_values_are_few(rt: HostRuntime) -> Result<(), Fail> {
         alloc,
         r#" ~S~{"add":{"doc":{"id":"1","ns":[5,5],"_childDocuments_":[{"id":"2"}]}}}~{"add":{"doc":{"id":"3","n":1}}}"#,
     )?;
-    for (documents, values, expected) in [
-        (3, 5, "ok 2"),
-        (2, 5, "too-many-documents 3"),
-        (3, 4, "too-many-documents 3"),
-        (1, 5, "too-many-documents 2"),
-        (3, 2, "too-many-documents 2"),
+    for (documents, values, name, number) in [
+        (3, 5, "ok", 2),
+        (2, 5, "too-many-documents", 3),
+        (3, 4, "too-many-documents", 3),
+        (1, 5, "too-many-documents", 2),
+        (3, 2, "too-many-documents", 2),
     ] {
         let limits = Limits { documents, values };
         let found = shown(alloc, limits, &bytes)?;
-        assert!(rt;
-            found.as_str() == expected,
-            "{found} at {documents} and {values}"
-        );
+        let expected = format!(in alloc; "{name} {number}")?;
+        assert!(rt; found == expected, "{found} at {documents} and {values}");
     }
     Ok(())
 }
