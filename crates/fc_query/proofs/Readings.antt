@@ -1,15 +1,16 @@
 -- What a text means, from its tokens and their tree.
-use Rattle.std.proofs.Common.{◌≡◌, ◌∙◌, ap, sym, inl, inr, List, None, Some, Result, Ok, Err, IfOk}
+use Rattle.std.proofs.Common.{◌≡◌, ap, sym, inl, inr, List, Some, Result, Ok, Err, IfOk}
 use Rattle.fc_spec.specs.Val.{Text}
 use Rattle.fc_spec.specs.Schema as schema
 use Rattle.fc_spec.specs.QueryTokens.{Token}
 use Rattle.fc_spec.specs.QueryRow.{tokens_of}
-use Rattle.fc_spec.specs.QueryTrees.{Group, group_tokens}
+use Rattle.fc_spec.specs.QueryTrees.{Group}
 use Rattle.fc_spec.specs.QueryMeaning.{tree_query}
-use Rattle.fc_spec.specs.QueryTexts.{IsTreeOf, IsReadingOf}
+use Rattle.fc_spec.specs.QueryTexts.{IsReadingOf}
 use Rattle.fc_spec.specs.ValidQueries.{IsValidQuery}
 use Rattle.fc_spec.proofs.TreeReading.{tree_of}
-use Rattle.fc_spec.proofs.TreesOfTokens.{tree_again, tree_spells}
+use Rattle.fc_spec.proofs.TextReadings.{tree_is, no_tree}
+use Rattle.fc_spec.proofs.TreesOfTokens.{tree_spells}
 use Rattle.fc_base.specs.Answers.{Answers, AnswersBy}
 use Rattle.fc_base.specs.declared.error.Refusal.{Refusal}
 use Rattle.fc_base.specs.declared.error.Refusal.TheVariants.{Memory, Fault}
@@ -18,18 +19,6 @@ use Rattle.fc_query.specs.declared.query.Query.{Query}
 use Rattle.fc_query.specs.QueryView.{query_fault_view, query_view}
 use Rattle.fc_query.specs.Takes.{Stops}
 use Rattle.fc_query.proofs.Validity.{tree_valid}
-
--- the tree of a text
-tree_is : (t : Text) (ts : List Token) (g : Group) → tokens_of t ≡ Some ts → tree_of ts ≡ Some g → IsTreeOf t g
-tree_is t ts g e h = let spelled = tree_spells ts g h in (spelled.0, e ∙ ap (λ x. Some x) spelled.1)
-
--- a text whose tokens have no tree has none
-no_tree : (t : Text) (ts : List Token) → tokens_of t ≡ Some ts → tree_of ts ≡ None → (g : Group) → IsTreeOf t g → ⊥
-no_tree t ts e h g tree =
-    let same : Some ts ≡ Some (group_tokens g) = sym e ∙ tree.1 in
-    let row : ts ≡ group_tokens g = cc in
-    let found : None ≡ Some g = sym h ∙ ap tree_of row ∙ tree_again g tree.0 in
-    cc
 
 pub without_tree : (s : schema.Schema) (t : Text) (ts : List Token) (stop : Refusal QueryFault) → tokens_of t ≡ Some ts → Stops stop (tree_of ts) → AnswersBy query_view query_fault_view (Err stop) (IsReadingOf s t)
 without_tree s t ts Memory e h = tt

@@ -75,5 +75,6 @@ pub mod QueryForms
 pub mod QuerySpellingLaw
 pub mod QueryMeaning
 pub mod QueryTexts
+pub mod QueryReadingLaw
 pub mod FilterReading
 pub mod ValidQueries

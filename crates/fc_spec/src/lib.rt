@@ -6,6 +6,7 @@
 
 ghost use Rattle.fc_spec.specs.CombiningLaw.{CombinesLists, CombinesParts};
 ghost use Rattle.fc_spec.specs.Merging.{MergesIntoReply};
+ghost use Rattle.fc_spec.specs.QueryReadingLaw.{HasOneReading};
 ghost use Rattle.fc_spec.specs.QuerySpellingLaw.{HasOneTree};
 ghost use Rattle.fc_spec.specs.RefinedPaths.{AreRefinedPathsExact};
 ghost use Rattle.fc_spec.specs.RoundsEnd.{NothingLacksBeyond, RoundsAnswer, RoundsAreFew, RoundsComplete, SearchesEnd};
@@ -70,4 +71,9 @@ pub fn messages_have_one_spelling()
 /// No two trees of query texts have the same tokens.
 pub fn query_trees_have_one_spelling()
     ensures { HasOneTree }
+{}
+
+/// For each schema a query text has one query or fault.
+pub fn query_texts_have_one_meaning()
+    ensures { HasOneReading }
 {}
