@@ -45,6 +45,14 @@ mod tests {
         let set = DocSet::from_mask(alloc, 3, &[13])?;
         check(&rt, &set, &[0, 2]);
         check(&rt, &set.copy(alloc)?, &[0, 2]);
+        let mut set = set;
+        set.fill();
+        check(&rt, &set, &[0, 1, 2]);
+        assert_eq!(rt; set.len(), 3);
+        set.set_mask(&[26]);
+        check(&rt, &set, &[1]);
+        set.clear();
+        check(&rt, &set, &[]);
         Ok(())
     }
 

@@ -103,6 +103,32 @@ impl DocSet {
         and_not_words(&mut self.words, &other.words);
     }
 
+    /// Makes the set exactly the positions whose bit is 1: bit j of word i stands for position 64 i + j.
+    /// Bits past the length are passed over.
+    pub fn set_mask(&mut self, words: &[u64])
+        requires { words_for (length self.old) ≤ length words.now }
+        ensures { self.new ≡ first_bits (length self.old) words.now }
+    {
+        let count = self.words.len();
+        self.words.copy_from_slice(&words[..count]);
+        clear_from(&mut self.words, self.len);
+    }
+
+    /// Takes every position away.
+    pub fn clear(&mut self)
+        ensures { self.new ≡ replicate (length self.old) false }
+    {
+        self.words.fill(0);
+    }
+
+    /// Puts every position below the length into the set.
+    pub fn fill(&mut self)
+        ensures { self.new ≡ replicate (length self.old) true }
+    {
+        self.words.fill(u64::MAX);
+        clear_from(&mut self.words, self.len);
+    }
+
     /// Puts a position into the set.
     pub fn add(&mut self, at: u32)
         requires { at < length self.old }
