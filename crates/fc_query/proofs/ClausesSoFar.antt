@@ -39,11 +39,5 @@ one_more s around before c left q whole e h =
           ∙ h.same;
     }
 
-pub none_more : (s : Schema) (around : Option ℕ) (before : List Part) (c : tree.Part) (left : List tree.Part) (whole : Option Clauses) → atom_query s around c.2 ≡ None
-    → AreSoFar s around before (tree.linked (c ∷ left)) whole → whole ≡ None
-none_more s around before c left whole e h =
-    let need = need_of c.1 c.0 (next_operator (tree.linked left)) in
-    sym h.same ∙ ap (λ o. option_map (onto before) (o >>= λ x. clauses_query s around (tree.linked left) >>= λ cs. Some (clause need x cs))) e
-
 pub all_read : (s : Schema) (around : Option ℕ) (before : List Part) (whole : Option Clauses) → AreSoFar s around before (tree.linked []) whole → whole ≡ Some (linked before)
 all_read s around before whole h = sym h.same ∙ ap (λ x. Some x) (onto_end before)

@@ -1,5 +1,5 @@
 -- The front of a row whose characters pass a test, and what is left behind it.
-use Rattle.std.proofs.Common.{◌≡◌, ◌∙◌, ap, refl, sym, ℕ, ◌<◌, suc, List, [], ◌∷◌, ◌++◌, length, take, drop, Bool, false, true, None, Some, ◌&&◌, arith, append_assoc}
+use Rattle.std.proofs.Common.{◌≡◌, ◌∙◌, ap, refl, sym, ℕ, suc, List, [], ◌∷◌, ◌++◌, take, drop, Bool, false, true, None, Some, ◌&&◌, arith, append_assoc}
 use Rattle.std.specs.Prelude.{slice_get}
 use Rattle.std.specs.Char.{encode_utf8}
 use Rattle.std.specs.List.{list_all, prefix_len, take_while}
@@ -12,10 +12,6 @@ first_and_rest c (d ∷ cs) h = cc
 pub none_first : (cs : List Character) → slice_get cs 0 ≡ None → cs ≡ []
 none_first [] h = refl
 none_first (c ∷ cs) h = cc
-
-pub rest_is_shorter : (c : Character) (cs : List Character) → slice_get cs 0 ≡ Some c → length (drop 1 cs) < length cs
-rest_is_shorter c [] h = absurd cc
-rest_is_shorter c (d ∷ cs) h = omega arith
 
 len_goes_on : (p : Character → Bool) (c : Character) (cs : List Character) → p c ≡ true → prefix_len p (c ∷ cs) ≡ suc (prefix_len p cs)
 len_goes_on p c cs h = rw h (omega arith)

@@ -1,6 +1,6 @@
 -- One optional clause.
 use Rattle.std.proofs.Common.{◌≡◌, ◌∙◌, ap, refl, List, [], ◌∷◌, ◌++◌, length, true, false, arith, length-append}
-use Rattle.fc_spec.specs.Query.{Need, must, must_not, may, Query}
+use Rattle.fc_spec.specs.Query.{must, must_not, may}
 use Rattle.fc_spec.specs.QueryMeaning.{grouped}
 use Rattle.fc_query.specs.QueryView.{Part, linked, is_one_optional_of}
 
@@ -10,11 +10,6 @@ not_one (p ∷ []) h = absurd (h refl)
 not_one ((must, q) ∷ r ∷ ps) h = refl
 not_one ((must_not, q) ∷ r ∷ ps) h = refl
 not_one ((may, q) ∷ r ∷ ps) h = refl
-
-pub one_by_need : (n : Need) (q : Query) → is_one_optional_of (linked ((n, q) ∷ [])) ≡ true → n ≡ may
-one_by_need must q h = cc
-one_by_need must_not q h = cc
-one_by_need may q h = refl
 
 last_of_one : (p r : Part) (before : List Part) → p ∷ [] ≡ before ++ r ∷ [] → p ≡ r
 last_of_one p r [] e = cc

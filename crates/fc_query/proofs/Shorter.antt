@@ -1,11 +1,11 @@
 -- A token takes at least one character.
 use Rattle.std.proofs.Common.{◌≡◌, sym, refl, ℕ, ◌≤◌, List, [], ◌∷◌, length, Bool, true, false, cond, Option, None, Some, option_map, ◌==◌, ◌||◌, ◌&&◌, IfSome, arith, length-drop}
-use Rattle.std.specs.Option.{option_and_then}
 use Rattle.std.specs.List.{prefix_len, take_while}
 use Rattle.fc_spec.specs.Val.{Text}
 use Rattle.fc_spec.specs.QueryTokens.{Token}
 use Rattle.fc_spec.specs.QueryCharacters.{Character, bare, escaped, code, behind, begins, past, past_white, is_char, is_blank, is_quotable, stands_in_end, is_ordinary, goes_on, text_of}
 use Rattle.fc_spec.specs.Options.{◌>>=◌}
+use Rattle.fc_spec.proofs.Present.{bound, either, mapped, weaker}
 use Rattle.fc_query.proofs.Fronts.{left_goes_on}
 use Rattle.fc_spec.specs.QueryWords.{word_at, quoted_at}
 use Rattle.fc_spec.specs.QueryRanges.{written_end_at, end_at, past_to, bracket_at, range_at}
@@ -20,22 +20,6 @@ Leaves n o = IfSome o (λ x. length x.1 ≤ n)
 
 abbrev LeavesRow : ℕ → Option Row → Type 0
 LeavesRow n o = IfSome o (λ left. length left ≤ n)
-
-bound : {A B : Type 0} (P : B → Type 0) (o : Option A) (f : A → Option B) → IfSome o (λ a. IfSome (f a) P) → IfSome (option_and_then f o) P
-bound P None f h = tt
-bound P (Some a) f h = h
-
-either : {B : Type 0} (P : B → Type 0) (b : Bool) (x y : Option B) → IfSome x P → IfSome y P → IfSome (cond b x y) P
-either P true x y h k = h
-either P false x y h k = k
-
-mapped : {A B : Type 0} (P : B → Type 0) (o : Option A) (f : A → B) → IfSome o (λ a. P (f a)) → IfSome (option_map f o) P
-mapped P None f h = tt
-mapped P (Some a) f h = h
-
-weaker : {A : Type 0} (P Q : A → Type 0) (o : Option A) → ((a : A) → P a → Q a) → IfSome o P → IfSome o Q
-weaker P Q None f h = tt
-weaker P Q (Some a) f h = f a h
 
 behind_shorter : (p : Character → Bool) (cs : Row) → length (behind p cs) ≤ length cs
 behind_shorter p cs = omega (arith, length-drop (prefix_len p cs) cs)

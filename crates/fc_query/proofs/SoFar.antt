@@ -1,11 +1,10 @@
 -- The tokens of a text so far.
 use Rattle.std.proofs.Common.{◌≡◌, ◌∙◌, ap, sym, refl, subst, ℕ, zero, suc, ◌<◌, ◌≤◌, List, [], ◌∷◌, ◌++◌, length, drop, Bool, true, false, Option, None, Some, option_map, IfSome, arith, append_assoc, append-nil}
 use Rattle.std.specs.Prelude.{slice_get}
-use Rattle.fc_spec.specs.Val.{Text}
 use Rattle.fc_spec.specs.Options.{◌>>=◌}
 use Rattle.fc_spec.specs.QueryTokens.{Token}
 use Rattle.fc_spec.specs.QueryCharacters.{Character, is_blank}
-use Rattle.fc_spec.specs.QueryRow.{is_colon, token_at, tokens_within, tokens_of}
+use Rattle.fc_spec.specs.QueryRow.{is_colon, token_at, tokens_within}
 use Rattle.fc_query.proofs.Fronts.{first_and_rest, none_first}
 use Rattle.fc_query.proofs.Shorter.{token_shorter}
 
@@ -61,13 +60,6 @@ none_on zero before b c cs whole h room e same = absurd (omega arith)
 none_on (suc n) before b c cs whole h room e same =
     let next = λ (first : Token × List Character). tokens_within n (is_colon first.0) first.1 >>= λ others. Some (first.0 ∷ others) in
     sym same ∙ ap (option_map (λ ts. before ++ ts)) (past_token n b c cs h ∙ ap (λ o. o >>= next) e)
-
-pub start : (t : Text) (cs : List Character) → tokens_within (length cs) false cs ≡ tokens_of t → IsSoFar [] false cs (tokens_of t)
-start t cs e = record { most = length cs; room = omega arith; same = same_map (tokens_within (length cs) false cs) ∙ e }
-  where
-    same_map : (o : Option (List Token)) → option_map (λ ts. [] ++ ts) o ≡ o
-    same_map None = refl
-    same_map (Some ts) = refl
 
 -- white space is left
 pub blank_goes_on : (before : List Token) (b : Bool) (c : Character) (cs left : List Character) (whole : Option (List Token)) → slice_get cs 0 ≡ Some c → is_blank c ≡ true → left ≡ drop 1 cs

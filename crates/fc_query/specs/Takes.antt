@@ -1,16 +1,14 @@
 -- What functions that cut a text answer.
-use Rattle.std.specs.Prelude.{◌≡◌, List, [], ◌∷◌, Option, None, Some}
-use Rattle.std.specs.Prelude.{Bool, true, false, Result, Ok, Err, string_bytes}
+use Rattle.std.specs.Prelude.{◌≡◌, ℕ, List, [], ◌∷◌, Bool, true, false, Option, None, Some, Result, Ok, Err, string_bytes}
 use Rattle.std.specs.List.{list_all, take_while}
+use Rattle.std.specs.Str.{chars}
 use denote.Ref.{Bor}
+use Rattle.fc_spec.specs.QueryCharacters as definition
 use Rattle.fc_base.specs.declared.error.Refusal.{Refusal}
 use Rattle.fc_base.specs.declared.error.Refusal.TheVariants.{Memory, Fault}
 use Rattle.fc_query.specs.declared.fault.QueryFault.{QueryFault}
 use Rattle.fc_query.specs.declared.fault.QueryFault.TheVariants.{Syntax, BadValue}
 use Rattle.fc_query.specs.declared.lex.Run.{Run}
-use Rattle.std.specs.Prelude.{ℕ}
-use Rattle.std.specs.Str.{chars}
-use Rattle.fc_spec.specs.QueryCharacters as definition
 use Rattle.fc_query.specs.declared.characters.Character.{Character}
 use Rattle.fc_query.specs.View.{character_view}
 
