@@ -1,0 +1,11 @@
+pub mod TextOrder
+pub mod Ordinals
+pub mod TextRows
+pub mod Marked
+pub mod LongRows
+pub mod Unbounded
+pub mod GroupAnswers
+pub mod TakenSoFar
+pub mod QueryViews
+pub mod GroupSets
+pub mod SchemaFits

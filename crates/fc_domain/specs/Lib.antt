@@ -1,0 +1,3 @@
+pub mod FieldsFit
+pub mod Within
+pub mod Grouping
