@@ -4,6 +4,8 @@
 mod columns;
 mod longs;
 mod matching;
+#[cfg(test)]
+mod tests;
 mod texts;
 
 pub use matching::matches;

@@ -83,6 +83,7 @@ fn has_between(values: &[i64], low: i64, high: i64) -> bool
 }
 
 // Makes the set the positions with an integer from `low` to `high`, both included.
+// Row by row, since only the rows show that each integer is one of 64 bits signed.
 fn select_from_to(column: &LongColumn, low: i64, high: i64, into: &mut DocSet)
     requires { length into.old ≡ length column.now }
     ensures { (test : ℤ → Bool) → PassesFromTo low high test
