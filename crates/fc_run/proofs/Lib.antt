@@ -1,15 +1,9 @@
 pub mod CutLines
-pub mod LookedInto
 pub mod IdSets
 pub mod FieldTexts
 pub mod NewIds
-pub mod Gathering
-pub mod Drafting
-pub mod Following
-pub mod Reading
 pub mod DistinctValues
 pub mod GoodBlocks
-pub mod FirstPremises
 pub mod IndexOrder
 pub mod NoFloats
 pub mod PlainKeys
@@ -21,7 +15,6 @@ pub mod TallyCounts
 pub mod TallySteps
 pub mod NumberedLines
 pub mod FirstOutput
-pub mod OneShard
 pub mod Printed
 pub mod Leaving
 pub mod ScriptMembers

@@ -1,17 +1,17 @@
 -- What is counted over the lines of a script.
 use Rattle.std.specs.Prelude.{◌≡◌, ◌<◌, ◌≤◌, ℕ, List, count_by, length, slice_index, All, IfSome}
 use Rattle.std.specs.List.{filter_map}
-use Rattle.serde_json.specs.Data.{Data}
 use Rattle.fc_spec.specs.Schema.{Schema}
 use Rattle.fc_spec.specs.Script.{Line, add, commit, sync, asks, is_sync, commits_shard}
 use Rattle.fc_spec.specs.ScriptTotals.{Limits, added, sessions, total_limit}
 use Rattle.fc_spec.specs.ValidBlocks.{IsBlockOf}
 use Rattle.fc_run.specs.DocumentCounts.{AreDocumentCounts}
+use Rattle.fc_run.specs.ReadSoFar.{AskedLine}
 use Rattle.fc_run.specs.declared.script.counts.Counts.{Counts}
 
--- a block is of the schema, and a commit's shard one of its shards
-abbrev pub IsLineOf : Schema → Line Data → Type 0
-IsLineOf s (add shard block) = IsBlockOf s block
+-- a block is of the schema, and shards are among its shards
+abbrev pub IsLineOf : {A : Type 0} → Schema → Line A → Type 0
+IsLineOf s (add shard block) = (shard < s.shards) × IsBlockOf s block
 IsLineOf s (commit shard) = IfSome shard (λ n. n < s.shards)
 IsLineOf s sync = Unit {0}
 IsLineOf s (asks session a) = Unit {0}
@@ -26,7 +26,7 @@ pub record AreWithin (s : Schema) (c : Counts) : Type 0 where
   pub syncs : c.syncs ≤ 4096
 
 -- they are counted over these lines, and each count is within its limit
-pub record AreCounts (limits : Limits) (s : Schema) (lines : List (Line Data)) (c : Counts) : Type 0 where
+pub record AreCounts (limits : Limits) (s : Schema) (lines : List AskedLine) (c : Counts) : Type 0 where
   pub valid : All (IsBlockOf s) (filter_map added lines)
   pub documents : AreDocumentCounts limits (length s.fields) (filter_map added lines) c.documents
   pub shards : length c.commits.items ≡ s.shards

@@ -4,7 +4,8 @@ use Rattle.fc_spec.specs.Document.{Block}
 use Rattle.fc_spec.specs.Totals.{documents_in}
 use Rattle.fc_spec.specs.ScriptTotals.{Limits, ids_in, has_repeat, absolute_total, total_limit}
 use Rattle.fc_base.specs.View.{val_view}
-use Rattle.fc_run.specs.Gathered.{AreIdsOf, limits_with}
+use Rattle.fc_run.specs.Ids.{AreIdsOf}
+use Rattle.fc_run.specs.Left.{limits_with}
 use Rattle.fc_run.specs.View.{limits_view}
 use Rattle.fc_run.specs.declared.script.documents.DocumentCounts.{DocumentCounts}
 

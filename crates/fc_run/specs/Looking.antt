@@ -1,16 +1,11 @@
--- Looking into the JSON of a line: an object's only member, how many members it has, the texts and numbers in them.
-use Rattle.std.specs.Prelude.{ℕ, negsuc, codes, Bool, false, ◌==◌, ◌&&◌, Option, None, Some, option_map, option_and_then, unwrap_or}
+-- Looking into the JSON of a request: how many members an object has, the texts and numbers in them.
+use Rattle.std.specs.Prelude.{ℕ, negsuc, codes, Bool, false, ◌==◌, ◌&&◌, option_map, option_and_then, unwrap_or}
 use Rattle.std.specs.Ordering.{int_eq}
-use Rattle.serde_json.specs.Data.{Data, object, no_members, member}
+use Rattle.serde_json.specs.Data.{Data, object}
 use Rattle.serde_json.specs.Find.{get, as_number, as_i64}
 use Rattle.fc_spec.specs.Val.{Text}
 use Rattle.fc_spec.specs.SchemaReading.{member_count}
-use Rattle.fc_run.specs.FirstRequest.{is_text}
-
--- the only member of an object
-abbrev pub sole_member : Data → Option (Text × Data)
-sole_member (object (member name d no_members)) = Some (name, d)
-sole_member _ = None
+use Rattle.fc_run.specs.Requests.{is_text}
 
 -- an object of so many members
 abbrev pub has_members : ℕ → Data → Bool

@@ -13,9 +13,8 @@ use Rattle.fc_spec.specs.Shape.{outermost_exclusions}
 use Rattle.fc_spec.specs.ScriptFault.{too_long}
 use Rattle.fc_base.specs.declared.error.WantMemory.{WantMemory}
 use Rattle.fc_io.specs.WriteEnd.{AppendsFront}
-use Rattle.fc_run.specs.FirstScript.{FirstFault, faulty}
-use Rattle.fc_spec.specs.ScriptTotals.{script_limits}
-use Rattle.fc_run.specs.FirstLines.{FirstScript, first_script, refused_line}
+use Rattle.fc_run.specs.Refusals.{FirstFault, faulty, refused_line}
+use Rattle.fc_run.specs.Built.{AskedScript, AreMeanings, Meanings, outcome}
 use Rattle.fc_run.specs.declared.answer.Answer.{Answer}
 use Rattle.fc_run.specs.declared.answer.Answer.TheVariants.{Lines, Fault}
 use Rattle.fc_run.specs.declared.status.Status.{Status}
@@ -26,16 +25,16 @@ abbrev pub takes : {W : Type 0} → List W → Bool
 takes words = length words == 1
 
 -- a whole output of the script, or the line of its fault
-abbrev pub IsWhole : Result FirstScript FirstFault → Text → Type 0
+abbrev pub IsWhole : Result AskedScript FirstFault → Text → Type 0
 IsWhole (Ok S) t = IsOutput S t
 IsWhole (Err f) t = t ≡ refused_line f
 
 -- nothing, or a front of such a text
-abbrev pub IsFront : Result FirstScript FirstFault → Text → Type 0
+abbrev pub IsFront : Result AskedScript FirstFault → Text → Type 0
 IsFront spelled t = (t ≡ []) ⊎ ((rest : Text) × IsWhole spelled (t ++ rest))
 
 -- what a run leaves written behind what stood before
-abbrev pub Leaves : Status → Result FirstScript FirstFault → Text → Type 0
+abbrev pub Leaves : Status → Result AskedScript FirstFault → Text → Type 0
 Leaves Done (Ok S) t = IsOutput S t
 Leaves Done (Err f) t = ⊥
 Leaves Script (Ok S) t = ⊥
@@ -45,8 +44,12 @@ Leaves Read spelled t = t ≡ []
 Leaves Memory spelled t = IsFront spelled t
 Leaves Write spelled t = IsFront spelled t
 
+-- P holds of what a run makes of the bytes, by what query texts mean
+abbrev pub HasOutcome : List ℕ → (Result AskedScript FirstFault → Type 0) → Type 0
+HasOutcome bytes P = (m : Meanings) × AreMeanings m × P (outcome m bytes)
+
 -- with Done, P holds of the script
-abbrev pub OnDone : Status → Result FirstScript FirstFault → (FirstScript → Type 0) → Type 0
+abbrev pub OnDone : Status → Result AskedScript FirstFault → (AskedScript → Type 0) → Type 0
 OnDone Done (Ok S) P = P S
 OnDone Done (Err f) P = ⊥
 OnDone status spelled P = ⊤
@@ -60,17 +63,17 @@ abbrev pub HasCounts : Request → World → Bucket → Type 0
 HasCounts r W b = IsBucketOf r W at_root (AreFacetsOf r W r.nodes at_root) b
 
 -- each reply to a request whose exclusions stand on outermost nodes alone has its counts, and the text is an output with these replies
-abbrev pub IsCountedOutput : FirstScript → Text → Type 0
+abbrev pub IsCountedOutput : AskedScript → Text → Type 0
 IsCountedOutput S t = (reply : Replies) × ((r : Request) (W : World) → IsTrue (outermost_exclusions r.nodes) → HasCounts r W (reply r W)) × IsOutputBy reply S t
 
 -- the text is all that is promised of a script's lines
-pub record ArePrinted (S : FirstScript) (t : Text) : Type 0 where
+pub record ArePrinted (S : AskedScript) (t : Text) : Type 0 where
   pub output : IsOutput S t
   pub single_index : IsOutputBy by_single_index S t
   pub counts : IsCountedOutput S t
 
 -- the answer to a script that is read: its lines, or the line of its fault
-abbrev pub IsAnswer : Result FirstScript FirstFault → Answer → Type 0
+abbrev pub IsAnswer : Result AskedScript FirstFault → Answer → Type 0
 IsAnswer (Ok S) (Lines text) = ArePrinted S text.items
 IsAnswer (Err f) (Fault text) = text.items ≡ refused_line f
 IsAnswer (Ok S) (Fault text) = ⊥
@@ -84,10 +87,6 @@ Ends Script (Ok (Fault text)) old new = Appends old new text.items
 Ends Write (Ok (Lines text)) old new = AppendsFront old new text.items
 Ends Write (Ok (Fault text)) old new = AppendsFront old new text.items
 Ends status answer old new = ⊥
-
--- some bytes spell the script
-abbrev pub IsSpelled : FirstScript → Type 0
-IsSpelled S = (bytes : List ℕ) × (first_script script_limits bytes ≡ Ok S)
 
 -- more bytes than a script may have
 abbrev pub too_many : FirstFault

@@ -1,12 +1,31 @@
--- The reply to the one request of the first form over one shard, by counting documents.
-use Rattle.std.specs.Prelude.{◌≡◌, ℕ, List, [], ◌∷◌, map, count_by, ◌≤◌, All, ◌==◌, None, Some, if◌then◌else◌}
-use Rattle.std.specs.List.{flat_map}
+-- The reply to a request that is built, over one shard, by counting documents.
+use Rattle.std.specs.Prelude.{◌≡◌, ℕ, List, [], ◌∷◌, length, map, count_by, ◌≤◌, All, ◌==◌, Option, None, Some, if◌then◌else◌}
+use Rattle.std.specs.List.{filter, flat_map}
 use Rattle.fc_spec.specs.Val.{Text, Val, same_val, has_val, distinct}
+use Rattle.fc_spec.specs.Base.{meets_base}
 use Rattle.fc_spec.specs.Document.{Document, Block, values_of}
-use Rattle.fc_spec.specs.Totals.{documents_in, document_total}
-use Rattle.fc_spec.specs.Reply.{listed, Bucket, bucket, no_facets, many, Row, no_parts, part}
+use Rattle.fc_spec.specs.Query.{Query}
+use Rattle.fc_spec.specs.Request.{Filter, Nodes, no_nodes, Request}
+use Rattle.fc_spec.specs.Totals.{documents_in}
+use Rattle.fc_spec.specs.Reply.{listed, Bucket, bucket, Facets, no_facets, many, Row, no_parts, part}
 use Rattle.fc_spec.specs.Distributed.{distributed}
-use Rattle.fc_run.specs.FirstRequest.{plain_request}
+use Rattle.fc_run.specs.Requests.{one_facet}
+
+-- a facet's name and its field
+abbrev pub Facet : Type 0
+Facet = Text × ℕ
+
+abbrev pub nodes_of : Option Facet → Nodes
+nodes_of None = no_nodes
+nodes_of (Some f) = one_facet f.0 f.1
+
+-- a request that is built
+abbrev pub built_request : Query → List Filter → Option Facet → Request
+built_request q filters facet = record { query = q; filters = filters; nodes = nodes_of facet }
+
+-- the documents of the root domain
+abbrev pub root_documents : Request → List Block → List Document
+root_documents r blocks = filter (meets_base r []) (documents_in blocks)
 
 -- the values in a field: one for each pair of a document and a value of it
 abbrev pub values_at : ℕ → List Document → List Val
@@ -33,11 +52,19 @@ abbrev pub counted_row : List (Val × ℕ) → Row
 counted_row [] = no_parts
 counted_row (e ∷ rest) = part listed (bucket (Some e.0) e.1 no_facets) (counted_row rest)
 
--- the number of documents and, where there are some, the one facet
-abbrev pub plain_reply : Text → ℕ → List Block → Bucket
-plain_reply name field blocks =
-    bucket None (document_total blocks) (if document_total blocks == 0 then no_facets else many name (counted_row (value_counts field (documents_in blocks))) no_facets)
+abbrev pub counted_facets : Option Facet → List Document → Facets
+counted_facets None documents = no_facets
+counted_facets (Some f) documents = many f.0 (counted_row (value_counts f.1 documents)) no_facets
+
+-- the number of documents and, where there are some, the facet
+abbrev pub counted_reply : Option Facet → List Document → Bucket
+counted_reply facet documents = bucket None (length documents) (if length documents == 0 then no_facets else counted_facets facet documents)
+
+-- over the documents of the root domain
+abbrev pub plain_reply : Query → List Filter → Option Facet → List Block → Bucket
+plain_reply q filters facet blocks = counted_reply facet (root_documents (built_request q filters facet) blocks)
 
 -- it is the distributed reply over one shard
 abbrev pub IsPlainOnOneShard : Type 0
-IsPlainOnOneShard = (name : Text) (field : ℕ) (blocks : List Block) → distributed (plain_request name field) (blocks ∷ []) ≡ plain_reply name field blocks
+IsPlainOnOneShard =
+    (q : Query) (filters : List Filter) (facet : Option Facet) (blocks : List Block) → distributed (built_request q filters facet) (blocks ∷ []) ≡ plain_reply q filters facet blocks

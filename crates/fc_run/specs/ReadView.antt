@@ -1,9 +1,9 @@
 -- What a script that is being read stands for.
 use Rattle.std.specs.Prelude.{map}
 use Rattle.fc_run.specs.ReadSoFar.{ReadSoFar}
-use Rattle.fc_run.specs.ScriptView.{said_view}
+use Rattle.fc_run.specs.ScriptView.{line_view}
 use Rattle.fc_run.specs.View.{limits_view}
 use Rattle.fc_run.specs.declared.script.reading.Reading.{Reading}
 
 abbrev pub reading_view : Reading → ReadSoFar
-reading_view r = record { limits = limits_view r.limits; schema = r.schema; lines = map said_view r.lines.items }
+reading_view r = record { limits = limits_view r.limits; schema = r.schema; lines = map line_view r.lines.items }

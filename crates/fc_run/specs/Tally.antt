@@ -1,24 +1,23 @@
 -- Tallies: how many documents have each value of a field.
 use Rattle.std.specs.Prelude.{◌≡◌, ℕ, zero, suc, ◌+◌, ◌^◌, ◌<◌, List, map, count_by, Option, Some, unwrap_or}
-use Rattle.std.specs.Borrow.{Bor}
 use Rattle.std.specs.BTreeMap.{BTreeMap, get_by, IsOrdered}
 use Rattle.std.specs.declared.cmp.Ordering.{Ordering}
 use Rattle.fc_spec.specs.Val as definition
 use Rattle.fc_spec.specs.Val.{val_cmp, same_val}
-use Rattle.fc_base.specs.declared.value.Val.{Val}
-use Rattle.fc_base.specs.View.{val_view}
+use Rattle.fc_run.specs.Term.{term_view}
+use Rattle.fc_run.specs.declared.search.term.Term.{Term}
 
 -- a `Tally`, since an alias has no name here
 abbrev pub Tally : Type 0
-Tally = BTreeMap (Bor Val) ℕ
+Tally = BTreeMap Term ℕ
 
 -- the values in index order, each with its number
 abbrev pub tally_view : Tally → List (definition.Val × ℕ)
-tally_view tally = map (λ e. (val_view e.0.now, e.1)) tally.entries
+tally_view tally = map (λ e. (term_view e.0, e.1)) tally.entries
 
 -- the number of a value, where it has one
 abbrev pub number_at : Tally → definition.Val → Option ℕ
-number_at tally v = get_by (λ k. val_cmp v (val_view k.now)) tally
+number_at tally v = get_by (λ k. val_cmp v (term_view k)) tally
 
 -- n more than there are
 abbrev pub with_more : Option ℕ → ℕ → Option ℕ
@@ -26,8 +25,8 @@ with_more o zero = o
 with_more o (suc n) = Some (unwrap_or o 0 + suc n)
 
 -- the order of a tally's keys
-abbrev pub key_cmp : Bor Val → Bor Val → Ordering
-key_cmp a b = val_cmp (val_view a.now) (val_view b.now)
+abbrev pub key_cmp : Term → Term → Ordering
+key_cmp a b = val_cmp (term_view a) (term_view b)
 
 -- each value is counted once more for each time that it is in the list, and the keys stay in order
 pub record Counts (old new : Tally) (vs : List definition.Val) : Type 0 where

@@ -1,39 +1,38 @@
 -- What the types of this crate stand for in the definitions.
-use Rattle.std.specs.Prelude.{ℕ, None, Ok, codes}
+use Rattle.std.specs.Prelude.{ℕ, codes, map, Option, option_map}
 use Rattle.fc_base.specs.declared.error.Refusal.{Refusal}
 use Rattle.fc_base.specs.declared.error.Refusal.TheVariants as refusal
 use Rattle.fc_spec.specs.Val.{Text}
 use Rattle.fc_spec.specs.ScriptFault.{not_json, too_long, line_fault_name, line_fault_number}
-use Rattle.fc_spec.specs.Request.{Nodes, Request}
+use Rattle.fc_spec.specs.Request as definition
 use Rattle.fc_spec.specs.ScriptTotals as totals
-use Rattle.fc_spec.specs.Script.{add, commit, sync, asks}
-use Rattle.fc_docs.specs.View.{block_view}
-use Rattle.fc_run.specs.FirstRequest.{one_facet, plain_request}
-use Rattle.fc_run.specs.FirstScript as definition
+use Rattle.fc_query.specs.FilterView.{filter_view}
+use Rattle.fc_query.specs.QueryView.{query_view}
+use Rattle.fc_run.specs.PlainReply as plain
+use Rattle.fc_run.specs.PlainReply.{built_request, nodes_of}
+use Rattle.fc_run.specs.Refusals as refused
 use Rattle.fc_run.specs.declared.fault.Fault.{Fault}
 use Rattle.fc_run.specs.declared.fault.Fault.TheVariants.{NotBuilt, NotJson, TooLong}
 use Rattle.fc_run.specs.declared.fault.FirstFault.{FirstFault}
 use Rattle.fc_run.specs.declared.limits.Limits.{Limits}
 use Rattle.fc_run.specs.declared.request.Facet.{Facet}
-use Rattle.fc_run.specs.declared.said.Search.{Search}
-use Rattle.fc_run.specs.declared.said.Line.{Line}
-use Rattle.fc_run.specs.declared.said.Line.TheVariants as line
+use Rattle.fc_run.specs.declared.request.Request.{Request}
 
-abbrev pub refused_view : Fault → definition.Refused
-refused_view NotBuilt = definition.not_built
-refused_view NotJson = definition.faulty not_json
-refused_view TooLong = definition.faulty too_long
+abbrev pub refused_view : Fault → refused.Refused
+refused_view NotBuilt = refused.not_built
+refused_view NotJson = refused.faulty not_json
+refused_view TooLong = refused.faulty too_long
 
 -- the name and the number that a refusal's line shows
-abbrev pub refused_name : definition.Refused → Text
-refused_name definition.not_built = codes "not-built"
-refused_name (definition.faulty fault) = line_fault_name fault
+abbrev pub refused_name : refused.Refused → Text
+refused_name refused.not_built = codes "not-built"
+refused_name (refused.faulty fault) = line_fault_name fault
 
-abbrev pub refused_number : definition.Refused → ℕ
-refused_number definition.not_built = 0
-refused_number (definition.faulty fault) = line_fault_number fault
+abbrev pub refused_number : refused.Refused → ℕ
+refused_number refused.not_built = 0
+refused_number (refused.faulty fault) = line_fault_number fault
 
-abbrev pub fault_view : FirstFault → definition.FirstFault
+abbrev pub fault_view : FirstFault → refused.FirstFault
 fault_view f = record { line = f.line; fault = refused_view f.fault }
 
 -- a line's refusal, with its number
@@ -44,18 +43,12 @@ refusal_at n (refusal.Fault fault) = refusal.Fault (record { line = n; fault = f
 abbrev pub limits_view : Limits → totals.Limits
 limits_view m = record { documents = m.documents; values = m.values }
 
-abbrev pub facet_view : Facet → Nodes
-facet_view f = one_facet f.name f.field.0
+abbrev pub facet_view : Facet → plain.Facet
+facet_view f = (f.name, f.field.0)
 
-abbrev pub request_view : Facet → Request
-request_view f = plain_request f.name f.field.0
+-- the nodes of no facet or of one
+abbrev pub facets_view : Option Facet → definition.Nodes
+facets_view facet = nodes_of (option_map facet_view facet)
 
--- a session's search
-abbrev pub search_view : Search → definition.ScriptLine
-search_view s = asks s.session (Ok (request_view s.facet))
-
-abbrev pub line_view : Line → definition.ScriptLine
-line_view (line.Add b) = add 0 (block_view b)
-line_view line.Commit = commit None
-line_view line.Sync = sync
-line_view (line.Search s) = search_view s
+abbrev pub request_view : Request → definition.Request
+request_view r = built_request (query_view r.query) (map filter_view r.filters.items) (option_map facet_view r.facet)

@@ -1,17 +1,19 @@
 // The answer to the bytes of a script.
-ghost use Rattle.std.specs.Prelude.{◌≡◌, Err, IfOk};
-ghost use Rattle.fc_spec.specs.RefinedPaths.{AreRefinedPathsExact};
-ghost use Rattle.fc_spec.specs.WithoutLimits.{IsSingleWithoutLimits};
+ghost use Rattle.std.specs.Prelude.{◌≡◌, All, Err, IfOk};
 ghost use Rattle.fc_spec.specs.ScriptTotals.{script_limits};
-ghost use Rattle.fc_run.specs.FirstLines.{first_script};
-ghost use Rattle.fc_run.specs.FirstView.{first_view};
-ghost use Rattle.fc_run.specs.Outcome.{ArePrinted, IsAnswer, IsSpelled, too_many};
+ghost use Rattle.fc_spec.specs.ValidScripts.{IsWithin};
+ghost use Rattle.fc_run.specs.Built.{outcome, AreMeanings, Meanings};
+ghost use Rattle.fc_run.specs.Counts.{IsLineOf};
+ghost use Rattle.fc_run.specs.Fitting.{IsAskedOf};
+ghost use Rattle.fc_run.specs.Outcome.{ArePrinted, IsAnswer, too_many};
+ghost use Rattle.fc_run.specs.ScriptView.{script_view};
 
 use crate::fault::{Fault, FirstFault};
-use crate::first::{First, read_first};
 use crate::limits::SCRIPT_LIMITS;
 use crate::refusal::refused_line;
-use crate::reply::reply_line;
+use crate::script::{Line, Script, read_script};
+use crate::search::reply_line;
+use crate::shard::Shard;
 use fc_base::{Refusal, WantMemory};
 use fc_spec::{refined_paths_are_exact, without_limits};
 use std::alloc::Global;
@@ -23,22 +25,31 @@ pub(crate) enum Answer {
     Fault(Vec<u8>),
 }
 
-/// The line of the one search.
-fn printed(alloc: Global, first: &First) -> Result<Vec<u8>, WantMemory>
-    requires { IsSpelled (first_view first.now) }
-    ensures { IfOk result (λ line. ArePrinted (first_view first.now) line.items) }
+// The lines of the searches, in script order. Each search sees every commit before it.
+fn reply_lines(alloc: Global, script: Script) -> Result<Vec<u8>, WantMemory>
+    requires one { script.schema.shards ≡ 1 }
+    requires within { IsWithin script_limits (script_view script) }
+    requires valid { All (IsLineOf script.schema) (script_view script).lines }
+    requires asked { All (IsAskedOf script.schema) script.lines.items }
+    ensures { IfOk result (λ text. ArePrinted (script_view script) text.items) }
 {
     without_limits();
     refined_paths_are_exact();
-    let facet = &first.search.facet;
-    let session = first.search.session.text();
-    reply_line(
-        alloc,
-        &first.batch.blocks,
-        facet.name.text(),
-        facet.field,
-        session,
-    )
+    let Script { schema, lines } = script;
+    let mut shard = Shard::new(alloc);
+    let mut text = Vec::new(alloc);
+    for line in lines {
+        match line {
+            Line::Add(_, block) => shard = shard.add(block)?,
+            Line::Commit(_) => shard = shard.commit(alloc, &schema)?,
+            Line::Sync => {}
+            Line::Search(session, request) => {
+                let line = reply_line(alloc, &shard.segments, &request, &session)?;
+                text.extend_from_slice(&line)?;
+            }
+        }
+    }
+    Ok(text)
 }
 
 /// The answer to a script of more bytes than it may have.
@@ -54,10 +65,10 @@ pub(crate) fn too_long(alloc: Global) -> Result<Answer, WantMemory>
 
 /// The answer to the script that the bytes spell.
 pub(crate) fn answer_to(alloc: Global, bytes: &[u8]) -> Result<Answer, WantMemory>
-    ensures { IfOk result (IsAnswer (first_script script_limits bytes.now)) }
+    ensures { (m : Meanings) → AreMeanings m → IfOk result (IsAnswer (outcome m bytes.now)) }
 {
-    match read_first(alloc, SCRIPT_LIMITS, bytes) {
-        Ok(first) => Ok(Answer::Lines(printed(alloc, &first)?)),
+    match read_script(alloc, SCRIPT_LIMITS, bytes) {
+        Ok(script) => Ok(Answer::Lines(reply_lines(alloc, script)?)),
         Err(Refusal::Memory) => Err(WantMemory),
         Err(Refusal::Fault(refusal)) => Ok(Answer::Fault(refused_line(alloc, refusal)?)),
     }

@@ -1,19 +1,12 @@
 // The lines of a script's bytes, and the JSON of a line.
-ghost use Rattle.std.specs.Prelude.{◌≡◌, ◌==◌, ◌+◌, ◌^◌, ◌<◌, ◌∷◌, ℕ, suc, length, position, IfOk, OnSome, MatchOption, option_map, []};
+ghost use Rattle.std.specs.Prelude.{◌≡◌, ◌==◌, ◌^◌, ◌<◌, ◌∷◌, suc, length, position, IfOk, OnSome, MatchOption, option_map, []};
 ghost use Rattle.serde_json.specs.View.{view};
 ghost use Rattle.fc_spec.specs.ScriptLines.{lines_of, is_blank as blank, json_of as json};
-ghost use Rattle.fc_base.specs.Answers.{Answers};
-ghost use Rattle.fc_run.specs.Said.{said, first_said};
-ghost use Rattle.fc_run.specs.View.{refused_view, fault_view};
 
-use crate::fault::{Fault, FirstFault, at_line};
-use fc_base::{Refusal, WantMemory};
+use fc_base::WantMemory;
 use serde_json::Value;
 use std::alloc::Global;
 use std::marker::Model;
-
-/// No more bytes in a line, without its LF.
-const LINE_LIMIT: usize = 1_048_576;
 
 fn find_lf(bytes: &[u8]) -> Option<usize>
     ensures { result ≡ position (λ b. b == 10) bytes.now }
@@ -57,22 +50,6 @@ pub(crate) fn json_of(alloc: Global, line: &[u8]) -> Result<Option<Value>, WantM
     }
 }
 
-/// What the line says, unless it is blank.
-fn value_of(alloc: Global, line: &[u8]) -> Result<Option<Value>, Refusal<Fault>>
-    ensures { Answers (λ found. option_map view found) refused_view result (said line.now) }
-{
-    if line.len() > LINE_LIMIT {
-        return Err(Refusal::Fault(Fault::NotBuilt));
-    }
-    if is_blank(line) {
-        return Ok(None);
-    }
-    match json_of(alloc, line)? {
-        Some(value) => Ok(Some(value)),
-        None => Err(Refusal::Fault(Fault::NotJson)),
-    }
-}
-
 /// The lines that are left, and how many of them were cut.
 #[derive(Drop)]
 pub(crate) struct Lines<'a> {
@@ -83,7 +60,7 @@ pub(crate) struct Lines<'a> {
 impl<'a> Model for Lines<'a> {
     ghost use Rattle.std.specs.Prelude.{◌+◌, ◌^◌, ◌<◌, length};
     ghost use Rattle.fc_spec.specs.ScriptLines.{lines_of};
-    ghost use Rattle.fc_run.specs.Said.{Left};
+    ghost use Rattle.fc_run.specs.Left.{Left};
 
     ghost Value = { Left };
 
@@ -122,21 +99,5 @@ impl<'a> Lines<'a> {
         self.rest = rest;
         self.number += 1;
         Some(line)
-    }
-
-    /// The value of the next line that is not blank.
-    pub(crate) fn next_value(&mut self, alloc: Global) -> Result<Option<Value>, Refusal<FirstFault>>
-        ensures value { Answers (option_map (λ v. record { number = self.new.number; value = view v; rest = self.new.lines }))
-            fault_view result (first_said self.old) }
-        ensures shorter { IfOk result (λ found. OnSome found (length self.new.lines < length self.old.lines)) }
-    {
-        while let Some(line) = self.next_line() {
-            match value_of(alloc, line) {
-                Ok(None) => {}
-                Ok(Some(value)) => return Ok(Some(value)),
-                Err(refusal) => return Err(at_line(self.number, refusal)),
-            }
-        }
-        Ok(None)
     }
 }

@@ -3,7 +3,7 @@ ghost use Rattle.std.specs.Prelude.{◌≡◌, codes, IfOk};
 ghost use Rattle.serde_json.specs.Data.{string, object, no_members, put};
 ghost use Rattle.serde_json.specs.View.{view};
 ghost use Rattle.fc_spec.specs.Json.{natural_data};
-ghost use Rattle.fc_run.specs.FirstLines.{refused_line as line_of_fault};
+ghost use Rattle.fc_run.specs.Refusals.{refused_line as line_of_fault};
 ghost use Rattle.fc_run.specs.View.{fault_view, refused_view, refused_name, refused_number};
 
 use crate::fault::{Fault, FirstFault};

@@ -1,14 +1,33 @@
-// The one request that is built: every document, and one terms facet without a limit, in index order.
-ghost use Rattle.std.specs.Prelude.{◌≡◌, IfOk, option_map};
-ghost use Rattle.serde_json.specs.View.{view};
-ghost use Rattle.fc_run.specs.FirstRequest.{is_reserved as reserved, facet_of as facet_in, facets_of as facets_in, request_of as request_in};
+// The requests that are built: a query, filters, and at most one terms facet of every value in index order.
+ghost use Rattle.std.specs.Prelude.{◌≡◌, ◌<◌, length, map, All, IfOk, IfSome, option_map};
+ghost use Rattle.std.specs.Result.{result_map_both};
+ghost use Rattle.serde_json.specs.View.{view, members_view};
+ghost use Rattle.fc_spec.specs.ValidQueries.{IsValidQuery};
+ghost use Rattle.fc_base.specs.Answers.{Answers};
+ghost use Rattle.fc_query.specs.FilterView.{filter_view};
+ghost use Rattle.fc_query.specs.QueryView.{query_view};
+ghost use Rattle.fc_run.specs.Fitting.{IsValidRequest};
 ghost use Rattle.fc_run.specs.Looking.{is_whole_terms as whole_terms_of_all};
-ghost use Rattle.fc_run.specs.View.{facet_view, request_view};
+ghost use Rattle.fc_run.specs.Requests as form;
+ghost use Rattle.fc_run.specs.Requests.{IsMeaning, Meaning};
+ghost use Rattle.fc_run.specs.View.{facets_view, refused_view, request_view};
 
-use crate::looking::{has_members, has_minus_one, has_text, is_same_text, sole_entry};
-use fc_base::{FieldId, Name, Schema, WantMemory};
-use serde_json::Value;
+use crate::fault::Fault;
+use crate::looking::{has_members, has_minus_one, has_text, is_same_text};
+use crate::script::{has_only, member};
+use fc_base::{FieldId, Name, Refusal, Schema};
+use fc_query::{Filter, Query, parse, read_filter};
+use fc_spec::query_texts_have_one_meaning;
+use serde_json::{Map, Value};
 use std::alloc::Global;
+
+/// What a search asks: the query and the filters of its root domain, and a facet.
+#[derive(Debug, Drop)]
+pub(crate) struct Request {
+    pub(crate) query: Query,
+    pub(crate) filters: Vec<Filter>,
+    pub(crate) facet: Option<Facet>,
+}
 
 /// The name of the facet, and its field.
 #[derive(Debug, Drop)]
@@ -17,9 +36,78 @@ pub(crate) struct Facet {
     pub(crate) field: FieldId,
 }
 
+// A query; every document where none is named.
+fn query_in(alloc: Global, schema: &Schema, json: Option<&Value>) -> Result<Query, Refusal<Fault>>
+    ensures answer { (means : Meaning) → IsMeaning schema.now means → Answers query_view refused_view result
+        (form.query_in means (option_map (λ json. view json.now) json.entry)) }
+    ensures valid { IfOk result (λ query. IsValidQuery schema.now (query_view query)) }
+{
+    query_texts_have_one_meaning();
+    let Some(json) = json else {
+        return Ok(Query::All);
+    };
+    let Some(text) = json.as_str() else {
+        return Err(Refusal::Fault(Fault::NotBuilt));
+    };
+    match parse(alloc, schema, text) {
+        Ok(query) => Ok(query),
+        Err(Refusal::Memory) => Err(Refusal::Memory),
+        Err(Refusal::Fault(_)) => Err(Refusal::Fault(Fault::NotBuilt)),
+    }
+}
+
+fn filter_of(alloc: Global, schema: &Schema, json: &Value) -> Result<Filter, Refusal<Fault>>
+    ensures answer { (means : Meaning) → IsMeaning schema.now means → Answers filter_view refused_view result
+        (form.filter_of means (view json.now)) }
+    ensures valid { IfOk result (λ filter. IsValidQuery schema.now (query_view filter.query)) }
+{
+    query_texts_have_one_meaning();
+    match read_filter(alloc, schema, json) {
+        Ok(filter) => Ok(filter),
+        Err(Refusal::Memory) => Err(Refusal::Memory),
+        Err(Refusal::Fault(_)) => Err(Refusal::Fault(Fault::NotBuilt)),
+    }
+}
+
+// Filters of a list.
+fn filters_of(alloc: Global, schema: &Schema, list: &[Value]) -> Result<Vec<Filter>, Refusal<Fault>> {
+    let mut filters = Vec::new(alloc);
+    for json in list {
+        filters.push(filter_of(alloc, schema, json)?)?;
+    }
+    Ok(filters)
+}
+
+// A filter or a list of filters; none where none is named.
+fn filters_in(
+    alloc: Global,
+    schema: &Schema,
+    json: Option<&Value>,
+) -> Result<Vec<Filter>, Refusal<Fault>>
+    ensures answer { (means : Meaning) → IsMeaning schema.now means → Answers (λ filters. map filter_view filters.items) refused_view result
+        (form.filters_in means (option_map (λ json. view json.now) json.entry)) }
+    ensures valid { IfOk result (λ filters. All (λ filter. IsValidQuery schema.now (query_view filter.query)) filters.items) }
+{
+    match json {
+        None => Ok(Vec::new(alloc)),
+        Some(Value::Array(list)) => filters_of(alloc, schema, list),
+        Some(json) => Ok(vec![in alloc; filter_of(alloc, schema, json)?]?),
+    }
+}
+
+// Whether the limit is the whole number 0, where one is named.
+fn has_limit(json: Option<&Value>) -> bool
+    ensures { result ≡ form.has_limit (option_map (λ json. view json.now) json.entry) }
+{
+    match json {
+        Some(json) => json.as_u64() == Some(0),
+        None => true,
+    }
+}
+
 /// Whether the name is taken by what each bucket has.
 fn is_reserved(name: &str) -> bool
-    ensures { result ≡ reserved name.now }
+    ensures { result ≡ form.is_reserved name.now }
 {
     is_same_text(name, "count") || is_same_text(name, "val")
 }
@@ -39,46 +127,85 @@ fn facet_of(
     schema: &Schema,
     name: &str,
     facet: &Value,
-) -> Result<Option<Facet>, WantMemory>
-    ensures { IfOk result (λ found. option_map facet_view found ≡ facet_in schema.now name.now (view facet.now)) }
-{
+) -> Result<Facet, Refusal<Fault>> {
     if is_reserved(name) || !is_whole_terms(facet) {
-        return Ok(None);
+        return Err(Refusal::Fault(Fault::NotBuilt));
     }
     let Some(field) = facet.get("field").and_then(Value::as_str) else {
-        return Ok(None);
+        return Err(Refusal::Fault(Fault::NotBuilt));
     };
     match schema.find(field.as_bytes()) {
-        Some(field) => Ok(Some(Facet {
+        Some(field) => Ok(Facet {
             name: Name::new(alloc, name)?,
             field,
-        })),
-        None => Ok(None),
+        }),
+        None => Err(Refusal::Fault(Fault::NotBuilt)),
     }
 }
 
-fn facets_of(alloc: Global, schema: &Schema, facets: &Value) -> Result<Option<Facet>, WantMemory>
-    ensures { IfOk result (λ found. option_map facet_view found ≡ facets_in schema.now (view facets.now)) }
+// No facet or one, where there is such an object.
+fn facet_in(
+    alloc: Global,
+    schema: &Schema,
+    json: Option<&Value>,
+) -> Result<Option<Facet>, Refusal<Fault>>
+    ensures answer { Answers facets_view refused_view result
+        (form.facets_in schema.now (option_map (λ json. view json.now) json.entry)) }
+    ensures valid { IfOk result (λ facet. IfSome facet (λ facet. facet.field.0 < length schema.now.fields)) }
 {
-    match sole_entry(facets) {
-        Some((name, facet)) => facet_of(alloc, schema, name, facet),
+    let Some(json) = json else {
+        return Ok(None);
+    };
+    let Some(facets) = json.as_object() else {
+        return Err(Refusal::Fault(Fault::NotBuilt));
+    };
+    if facets.len() > 1 {
+        return Err(Refusal::Fault(Fault::NotBuilt));
+    }
+    match facets.first_key_value() {
+        Some((name, facet)) => Ok(Some(facet_of(alloc, schema, name.as_str(), facet)?)),
         None => Ok(None),
     }
 }
 
-/// The request's facet, where it is one that is built.
+fn request_of(
+    alloc: Global,
+    schema: &Schema,
+    members: &Map<String, Value>,
+) -> Result<Request, Refusal<Fault>>
+    ensures answer { (means : Meaning) → IsMeaning schema.now means → Answers request_view refused_view result
+        (form.request_of_members means schema.now (members_view members.now.entries)) }
+    ensures valid { IfOk result (IsValidRequest schema.now) }
+{
+    if !has_only(members, &["query", "filter", "limit", "facet"]) {
+        return Err(Refusal::Fault(Fault::NotBuilt));
+    }
+    let query = query_in(alloc, schema, member(members, "query"))?;
+    let filters = filters_in(alloc, schema, member(members, "filter"))?;
+    if !has_limit(member(members, "limit")) {
+        return Err(Refusal::Fault(Fault::NotBuilt));
+    }
+    let facet = facet_in(alloc, schema, member(members, "facet"))?;
+    Ok(Request {
+        query,
+        filters,
+        facet,
+    })
+}
+
+/// The request, where it is one that is built: an object of `query`, `filter`, `limit` and `facet`, each of
+/// which may be absent.
 pub(crate) fn read_request(
     alloc: Global,
     schema: &Schema,
-    request: &Value,
-) -> Result<Option<Facet>, WantMemory>
-    ensures { IfOk result (λ found. option_map request_view found ≡ request_in schema.now (view request.now)) }
+    json: &Value,
+) -> Result<Request, Refusal<Fault>>
+    ensures answer { (means : Meaning) → IsMeaning schema.now means → Answers request_view refused_view result
+        (form.request_of means schema.now (view json.now)) }
+    ensures valid { IfOk result (IsValidRequest schema.now) }
 {
-    if !has_members(request, 2) || !has_text(request, "query", "*:*") {
-        return Ok(None);
-    }
-    match request.get("facet") {
-        Some(facets) => facets_of(alloc, schema, facets),
-        None => Ok(None),
+    match json.as_object() {
+        Some(members) => request_of(alloc, schema, members),
+        None => Err(Refusal::Fault(Fault::NotBuilt)),
     }
 }

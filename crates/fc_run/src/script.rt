@@ -1,17 +1,20 @@
 // Reading scripts.
+mod asked;
 mod commits;
 mod counts;
 mod documents;
 mod fault;
+mod ids;
 mod line;
 mod lines;
 mod members;
 mod read;
 mod reading;
+mod room;
 mod sessions;
 #[cfg(test)]
 mod tests;
 
-pub(crate) use fault::{LineFault, ScriptFault};
-pub(crate) use line::Line;
+pub(crate) use asked::Line;
+pub(crate) use members::{has_only, member};
 pub(crate) use read::{Script, read_script};

@@ -4,9 +4,7 @@ ghost use Rattle.std.specs.Io.KnownBytes.{Appends, IsAtEnd};
 ghost use Rattle.fc_spec.specs.Val.{Text};
 ghost use Rattle.fc_spec.specs.Outputs.{IsOutputBy};
 ghost use Rattle.fc_io.specs.Faults.{Rose};
-ghost use Rattle.fc_spec.specs.ScriptTotals.{script_limits};
-ghost use Rattle.fc_run.specs.FirstLines.{first_script};
-ghost use Rattle.fc_run.specs.Outcome.{by_single_index, takes, Ends, IfDone, IsCountedOutput, Leaves, OnDone, OnRead, OnUsage, OnWrite};
+ghost use Rattle.fc_run.specs.Outcome.{by_single_index, takes, Ends, HasOutcome, IfDone, IsCountedOutput, Leaves, OnDone, OnRead, OnUsage, OnWrite};
 ghost use Rattle.fc_run.specs.declared.status.Status.TheVariants.{Usage};
 
 use crate::answer::{Answer, answer_to, too_long};
@@ -62,15 +60,15 @@ pub fn run<S: Source, K: Sink>(
 
     ensures leaves { IfSome (S.left source.old) (λ bytes. (t : Text)
         × Appends (K.written sink.old) (K.written sink.new) t
-        × Leaves result (first_script script_limits bytes) t) }
+        × HasOutcome bytes (λ spelled. Leaves result spelled t)) }
 
     ensures single_index { IfSome (S.left source.old) (λ bytes. (t : Text)
         × Appends (K.written sink.old) (K.written sink.new) t
-        × OnDone result (first_script script_limits bytes) (λ S. IsOutputBy by_single_index S t)) }
+        × HasOutcome bytes (λ spelled. OnDone result spelled (λ S. IsOutputBy by_single_index S t))) }
 
     ensures counts { IfSome (S.left source.old) (λ bytes. (t : Text)
         × Appends (K.written sink.old) (K.written sink.new) t
-        × OnDone result (first_script script_limits bytes) (λ S. IsCountedOutput S t)) }
+        × HasOutcome bytes (λ spelled. OnDone result spelled (λ S. IsCountedOutput S t))) }
 {
     if words.len() != 1 {
         return Status::Usage;

@@ -1,18 +1,17 @@
 // What is counted over the lines of a script.
 ghost use Rattle.std.specs.Prelude.{◌≡◌, ℕ, [], ◌∷◌, ◌++◌, IfOk, List};
-ghost use Rattle.serde_json.specs.Data.{Data};
-ghost use Rattle.fc_spec.specs.Script as script;
 ghost use Rattle.fc_spec.specs.ScriptReading.{check_last};
 ghost use Rattle.fc_spec.specs.ScriptTotals as totals;
 ghost use Rattle.fc_base.specs.Answers.{Answers};
 ghost use Rattle.fc_run.specs.Counts.{AreCounts, AreWithin, IsLineOf};
+ghost use Rattle.fc_run.specs.ReadSoFar.{AskedLine};
 ghost use Rattle.fc_run.specs.View.{limits_view};
-ghost use Rattle.fc_run.specs.ScriptView.{line_fault_view, said_view};
+ghost use Rattle.fc_run.specs.ScriptView.{line_fault_view, line_view};
 
 use super::commits::add_commit;
+use super::asked::Line;
 use super::documents::DocumentCounts;
 use super::fault::LineFault;
-use super::line::Line;
 use super::sessions::add_session;
 use crate::limits::Limits;
 use fc_base::{Name, Refusal, Schema, WantMemory};
@@ -51,13 +50,13 @@ impl Counts {
         schema: &Schema,
         line: &Line,
     ) -> Result<Counts, Refusal<LineFault>>
-        requires valid { IsLineOf schema.now (said_view line.now) }
+        requires valid { IsLineOf schema.now (line_view line.now) }
         requires within { AreWithin schema.now self }
-        ensures { (limits : totals.Limits) (lines : List (script.Line Data))
+        ensures { (limits : totals.Limits) (lines : List AskedLine)
             → AreCounts limits schema.now lines self
             → Answers (λ counts. tt) line_fault_view result
-            (check_last limits schema.now (lines ++ said_view line.now ∷ []) (said_view line.now))
-            × IfOk result (AreCounts limits schema.now (lines ++ said_view line.now ∷ [])) }
+            (check_last limits schema.now (lines ++ line_view line.now ∷ []) (line_view line.now))
+            × IfOk result (AreCounts limits schema.now (lines ++ line_view line.now ∷ [])) }
     {
         let Counts {
             documents,

@@ -14,7 +14,8 @@ ghost use Rattle.fc_run.specs.View.{limits_view};
 ghost use Rattle.fc_run.specs.ScriptView.{line_fault_view};
 
 use super::fault::LineFault;
-use crate::added::{insert_ids, limits_after};
+use super::ids::insert_ids;
+use super::room::limits_after;
 use crate::limits::Limits;
 use fc_base::{Refusal, Schema, Val, WantMemory};
 use fc_docs::Block;
@@ -90,11 +91,7 @@ impl DocumentCounts {
             mut sums,
             left,
         } = self;
-        match insert_ids(alloc, &mut ids, block) {
-            Ok(()) => {}
-            Err(Refusal::Memory) => return Err(Refusal::Memory),
-            Err(Refusal::Fault(_)) => return Err(Refusal::Fault(LineFault::DuplicateId)),
-        }
+        insert_ids(alloc, &mut ids, block)?;
         if !add_to_sums(&mut sums, block) {
             return Err(Refusal::Fault(LineFault::FieldTotal));
         }

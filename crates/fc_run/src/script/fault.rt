@@ -2,8 +2,11 @@
 ghost use Rattle.std.specs.Prelude.{◌≡◌};
 ghost use Rattle.fc_spec.specs.ScriptFault.{line_fault_name, line_fault_number};
 ghost use Rattle.fc_base.specs.declared.error.Refusal.TheVariants.{Fault};
-ghost use Rattle.fc_run.specs.ScriptView.{line_fault_view, refused_at};
+ghost use Rattle.fc_run.specs.Refusals.{refused as reason};
+ghost use Rattle.fc_run.specs.ScriptView.{line_fault_view, IsRefusedBy};
+ghost use Rattle.fc_run.specs.View.{refused_view};
 
+use crate::fault::Fault;
 use fc_base::Refusal;
 use fc_docs::DocFault;
 
@@ -94,19 +97,23 @@ impl From<LineFault> for Refusal<LineFault> {
     }
 }
 
-/// The first fault of a script, and the number of its line; 0 where no line is at fault.
-#[derive(Clone, Copy, Debug, PartialEq, Eq)]
-pub(crate) struct ScriptFault {
-    pub(crate) line: u32,
-    pub(crate) fault: LineFault,
+/// What a script with this fault is refused for today.
+pub(crate) fn refused(fault: LineFault) -> Fault
+    ensures { refused_view result ≡ reason (line_fault_view fault) }
+{
+    match fault {
+        LineFault::NotJson => Fault::NotJson,
+        LineFault::TooLong => Fault::TooLong,
+        _ => Fault::NotBuilt,
+    }
 }
 
-/// A line's refusal as the script's.
-pub(crate) fn at_line(line: u32, refusal: Refusal<LineFault>) -> Refusal<ScriptFault>
-    ensures { result ≡ refused_at line refusal }
+/// A refusal of a line by a fault of scripts, as what it is refused for today.
+pub(crate) fn refused_by(refusal: Refusal<LineFault>) -> Refusal<Fault>
+    ensures { IsRefusedBy refusal result }
 {
     match refusal {
         Refusal::Memory => Refusal::Memory,
-        Refusal::Fault(fault) => Refusal::Fault(ScriptFault { line, fault }),
+        Refusal::Fault(fault) => Refusal::Fault(refused(fault)),
     }
 }

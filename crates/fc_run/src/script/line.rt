@@ -15,14 +15,14 @@ ghost use Rattle.fc_run.specs.ScriptView.{line_fault_view, said_view};
 
 use super::fault::LineFault;
 use super::members::{has_only, member, sole_member};
-use fc_base::{Name, Refusal, Schema};
+use fc_base::{Refusal, Schema};
 use fc_docs::{Block, read_block};
 use serde_json::{Map, Value};
 use std::alloc::Global;
 
-/// A line after the schema.
+/// What a line after the schema says.
 #[derive(Debug, Drop)]
-pub(crate) enum Line {
+pub(crate) enum Said<'v> {
     /// A block for a shard.
     Add(u32, Block),
     /// A commit of a shard, or of every shard.
@@ -30,7 +30,7 @@ pub(crate) enum Line {
     /// The end of a phase.
     Sync,
     /// A session's search, and what it asks.
-    Search(Name, Value),
+    Search(&'v str, &'v Value),
 }
 
 // A shard's number.
@@ -47,8 +47,9 @@ fn shard_of(schema: &Schema, json: &Value) -> Result<u32, LineFault>
 
 // The shard of a block: 0 where none is named.
 fn added_shard(schema: &Schema, json: Option<&Value>) -> Result<u32, LineFault>
-    ensures { result_map_both (λ shard. shard) line_fault_view result
+    ensures answer { result_map_both (λ shard. shard) line_fault_view result
         ≡ reading.added_shard schema.now (option_map (λ json. view json.now) json.entry) }
+    ensures below { IfOk result (λ shard. shard < schema.now.shards) }
 {
     match json {
         Some(json) => shard_of(schema, json),
@@ -94,11 +95,11 @@ fn block_of(alloc: Global, schema: &Schema, json: &Value) -> Result<Block, Refus
     }
 }
 
-fn add_of(
+fn add_of<'v>(
     alloc: Global,
     schema: &Schema,
-    members: &Map<String, Value>,
-) -> Result<Line, Refusal<LineFault>>
+    members: &'v Map<String, Value>,
+) -> Result<Said<'v>, Refusal<LineFault>>
     ensures answer { Answers said_view line_fault_view result
         (reading.add_of schema.now (members_view members.now.entries)) }
     ensures valid { IfOk result (λ line. IsLineOf schema.now (said_view line)) }
@@ -109,10 +110,13 @@ fn add_of(
     let document = member(members, "doc").ok_or(LineFault::UnknownLine)?;
     let shard = added_shard(schema, member(members, "shard"))?;
     let block = block_of(alloc, schema, document)?;
-    Ok(Line::Add(shard, block))
+    Ok(Said::Add(shard, block))
 }
 
-fn commit_of(schema: &Schema, members: &Map<String, Value>) -> Result<Line, LineFault>
+fn commit_of<'v>(
+    schema: &Schema,
+    members: &'v Map<String, Value>,
+) -> Result<Said<'v>, LineFault>
     ensures answer { result_map_both said_view line_fault_view result
         ≡ reading.commit_of schema.now (members_view members.now.entries) }
     ensures valid { IfOk result (λ line. IsLineOf schema.now (said_view line)) }
@@ -120,10 +124,10 @@ fn commit_of(schema: &Schema, members: &Map<String, Value>) -> Result<Line, Line
     if !has_only(members, &["shard"]) {
         return Err(LineFault::UnknownLine);
     }
-    Ok(Line::Commit(committed_shard(schema, member(members, "shard"))?))
+    Ok(Said::Commit(committed_shard(schema, member(members, "shard"))?))
 }
 
-fn sync_of(members: &Map<String, Value>) -> Result<Line, LineFault>
+fn sync_of(members: &Map<String, Value>) -> Result<Said<'_>, LineFault>
     ensures answer { result_map_both said_view line_fault_view result
         ≡ reading.sync_of (members_view members.now.entries) }
     ensures valid { (s : Schema) → IfOk result (λ line. IsLineOf s (said_view line)) }
@@ -131,28 +135,28 @@ fn sync_of(members: &Map<String, Value>) -> Result<Line, LineFault>
     if !has_only(members, &[]) {
         return Err(LineFault::UnknownLine);
     }
-    Ok(Line::Sync)
+    Ok(Said::Sync)
 }
 
-fn search_of(alloc: Global, members: &Map<String, Value>) -> Result<Line, Refusal<LineFault>>
-    ensures answer { Answers said_view line_fault_view result
-        (reading.search_of (members_view members.now.entries)) }
+fn search_of(members: &Map<String, Value>) -> Result<Said<'_>, LineFault>
+    ensures answer { result_map_both said_view line_fault_view result
+        ≡ reading.search_of (members_view members.now.entries) }
     ensures valid { (s : Schema) → IfOk result (λ line. IsLineOf s (said_view line)) }
 {
     if !has_only(members, &["request", "session"]) {
-        return Err(Refusal::Fault(LineFault::UnknownLine));
+        return Err(LineFault::UnknownLine);
     }
     let request = member(members, "request").ok_or(LineFault::UnknownLine)?;
     let session = session_of(member(members, "session"))?;
-    Ok(Line::Search(Name::new(alloc, session)?, request.clone()?))
+    Ok(Said::Search(session, request))
 }
 
 /// What the JSON of a line says, or its fault.
-pub(crate) fn line_said(
+pub(crate) fn line_said<'v>(
     alloc: Global,
     schema: &Schema,
-    json: &Value,
-) -> Result<Line, Refusal<LineFault>>
+    json: &'v Value,
+) -> Result<Said<'v>, Refusal<LineFault>>
     ensures answer { Answers said_view line_fault_view result
         (reading.line_said schema.now (view json.now)) }
     ensures valid { IfOk result (λ line. IsLineOf schema.now (said_view line)) }
@@ -163,7 +167,7 @@ pub(crate) fn line_said(
         "add" => add_of(alloc, schema, members),
         "commit" => Ok(commit_of(schema, members)?),
         "sync" => Ok(sync_of(members)?),
-        "search" => search_of(alloc, members),
+        "search" => Ok(search_of(members)?),
         _ => Err(Refusal::Fault(LineFault::UnknownLine)),
     }
 }

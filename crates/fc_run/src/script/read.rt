@@ -1,19 +1,24 @@
 // Reading a script from its bytes.
-ghost use Rattle.std.specs.Prelude.{IfOk};
+ghost use Rattle.std.specs.Prelude.{◌≡◌, All, IfOk};
 ghost use Rattle.serde_json.specs.View.{view};
-ghost use Rattle.fc_spec.specs.ScriptReading.{at_line as at_line_defined, schema_on as schema_of_line, schema_said as schema_of_value, script_of, script_of_lines};
+ghost use Rattle.fc_spec.specs.ScriptReading.{schema_on as schema_of_line, schema_said as schema_of_value};
 ghost use Rattle.fc_spec.specs.ValidScripts.{IsWithin};
 ghost use Rattle.fc_base.specs.Answers.{Answers};
-ghost use Rattle.fc_run.specs.ReadSoFar.{with_rest};
+ghost use Rattle.fc_run.specs.Built.{outcome_within, AreMeanings, Meanings};
+ghost use Rattle.fc_run.specs.Counts.{IsLineOf};
+ghost use Rattle.fc_run.specs.Fitting.{IsAskedOf};
+ghost use Rattle.fc_run.specs.ReadSoFar.{at_line as at_line_defined, one_shard as of_one_shard, read_from, read_in, schema_read, with_rest};
 ghost use Rattle.fc_run.specs.ReadView.{reading_view};
-ghost use Rattle.fc_run.specs.ScriptView.{line_fault_view, lines_left, script_fault_view, script_view};
-ghost use Rattle.fc_run.specs.View.{limits_view};
+ghost use Rattle.fc_run.specs.Requests.{IsMeaning, Meaning};
+ghost use Rattle.fc_run.specs.ScriptView.{line_fault_view, lines_left, script_view};
+ghost use Rattle.fc_run.specs.View.{fault_view, limits_view, refused_view};
 
-use super::fault::{LineFault, ScriptFault, at_line};
-use super::line::Line;
+use super::asked::Line;
+use super::fault::{LineFault, refused_by};
 use super::lines::{next_said, value_on};
 use super::members::{is_same, sole_member};
 use super::reading::Reading;
+use crate::fault::{Fault, FirstFault, at_line};
 use crate::limits::{Limits, SCRIPT_LIMIT};
 use crate::lines::Lines;
 use fc_base::{Refusal, Schema};
@@ -50,11 +55,30 @@ fn schema_on(alloc: Global, text: &[u8]) -> Result<Schema, Refusal<LineFault>>
     schema_said(alloc, &json)
 }
 
-fn read_schema(alloc: Global, number: u32, text: &[u8]) -> Result<Schema, Refusal<ScriptFault>>
-    ensures { Answers (λ schema. schema) script_fault_view result
-        (at_line_defined number (schema_of_line text.now)) }
+// A schema of one shard.
+fn one_shard(schema: Schema) -> Result<Schema, Refusal<Fault>>
+    ensures answer { Answers (λ schema. schema) refused_view result (of_one_shard schema) }
+    ensures one { IfOk result (λ schema. schema.shards ≡ 1) }
 {
-    schema_on(alloc, text).map_err(|refusal| at_line(number, refusal))
+    if schema.shards() != 1 {
+        return Err(Refusal::Fault(Fault::NotBuilt));
+    }
+    Ok(schema)
+}
+
+fn schema_of(alloc: Global, text: &[u8]) -> Result<Schema, Refusal<Fault>>
+    ensures answer { Answers (λ schema. schema) refused_view result (schema_read text.now) }
+    ensures one { IfOk result (λ schema. schema.shards ≡ 1) }
+{
+    one_shard(schema_on(alloc, text).map_err(|refusal| refused_by(refusal))?)
+}
+
+fn read_schema(alloc: Global, number: u32, text: &[u8]) -> Result<Schema, Refusal<FirstFault>>
+    ensures answer { Answers (λ schema. schema) fault_view result
+        (at_line_defined number (schema_read text.now)) }
+    ensures one { IfOk result (λ schema. schema.shards ≡ 1) }
+{
+    schema_of(alloc, text).map_err(|refusal| at_line(number, refusal))
 }
 
 // The script with the lines that are left.
@@ -62,10 +86,13 @@ fn read_rest(
     alloc: Global,
     mut reading: Reading,
     mut lines: Lines<'_>,
-) -> Result<Script, Refusal<ScriptFault>>
-    ensures answer { Answers script_view script_fault_view result
-        (with_rest (reading_view reading) (lines_left lines.entry)) }
+) -> Result<Script, Refusal<FirstFault>>
+    ensures answer { (means : Meaning) → IsMeaning (reading_view reading).schema means
+        → Answers script_view fault_view result (with_rest means (reading_view reading) (lines_left lines.entry)) }
     ensures within { IfOk result (λ script. IsWithin (reading_view reading).limits (script_view script)) }
+    ensures schema { IfOk result (λ script. script.schema ≡ (reading_view reading).schema) }
+    ensures valid { IfOk result (λ script. All (IsLineOf script.schema) (script_view script).lines) }
+    ensures asked { IfOk result (λ script. All (IsAskedOf script.schema) script.lines.items) }
 {
     while let Some(text) = next_said(&mut lines) {
         reading = reading.read(alloc, lines.number(), text)?;
@@ -78,36 +105,58 @@ fn read_lines(
     alloc: Global,
     limits: Limits,
     mut lines: Lines<'_>,
-) -> Result<Script, Refusal<ScriptFault>>
-    ensures answer { Answers script_view script_fault_view result
-        (script_of_lines (limits_view limits) (lines_left lines.entry)) }
+) -> Result<Script, Refusal<FirstFault>>
+    ensures answer { (m : Meanings) → AreMeanings m
+        → Answers script_view fault_view result (read_from (limits_view limits) m (lines_left lines.entry)) }
     ensures within { IfOk result (λ script. IsWithin (limits_view limits) (script_view script)) }
+    ensures one { IfOk result (λ script. script.schema.shards ≡ 1) }
+    ensures valid { IfOk result (λ script. All (IsLineOf script.schema) (script_view script).lines) }
+    ensures asked { IfOk result (λ script. All (IsAskedOf script.schema) script.lines.items) }
 {
     let Some(text) = next_said(&mut lines) else {
-        return Err(Refusal::Fault(ScriptFault {
+        return Err(Refusal::Fault(FirstFault {
             line: 0,
-            fault: LineFault::NoSchema,
+            fault: Fault::NotBuilt,
         }));
     };
     let schema = read_schema(alloc, lines.number(), text)?;
     read_rest(alloc, Reading::new(alloc, limits, schema)?, lines)
 }
 
-/// The script that the bytes spell within the limits, or its first fault.
+// Line by line.
+fn read_in_lines(
+    alloc: Global,
+    limits: Limits,
+    bytes: &[u8],
+) -> Result<Script, Refusal<FirstFault>>
+    ensures answer { (m : Meanings) → AreMeanings m
+        → Answers script_view fault_view result (read_in (limits_view limits) m bytes.now) }
+    ensures within { IfOk result (λ script. IsWithin (limits_view limits) (script_view script)) }
+    ensures one { IfOk result (λ script. script.schema.shards ≡ 1) }
+    ensures valid { IfOk result (λ script. All (IsLineOf script.schema) (script_view script).lines) }
+    ensures asked { IfOk result (λ script. All (IsAskedOf script.schema) script.lines.items) }
+{
+    if bytes.len() > SCRIPT_LIMIT {
+        return Err(Refusal::Fault(FirstFault {
+            line: 0,
+            fault: Fault::TooLong,
+        }));
+    }
+    read_lines(alloc, limits, Lines::new(bytes))
+}
+
+/// The script that the bytes spell within the limits, or its first line that is at fault or not built.
 pub(crate) fn read_script(
     alloc: Global,
     limits: Limits,
     bytes: &[u8],
-) -> Result<Script, Refusal<ScriptFault>>
-    ensures answer { Answers script_view script_fault_view result
-        (script_of (limits_view limits) bytes.now) }
+) -> Result<Script, Refusal<FirstFault>>
+    ensures answer { (m : Meanings) → AreMeanings m
+        → Answers script_view fault_view result (outcome_within (limits_view limits) m bytes.now) }
     ensures within { IfOk result (λ script. IsWithin (limits_view limits) (script_view script)) }
+    ensures one { IfOk result (λ script. script.schema.shards ≡ 1) }
+    ensures valid { IfOk result (λ script. All (IsLineOf script.schema) (script_view script).lines) }
+    ensures asked { IfOk result (λ script. All (IsAskedOf script.schema) script.lines.items) }
 {
-    if bytes.len() > SCRIPT_LIMIT {
-        return Err(Refusal::Fault(ScriptFault {
-            line: 0,
-            fault: LineFault::TooLong,
-        }));
-    }
-    read_lines(alloc, limits, Lines::new(bytes))
+    read_in_lines(alloc, limits, bytes)
 }

@@ -1,16 +1,20 @@
 // A script as far as it has been read.
-ghost use Rattle.std.specs.Prelude.{◌≡◌, [], map, IfOk};
+ghost use Rattle.std.specs.Prelude.{◌≡◌, [], map, All, IfOk};
 ghost use Rattle.fc_spec.specs.ValidScripts.{IsWithin};
 ghost use Rattle.fc_base.specs.Answers.{Answers};
 ghost use Rattle.fc_run.specs.Counts.{AreCounts, IsLineOf};
-ghost use Rattle.fc_run.specs.ReadSoFar.{with_numbered as with_numbered_line, with_said, with_text as with_text_line};
-ghost use Rattle.fc_run.specs.ScriptView.{line_fault_view, said_view, script_fault_view};
-ghost use Rattle.fc_run.specs.View.{limits_view};
+ghost use Rattle.fc_run.specs.Fitting.{IsAskedOf};
+ghost use Rattle.fc_run.specs.ReadSoFar.{with_asked, with_numbered as with_numbered_line, with_text as with_text_line};
+ghost use Rattle.fc_run.specs.Requests.{IsMeaning, Meaning};
+ghost use Rattle.fc_run.specs.ScriptView.{line_view};
+ghost use Rattle.fc_run.specs.View.{fault_view, limits_view, refused_view};
 
+use super::asked::{Line, asked_line};
 use super::counts::Counts;
-use super::fault::{LineFault, ScriptFault, at_line};
-use super::line::{Line, line_said};
+use super::fault::refused_by;
+use super::line::line_said;
 use super::lines::value_on;
+use crate::fault::{Fault, FirstFault, at_line};
 use crate::limits::Limits;
 use fc_base::{Refusal, Schema, WantMemory};
 use std::alloc::Global;
@@ -22,7 +26,7 @@ pub(crate) struct Reading {
     schema: Schema,
     lines: Vec<Line>,
     counts: Counts,
-    ghost held: { AreCounts (limits_view limits) schema (map said_view lines.items) counts },
+    ghost held: { AreCounts (limits_view limits) schema (map line_view lines.items) counts },
 }
 
 impl Reading {
@@ -42,10 +46,12 @@ impl Reading {
     }
 
     // With a line behind the others.
-    fn with_line(self, alloc: Global, line: Line) -> Result<Reading, Refusal<LineFault>>
-        requires { IsLineOf self.schema (said_view line) }
-        ensures answer { Answers reading_view line_fault_view result (with_said (reading_view self) (said_view line)) }
+    fn with_line(self, alloc: Global, line: Line) -> Result<Reading, Refusal<Fault>>
+        requires valid { IsLineOf self.schema (line_view line) }
+        requires asked { IsAskedOf self.schema line }
+        ensures answer { Answers reading_view refused_view result (with_asked (reading_view self) (line_view line)) }
         ensures limits { IfOk result (λ r. (reading_view r).limits ≡ (reading_view self).limits) }
+        ensures schema { IfOk result (λ r. (reading_view r).schema ≡ (reading_view self).schema) }
     {
         let Reading {
             limits,
@@ -53,7 +59,7 @@ impl Reading {
             mut lines,
             counts,
         } = self;
-        let counts = counts.with(alloc, &schema, &line)?;
+        let counts = counts.with(alloc, &schema, &line).map_err(|refusal| refused_by(refusal))?;
         lines.push(line)?;
         Ok(Reading {
             limits,
@@ -63,12 +69,15 @@ impl Reading {
         })
     }
 
-    fn with_text(self, alloc: Global, text: &[u8]) -> Result<Reading, Refusal<LineFault>>
-        ensures answer { Answers reading_view line_fault_view result (with_text_line (reading_view self) text.now) }
+    fn with_text(self, alloc: Global, text: &[u8]) -> Result<Reading, Refusal<Fault>>
+        ensures answer { (means : Meaning) → IsMeaning self.schema means
+            → Answers reading_view refused_view result (with_text_line means (reading_view self) text.now) }
         ensures limits { IfOk result (λ r. (reading_view r).limits ≡ (reading_view self).limits) }
+        ensures schema { IfOk result (λ r. (reading_view r).schema ≡ (reading_view self).schema) }
     {
-        let json = value_on(alloc, text)?;
-        let line = line_said(alloc, &self.schema, &json)?;
+        let json = value_on(alloc, text).map_err(|refusal| refused_by(refusal))?;
+        let said = line_said(alloc, &self.schema, &json).map_err(|refusal| refused_by(refusal))?;
+        let line = asked_line(alloc, &self.schema, said)?;
         self.with_line(alloc, line)
     }
 
@@ -78,10 +87,11 @@ impl Reading {
         alloc: Global,
         number: u32,
         text: &[u8],
-    ) -> Result<Reading, Refusal<ScriptFault>>
-        ensures answer { Answers reading_view script_fault_view result
-            (with_numbered_line (reading_view self) (number, text.now)) }
+    ) -> Result<Reading, Refusal<FirstFault>>
+        ensures answer { (means : Meaning) → IsMeaning self.schema means
+            → Answers reading_view fault_view result (with_numbered_line means (reading_view self) (number, text.now)) }
         ensures limits { IfOk result (λ r. (reading_view r).limits ≡ (reading_view self).limits) }
+        ensures schema { IfOk result (λ r. (reading_view r).schema ≡ (reading_view self).schema) }
     {
         self.with_text(alloc, text)
             .map_err(|refusal| at_line(number, refusal))
@@ -90,8 +100,10 @@ impl Reading {
     /// The schema and the lines.
     pub(crate) fn into_parts(self) -> (Schema, Vec<Line>)
         ensures schema { result.0 ≡ (reading_view self).schema }
-        ensures lines { map said_view result.1.items ≡ (reading_view self).lines }
-        ensures within { IsWithin (reading_view self).limits (record { schema = result.0; lines = map said_view result.1.items }) }
+        ensures lines { map line_view result.1.items ≡ (reading_view self).lines }
+        ensures within { IsWithin (reading_view self).limits (record { schema = result.0; lines = map line_view result.1.items }) }
+        ensures valid { All (IsLineOf result.0) (map line_view result.1.items) }
+        ensures asked { All (IsAskedOf result.0) result.1.items }
     {
         let Reading { schema, lines, .. } = self;
         (schema, lines)

@@ -1,0 +1,32 @@
+-- Why a script is refused today, and the line that says it.
+use Rattle.std.specs.Prelude.{ℕ, codes}
+use Rattle.serde_json.specs.Data.{no_members, string as json_string, put}
+use Rattle.fc_spec.specs.Val.{Text}
+use Rattle.fc_spec.specs.Json.{natural_data}
+use Rattle.fc_spec.specs.Lines.{line_of, fault_line}
+use Rattle.fc_spec.specs.ScriptFault.{LineFault, not_json, too_long}
+
+-- a fault of scripts, or that something is not built yet
+pub data Refused : Type 0 where
+  not_built : Refused
+  faulty : LineFault → Refused
+
+-- until they are built, the faults of scripts but two are refused as not built
+abbrev pub refused : LineFault → Refused
+refused not_json = faulty not_json
+refused too_long = faulty too_long
+refused _ = not_built
+
+-- with the line, 0 where it is none
+pub record FirstFault : Type 0 where
+  pub line : ℕ
+  pub fault : Refused
+
+-- the line of a script refused so, at its n-th line
+abbrev pub refused_as : ℕ → Refused → Text
+refused_as n not_built = line_of (put (codes "error") (json_string (codes "not-built")) (put (codes "line") (natural_data n) (put (codes "number") (natural_data 0) no_members)))
+refused_as n (faulty fault) = fault_line (record { line = n; fault = fault })
+
+-- the line of a refused script
+abbrev pub refused_line : FirstFault → Text
+refused_line f = refused_as f.line f.fault
