@@ -13,7 +13,7 @@ use serde_json::{Value, json};
 use std::alloc::Global;
 
 impl Fault {
-    fn name(self) -> &'static str
+    pub(crate) fn name(self) -> &'static str
         ensures { result.now ≡ refused_name (refused_view self) }
     {
         match self {

@@ -36,33 +36,6 @@ fn outcome(alloc: Global, script: &[u8]) -> Result<(Status, String), Fail> {
     Ok((status, String::from_utf8_lossy(alloc, sink.written())?))
 }
 
-/// The script that adds these documents and asks for one facet.
-fn script_of(
-    alloc: Global,
-    documents: &[String],
-    session: &str,
-    name: &str,
-    field: &str,
-) -> Result<String, Fail> {
-    let mut script = String::from_str(
-        alloc,
-        r#"{"schema":{"shards":1,"fields":{"cat":"string","tags":"strings"}}}"#,
-    )?;
-    for document in documents {
-        script.push_str("\n{\"add\":{\"doc\":")?;
-        script.push_str(document.as_str())?;
-        script.push_str("}}")?;
-    }
-    script.push_str("\n{\"commit\":{}}\n{\"sync\":{}}\n")?;
-    let search =
-        r#"{"search":{"session":"S","request":{"query":"*:*","facet":{"N":{"type":"terms","field":"F","limit":-1,"sort":"index"}}}}}"#
-            .replace(alloc, "F", field)?
-            .replace(alloc, "N", name)?
-            .replace(alloc, "S", session)?;
-    script.push_str(search.as_str())?;
-    Ok(script)
-}
-
 #[test]
 fn streams_and_words(rt: HostRuntime) -> Result<(), Fail> {
     let alloc = rt.alloc();
@@ -142,212 +115,276 @@ fn long_scripts(rt: HostRuntime) -> Result<(), Fail> {
     Ok(())
 }
 
-#[test]
-fn lines_by_hand(rt: HostRuntime) -> Result<(), Fail> {
-    let alloc = rt.alloc();
-    let families: &[&str] = &[
-        r#"{"id":"p1","tags":["x","y","x"],"_childDocuments_":[{"id":"c1","tags":"y"},{"id":"c2","tags":["z","y"],"cat":"b"}]}"#,
-        r#"{"id":7,"tags":[],"cat":null,"_childDocuments_":[],"_version_":1}"#,
-        r#"{"id":"p3","tags":[10,null,"x"]}"#,
-    ];
-    // The documents, the session, the name and the field of the facet, and the line without its LF.
-    let rows: &[(&[&str], &str, &str, &str, &str)] = &[
-        (
-            &[
-                r#"{"id":"1","cat":"x"}"#,
-                r#"{"id":"2"}"#,
-                r#"{"id":"3","cat":"x"}"#,
-            ],
-            "a",
-            "z",
-            "cat",
-            r#"{"facets":{"count":3,"z":{"buckets":[{"count":2,"val":"x"}]}},"generations":[1],"session":"a"}"#,
-        ),
-        (
-            &[],
-            "a",
-            "z",
-            "cat",
-            r#"{"facets":{"count":0},"generations":[1],"session":"a"}"#,
-        ),
-        (
-            &[r#"{"id":"1"}"#],
-            "é",
-            "cats",
-            "cat",
-            r#"{"facets":{"cats":{"buckets":[]},"count":1},"generations":[1],"session":"é"}"#,
-        ),
-        (
-            &[r#"{"id":"2","cat":"x"}"#, r#"{"id":"10","cat":"x"}"#],
-            "a",
-            "counts",
-            "id",
-            r#"{"facets":{"count":2,"counts":{"buckets":[{"count":1,"val":"10"},{"count":1,"val":"2"}]}},"generations":[1],"session":"a"}"#,
-        ),
-        (
-            &[
-                r#"{"id":"1","cat":"\u00df\/"}"#,
-                r#"{"id":"2","cat":"\u0022\\"}"#,
-                r#"{"id":"3","cat":"ß/"}"#,
-                r#"{"id":"4","cat":"\u000a\u0001"}"#,
-                r#"{"id":"5","cat":""}"#,
-            ],
-            r#"\u0061\""#,
-            "",
-            "cat",
-            r#"{"facets":{"":{"buckets":[{"count":1,"val":""},{"count":1,"val":"\n\u0001"},{"count":1,"val":"\"\\"},{"count":2,"val":"ß/"}]},"count":5},"generations":[1],"session":"a\""}"#,
-        ),
-        (
-            families,
-            "a",
-            "t",
-            "tags",
-            r#"{"facets":{"count":5,"t":{"buckets":[{"count":1,"val":"10"},{"count":2,"val":"x"},{"count":3,"val":"y"},{"count":1,"val":"z"}]}},"generations":[1],"session":"a"}"#,
-        ),
-        (
-            families,
-            "a",
-            "ids",
-            "id",
-            r#"{"facets":{"count":5,"ids":{"buckets":[{"count":1,"val":"7"},{"count":1,"val":"c1"},{"count":1,"val":"c2"},{"count":1,"val":"p1"},{"count":1,"val":"p3"}]}},"generations":[1],"session":"a"}"#,
-        ),
-        (
-            families,
-            "a",
-            "cats",
-            "cat",
-            r#"{"facets":{"cats":{"buckets":[{"count":1,"val":"b"}]},"count":5},"generations":[1],"session":"a"}"#,
-        ),
-    ];
-    for (texts, session, name, field, wanted) in rows {
-        let mut documents = Vec::new(alloc);
-        for text in *texts {
-            documents.push(String::from_str(alloc, text)?)?;
+// Runs, one behind the other, each with a blank line behind it. A line of a run is: `S` and the fields of a
+// schema of one shard; `+` and the members of a document, whose id is the number of its add; `!`, a commit;
+// `-`, a sync; `?`, a session and a request, in which `@F` is a facet of every value of F in index order; `=`,
+// what the search ahead of it prints: its generation, its session and its facets; `*`, what the run prints
+// in place of all these: the name of a refusal, its line and its number. Any other line is a line of the script.
+const RUNS: &str = r##"
+S "cat":"string"
+
+S "cat":"string"
+? a {"facet":{"c":@cat}}
+= 0 a {"count":0}
+
+S "cat":"string"
++ "cat":"a"
+!
+-
+? a {}
+= 1 a {"count":1}
+-
++ "cat":"b"
+!
+-
+? a {}
+= 2 a {"count":2}
+
+S "cat":"string"
++ "cat":"a"
+? a {"query":"cat:a"}
+= 0 a {"count":0}
+!
+? a {"query":"cat:a"}
+= 1 a {"count":1}
+? b {"query":"cat:a"}
+= 1 b {"count":1}
+-
+!
+? a {"query":"cat:a"}
+= 2 a {"count":1}
++ "cat":"a"
+? a {"query":"cat:a"}
+= 2 a {"count":1}
+
+S "cat":"string"
+!
+!
+{"search":{"request":{}}}
+= 2 main {"count":0}
++ "cat":"a"
+
+S "color":"string","size":"plong"
++ "color":"a"
++ "color":"b"
++ "color":"c"
+!
+-
+? a {"query":"-color:a"}
+= 1 a {"count":2}
+? a {"query":"color:(a OR c)"}
+= 1 a {"count":2}
+? a {"query":"color:{a TO c]"}
+= 1 a {"count":2}
+? a {"query":"size:*"}
+= 1 a {"count":0}
+? a {"query":"+color:a color:b"}
+= 1 a {"count":1}
+? a {"query":"color:(a -b)"}
+= 1 a {"count":1}
+? a {"query":"*:*","filter":"-color:b"}
+= 1 a {"count":2}
+? a {"filter":["{!tag=C}color:[a TO b]",{"#D,E":"-color:a"}]}
+= 1 a {"count":1}
+? a {"query":"color:z","filter":{"#D":"*:*"},"limit":0,"facet":{"c":@color}}
+= 1 a {"count":0}
+
+S "cat":"strings","n":"plong","ns":"plongs"
++ "cat":["z","z","a"],"n":-7,"ns":[3,-9223372036854775000,3]
++ "cat":["é"],"n":10
+!
++ "cat":["\"","z"],"n":9,"ns":[500,3]
+!
++ "cat":"never"
+? a {"facet":{"c":@cat}}
+= 2 a {"c":{"buckets":[{"count":1,"val":"\""},{"count":1,"val":"a"},{"count":2,"val":"z"},{"count":1,"val":"é"}]},"count":3}
+? b {"facet":{"ns":@ns},"query":"n:[-7 TO 9]","limit":0}
+= 2 b {"count":2,"ns":{"buckets":[{"count":1,"val":-9223372036854775000},{"count":2,"val":3},{"count":1,"val":500}]}}
+? a {"filter":["cat:z","n:{-7 TO *]"],"facet":{"n":@n}}
+= 2 a {"count":1,"n":{"buckets":[{"count":1,"val":9}]}}
+? a {"query":"cat:z","facet":{"counts":@id}}
+= 2 a {"count":2,"counts":{"buckets":[{"count":1,"val":"1"},{"count":1,"val":"3"}]}}
+? a {"query":"cat:a","filter":[],"facet":{}}
+= 2 a {"count":1}
+
+S "kind":"string","color":"string"
++ "kind":"p","_childDocuments_":[{"id":"c1","color":"red"},{"id":"c2","color":"blue"}]
++ "kind":"p","color":"red"
+!
+? a {"facet":{"c":@color}}
+= 1 a {"c":{"buckets":[{"count":1,"val":"blue"},{"count":2,"val":"red"}]},"count":4}
+? a {"query":"color:red","facet":{"k":@kind}}
+= 1 a {"count":2,"k":{"buckets":[{"count":1,"val":"p"}]}}
+
+S "cat":"string"
+{"add":{"doc":{"id":"x","cat":"a"},"shard":0}}
+{"commit":{"shard":0}}
+{"search":{"session":"a","request":{"query":"cat:a"}}}
+= 1 a {"count":1}
+
+S "cat":"string"
+? a {}
+{"commit":{"shard":1}}
+* not-built 3 0
+
+S "cat":"string"
+? a {}
+? b {"facet":{"c":@cat}}
+~
+? a {"facet":{"c":@dog}}
+* not-built 5 0
+
+S "cat":"string"
+{"sync":{}
+{"sink":{}}
+* not-json 2 1
+
+{"schema":{"shards":2,"fields":{}}}
+{
+* not-built 1 0
+"##;
+
+// A request with its facets written out.
+fn facets_in(alloc: Global, request: &str) -> Result<String, Fail> {
+    let mut text = String::new(alloc);
+    for (number, part) in request.split('@').enumerate() {
+        match part.split_once('}') {
+            Some((field, rest)) if number > 0 => write!(
+                text,
+                "{{\"type\":\"terms\",\"field\":\"{field}\",\"limit\":-1,\"sort\":\"index\"}}}}{rest}"
+            )?,
+            _ => text.push_str(part)?,
         }
-        let script = script_of(alloc, &documents, session, name, field)?;
-        let (status, written) = outcome(alloc, script.as_bytes())?;
-        assert_eq!(rt; status, Status::Done, "{script}");
-        assert_eq!(rt; written.as_str(), format!(in alloc; "{wanted}\n")?.as_str());
     }
+    Ok(text)
+}
+
+// What a line of a run stands for: a line of its script, or one that it prints.
+fn written_out(alloc: Global, line: &str, adds: u32) -> Result<String, Fail> {
+    let (mark, rest) = line.split_once(' ').unwrap_or((line, ""));
+    let (first, behind) = rest.split_once(' ').unwrap_or((rest, ""));
+    let (second, third) = behind.split_once(' ').unwrap_or((behind, ""));
+    Ok(match mark {
+        "S" => format!(in alloc; "{{\"schema\":{{\"shards\":1,\"fields\":{{{rest}}}}}}}")?,
+        "+" => format!(in alloc; "{{\"add\":{{\"doc\":{{\"id\":\"{adds}\",{rest}}}}}}}")?,
+        "!" => String::from_str(alloc, "{\"commit\":{}}")?,
+        "-" => String::from_str(alloc, "{\"sync\":{}}")?,
+        "~" => String::new(alloc),
+        "?" => {
+            let request = facets_in(alloc, behind)?;
+            format!(in alloc; "{{\"search\":{{\"request\":{request},\"session\":\"{first}\"}}}}")?
+        }
+        "=" => {
+            format!(in alloc; "{{\"facets\":{third},\"generations\":[{first}],\"session\":\"{second}\"}}")?
+        }
+        "*" => {
+            format!(in alloc; "{{\"error\":\"{first}\",\"line\":{second},\"number\":{third}}}")?
+        }
+        _ => String::from_str(alloc, line)?,
+    })
+}
+
+#[test]
+fn runs(rt: HostRuntime) -> Result<(), Fail> {
+    let alloc = rt.alloc();
+    let mut script = String::new(alloc);
+    let mut wanted = String::new(alloc);
+    let mut adds = 0u32;
+    let mut count = 0u32;
+    for line in RUNS.split('\n') {
+        if !line.is_empty() {
+            adds = adds.wrapping_add(u32::from(line.starts_with('+')));
+            let text = written_out(alloc, line, adds)?;
+            let list = match line.as_bytes()[0] {
+                b'=' | b'*' => &mut wanted,
+                _ => &mut script,
+            };
+            list.push_str(text.as_str())?;
+            list.push('\n')?;
+        } else if !script.is_empty() {
+            let (status, written) = outcome(alloc, script.as_bytes())?;
+            let is_refused = wanted.starts_with("{\"error");
+            assert_eq!(rt; status == Status::Script, is_refused, "{script}");
+            assert_eq!(rt; status == Status::Done, !is_refused, "{script}");
+            assert_eq!(rt; written.as_str(), wanted.as_str(), "{script}");
+            script.clear();
+            wanted.clear();
+            adds = 0;
+            count = count.wrapping_add(1);
+        }
+    }
+    assert_eq!(rt; count, 13);
     Ok(())
 }
 
-/// The JSON string of a text whose control characters are LFs.
-fn quoted(alloc: Global, text: &str) -> Result<String, Fail> {
-    let inside = text
-        .replace(alloc, "\\", "\\\\")?
-        .replace(alloc, "\"", "\\\"")?
-        .replace(alloc, "\n", "\\n")?;
-    Ok(format!(in alloc; "\"{inside}\"")?)
-}
-
-/// The line for documents with these values, each of one document, by plain counting.
-fn counted_line(alloc: Global, documents: &[(&str, Option<&str>)]) -> Result<String, Fail> {
-    let tail = "},\"generations\":[1],\"session\":\"a\"}\n";
-    if documents.is_empty() {
-        return Ok(format!(in alloc; "{{\"facets\":{{\"count\":0{tail}")?);
-    }
-    let mut values = Vec::new(alloc);
-    for (_, cat) in documents {
-        if let Some(cat) = cat {
-            values.push(*cat)?;
-        }
-    }
-    values.sort()?;
-    values.dedup();
-    let mut buckets = String::new(alloc);
-    for value in &values {
-        let count = documents
-            .iter()
-            .filter(|(_, cat)| *cat == Some(*value))
-            .count();
-        if !buckets.is_empty() {
-            buckets.push(',')?;
-        }
-        let val = quoted(alloc, value)?;
-        buckets.push_str(format!(in alloc; "{{\"count\":{count},\"val\":{val}}}")?.as_str())?;
-    }
-    let all = documents.len();
-    Ok(format!(in alloc;
-        "{{\"facets\":{{\"cats\":{{\"buckets\":[{buckets}]}},\"count\":{all}{tail}"
-    )?)
-}
+// Requests, written as in runs, each behind whether it is built.
+const REQUESTS: &str = r##"yes {}
+yes {"query":"*:*","filter":[],"limit":0,"facet":{}}
+yes {"facet":{"":@n}}
+yes {"filter":"{!tag=A}cat:a"}
+yes {"filter":{"#A,B":"cat:a"}}
+yes {"query":7,"query":"cat:a"}
+no []
+no "cat:a"
+no null
+no {"sort":"index"}
+no {"query":"*:*","offset":0}
+no {"query":7}
+no {"query":null}
+no {"query":"cat"}
+no {"query":"dog:a"}
+no {"query":"n:a"}
+no {"query":"cat:a AND cat:b OR cat:c"}
+no {"query":"{!tag=A}cat:a"}
+no {"filter":7}
+no {"filter":null}
+no {"filter":{"A":"cat:a"}}
+no {"filter":{"#A":"cat:a","#B":"cat:b"}}
+no {"filter":["cat:a",7]}
+no {"filter":["cat:a",["cat:a"]]}
+no {"filter":["cat:a","n:a"]}
+no {"filter":"{!tag=}cat:a"}
+no {"limit":1}
+no {"limit":-1}
+no {"limit":0.0}
+no {"limit":-0}
+no {"limit":"0"}
+no {"limit":null}
+no {"facet":null}
+no {"facet":[]}
+no {"facet":{"a":@cat},"facet":7}
+no {"facet":{"a":@dog}}
+no {"facet":{"count":@cat}}
+no {"facet":{"val":@cat}}
+no {"facet":{"b":{},"a":@cat}}
+no {"facet":{"a":"sum(n)"}}
+no {"facet":{"a":{}}}
+no {"facet":{"a":{"type":"terms","field":"cat","sort":"index"}}}
+no {"facet":{"a":{"type":"terms","field":"cat","limit":-1}}}
+no {"facet":{"a":{"type":"terms","field":"cat","limit":10,"sort":"index"}}}
+no {"facet":{"a":{"type":"terms","field":"cat","limit":-1.0,"sort":"index"}}}
+no {"facet":{"a":{"type":"terms","field":"cat","limit":-1,"sort":"index asc"}}}
+no {"facet":{"a":{"type":"terms","field":"cat","limit":-1,"sort":"count"}}}
+no {"facet":{"a":{"type":"terms","field":["cat"],"limit":-1,"sort":"index"}}}
+no {"facet":{"a":{"type":"query","field":"cat","limit":-1,"sort":"index"}}}
+no {"facet":{"a":{"type":"terms","field":"cat","limit":-1,"sort":"index","mincount":1}}}"##;
 
 #[test]
-fn lines_by_plain_counting(rt: HostRuntime) -> Result<(), Fail> {
+fn requests(rt: HostRuntime) -> Result<(), Fail> {
     let alloc = rt.alloc();
-    let rows: &[&[(&str, Option<&str>)]] = &[
-        &[],
-        &[("1", None)],
-        &[("1", None), ("2", None), ("3", None)],
-        &[("1", Some("b")), ("2", Some("a"))],
-        &[
-            ("1", Some("a")),
-            ("2", None),
-            ("3", Some("b")),
-            ("", Some("a")),
-        ],
-        &[
-            ("1", Some("x")),
-            ("2", Some("x")),
-            ("3", Some("x")),
-            ("4", Some("x")),
-        ],
-        &[
-            ("1", Some("")),
-            ("2", None),
-            ("3", Some("")),
-            ("4", Some(" ")),
-        ],
-        &[
-            ("é", Some("é")),
-            ("ß", Some("ß")),
-            ("3", Some("é")),
-            ("4", Some("e\u{301}")),
-            ("5", Some("z")),
-        ],
-        // In the order of bytes, and not in that of UTF-16.
-        &[("1", Some("😀")), ("2", Some("～")), ("3", Some("😀"))],
-        &[
-            ("\"", Some("a\"b")),
-            ("\\", Some("a\\b")),
-            ("\n", Some("a\nb")),
-            ("4", Some("a\\nb")),
-            ("5", Some("\\\"")),
-        ],
-        &[
-            ("1", Some("a")),
-            ("2", Some("B")),
-            ("3", Some("aa")),
-            ("4", Some("10")),
-            ("5", Some("9")),
-        ],
-        &[
-            ("6", Some("c")),
-            ("5", Some("a")),
-            ("4", Some("c")),
-            ("3", Some("b")),
-            ("2", Some("a")),
-            ("1", Some("c")),
-        ],
-    ];
-    for row in rows {
-        let mut documents = Vec::new(alloc);
-        for (id, cat) in *row {
-            let id = quoted(alloc, id)?;
-            documents.push(match cat {
-                Some(cat) => format!(in alloc; "{{\"id\":{id},\"cat\":{}}}", quoted(alloc, cat)?)?,
-                None => format!(in alloc; "{{\"id\":{id}}}")?,
-            })?;
-        }
-        let script = script_of(alloc, &documents, "a", "cats", "cat")?;
+    for row in REQUESTS.split('\n') {
+        let (answer, request) = row.split_once(' ').unwrap_or((row, ""));
+        let request = facets_in(alloc, request)?;
+        let script = format!(in alloc;
+            "{{\"schema\":{{\"shards\":1,\"fields\":{{\"cat\":\"string\",\"n\":\"plong\"}}}}}}\n{{\"search\":{{\"request\":{request}}}}}"
+        )?;
         let (status, written) = outcome(alloc, script.as_bytes())?;
-        assert_eq!(rt; status, Status::Done, "{script}");
-        assert_eq!(rt;
-            written.as_str(),
-            counted_line(alloc, row)?.as_str(),
-            "{script}"
-        );
+        if answer == "yes" {
+            assert_eq!(rt; status, Status::Done, "{row}");
+        } else {
+            assert_eq!(rt; status, Status::Script, "{row}");
+            assert_eq!(rt; written.as_str(), "{\"error\":\"not-built\",\"line\":2,\"number\":0}\n", "{row}");
+        }
     }
     Ok(())
 }
