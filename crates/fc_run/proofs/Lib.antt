@@ -1,6 +1,8 @@
 pub mod CutLines
 pub mod IdSets
 pub mod FieldTexts
+pub mod LookedInto
+pub mod Meanings
 pub mod NewIds
 pub mod DistinctValues
 pub mod GoodBlocks

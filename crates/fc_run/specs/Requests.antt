@@ -1,5 +1,5 @@
 -- The requests that are built today: a query, filters, and at most one terms facet of every value in index order. Guide: JSON Request API.
-use Rattle.std.specs.Prelude.{ℕ, negsuc, List, [], ◌∷◌, codes, Bool, false, not, ◌&&◌, ◌||◌, ◌==◌, Option, None, Some, ok_or, option_map, option_and_then, unwrap_or, Result, Ok, Err, if◌then◌else◌}
+use Rattle.std.specs.Prelude.{ℕ, negsuc, List, [], ◌∷◌, codes, Bool, true, false, not, ◌&&◌, ◌||◌, ◌==◌, Option, None, Some, ok_or, option_map, option_and_then, unwrap_or, Result, Ok, if◌then◌else◌}
 use Rattle.std.specs.Ordering.{int_eq}
 use Rattle.serde_json.specs.Data.{Data, array, object, Items, no_items, item, Members, no_members, member}
 use Rattle.serde_json.specs.Find.{get_member, as_number, as_object, as_str, as_i64}
@@ -114,7 +114,7 @@ filters_in means (Some d) = do
 
 -- `limit` is the whole number 0 where it is named
 abbrev pub has_limit : Option Data → Bool
-has_limit None = not false
+has_limit None = true
 has_limit (Some d) = unwrap_or (option_map (λ n. n == 0) (natural_in d)) false
 
 -- ---- the request

@@ -1,13 +1,13 @@
 // The requests that are built: a query, filters, and at most one terms facet of every value in index order.
-ghost use Rattle.std.specs.Prelude.{◌≡◌, ◌<◌, length, map, All, IfOk, IfSome, option_map};
-ghost use Rattle.std.specs.Result.{result_map_both};
-ghost use Rattle.serde_json.specs.View.{view, members_view};
+ghost use Rattle.std.specs.Prelude.{◌≡◌, ◌<◌, length, map, All, IfOk, IfSome, Some, ok_or, option_map};
+ghost use Rattle.serde_json.specs.View.{view, items_view, members_view};
 ghost use Rattle.fc_spec.specs.ValidQueries.{IsValidQuery};
 ghost use Rattle.fc_base.specs.Answers.{Answers};
 ghost use Rattle.fc_query.specs.FilterView.{filter_view};
 ghost use Rattle.fc_query.specs.QueryView.{query_view};
 ghost use Rattle.fc_run.specs.Fitting.{IsValidRequest};
 ghost use Rattle.fc_run.specs.Looking.{is_whole_terms as whole_terms_of_all};
+ghost use Rattle.fc_run.specs.Refusals.{not_built};
 ghost use Rattle.fc_run.specs.Requests as form;
 ghost use Rattle.fc_run.specs.Requests.{IsMeaning, Meaning};
 ghost use Rattle.fc_run.specs.View.{facets_view, refused_view, request_view};
@@ -70,10 +70,15 @@ fn filter_of(alloc: Global, schema: &Schema, json: &Value) -> Result<Filter, Ref
 }
 
 // Filters of a list.
-fn filters_of(alloc: Global, schema: &Schema, list: &[Value]) -> Result<Vec<Filter>, Refusal<Fault>> {
+fn filters_of(alloc: Global, schema: &Schema, list: &[Value]) -> Result<Vec<Filter>, Refusal<Fault>>
+    ensures answer { (means : Meaning) → IsMeaning schema.now means → Answers (λ filters. map filter_view filters.items) refused_view result
+        (form.filters_of means (items_view list.now)) }
+    ensures valid { IfOk result (λ filters. All (λ filter. IsValidQuery schema.now (query_view filter.query)) filters.items) }
+{
     let mut filters = Vec::new(alloc);
     for json in list {
-        filters.push(filter_of(alloc, schema, json)?)?;
+        let filter = filter_of(alloc, schema, json)?;
+        filters.push(filter)?;
     }
     Ok(filters)
 }
@@ -122,12 +127,17 @@ fn is_whole_terms(facet: &Value) -> bool
         && has_minus_one(facet, "limit")
 }
 
+// The facet of this name, where its field is one of the schema's.
 fn facet_of(
     alloc: Global,
     schema: &Schema,
     name: &str,
     facet: &Value,
-) -> Result<Facet, Refusal<Fault>> {
+) -> Result<Facet, Refusal<Fault>>
+    ensures answer { Answers (λ facet. facets_view (Some facet)) refused_view result
+        (ok_or (form.facet_of schema.now name.now (view facet.now)) not_built) }
+    ensures valid { IfOk result (λ facet. facet.field.0 < length schema.now.fields) }
+{
     if is_reserved(name) || !is_whole_terms(facet) {
         return Err(Refusal::Fault(Fault::NotBuilt));
     }

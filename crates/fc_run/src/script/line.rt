@@ -53,7 +53,11 @@ fn added_shard(schema: &Schema, json: Option<&Value>) -> Result<u32, LineFault>
 {
     match json {
         Some(json) => shard_of(schema, json),
-        None => Ok(0),
+        None => {
+            // A schema has at least one shard.
+            let _shards = schema.shards();
+            Ok(0)
+        }
     }
 }
 
@@ -113,10 +117,7 @@ fn add_of<'v>(
     Ok(Said::Add(shard, block))
 }
 
-fn commit_of<'v>(
-    schema: &Schema,
-    members: &'v Map<String, Value>,
-) -> Result<Said<'v>, LineFault>
+fn commit_of<'v>(schema: &Schema, members: &'v Map<String, Value>) -> Result<Said<'v>, LineFault>
     ensures answer { result_map_both said_view line_fault_view result
         ≡ reading.commit_of schema.now (members_view members.now.entries) }
     ensures valid { IfOk result (λ line. IsLineOf schema.now (said_view line)) }
