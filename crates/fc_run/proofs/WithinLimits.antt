@@ -3,7 +3,6 @@ use Rattle.std.proofs.Common.{◌≡◌, ℕ, ◌+◌, ◌<◌, ◌≤◌, List,
 use Rattle.std.specs.Prelude.{nat_le, ◌&&◌, count_by}
 use Rattle.std.specs.List.{filter_map}
 use Rattle.std.proofs.lemmas.Bool.Decides.{nat_tests}
-use Rattle.serde_json.specs.Data.{Data}
 use Rattle.fc_spec.specs.Document.{Block}
 use Rattle.fc_spec.specs.Schema.{Schema}
 use Rattle.fc_spec.specs.Script.{Line, commits_shard}
@@ -12,7 +11,8 @@ use Rattle.fc_spec.specs.ScriptTotals.{Limits, added, documents_added, absolute_
 use Rattle.fc_spec.specs.Totals.{documents_in, document_total, value_total}
 use Rattle.fc_spec.specs.ValidScripts.{IsWithin}
 use Rattle.fc_run.specs.Counts.{AreCounts}
-use Rattle.fc_run.specs.Gathered.{limits_with}
+use Rattle.fc_run.specs.Left.{limits_with}
+use Rattle.fc_run.specs.ReadSoFar.{AskedLine}
 use Rattle.fc_run.specs.declared.script.counts.Counts.{Counts}
 use Rattle.fc_run.proofs.InRange.{all_below}
 
@@ -22,7 +22,7 @@ few_of left blocks = both (nat_le (document_total blocks) (left.documents + docu
     both : (a b : Bool) → a ≡ true → b ≡ true → (a && b) ≡ true
     both a b a_is b_is = rw (a_is, b_is) refl
 
-pub is_within : (limits : Limits) (s : Schema) (lines : List (Line Data)) (c : Counts) → AreCounts limits s lines c → IsWithin limits (record { schema = s; lines = lines })
+pub is_within : (limits : Limits) (s : Schema) (lines : List AskedLine) (c : Counts) → AreCounts limits s lines c → IsWithin limits (record { schema = s; lines = lines })
 is_within limits s lines c are = record {
   blocks = are.valid;
   documents = rw (are.documents.once, fits, few) refl;
