@@ -29,3 +29,4 @@ pub mod AskedCounts
 pub mod NotBuiltFaults
 pub mod LineOrder
 pub mod Outcomes
+pub mod PassedFaults
