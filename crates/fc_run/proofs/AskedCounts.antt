@@ -1,7 +1,7 @@
 -- What is counted over lines does not look at what their searches ask.
-use Rattle.std.proofs.Common.{◌≡◌, ℕ, List, [], ◌∷◌, ◌++◌, map, Bool, Option, None, Some, refl, ◌∙◌, ap}
+use Rattle.std.proofs.Common.{◌≡◌, ℕ, List, [], ◌∷◌, map, Bool, Option, None, Some, refl, ◌∙◌, ap}
 use Rattle.std.specs.Prelude.{length, nat_le, count_by}
-use Rattle.std.specs.List.{filter_map, cons_option, list_all, sum_by}
+use Rattle.std.specs.List.{filter_map, cons_option, list_all}
 use Rattle.fc_spec.proofs.MappedLists.{count_by-map}
 use Rattle.fc_spec.specs.Lists.{numbers_below}
 use Rattle.fc_spec.specs.Schema.{Schema}

@@ -1,5 +1,5 @@
 -- The documents of one block more: what is counted then.
-use Rattle.std.proofs.Common.{◌≡◌, ℕ, ◌+◌, List, [], ◌∷◌, ◌++◌, length, get_or, Bool, true, false, not, cond, ◌||◌, ◌&&◌, Some, None, is_some, Result, Ok, Err, refl, sym, ◌∙◌, ap, append-nil}
+use Rattle.std.proofs.Common.{◌≡◌, ℕ, ◌+◌, List, [], ◌∷◌, ◌++◌, length, get_or, Bool, true, false, not, ◌||◌, ◌&&◌, Some, None, is_some, Ok, Err, refl, sym, ◌∙◌, ap, append-nil}
 use Rattle.std.specs.Prelude.{nat_le, nat_abs}
 use Rattle.std.specs.List.{flat_map, list_all, list_any, range_with_len, sum_by}
 use Rattle.std.proofs.lemmas.List.Concat.{flat_map-append}
@@ -9,7 +9,7 @@ use Rattle.fc_spec.specs.Val.{Val, same_val, has_val}
 use Rattle.fc_spec.specs.Document.{Document, Block, values_of}
 use Rattle.fc_spec.specs.Columns.{longs_in}
 use Rattle.fc_spec.specs.Schema.{Schema}
-use Rattle.fc_spec.specs.ScriptFault.{LineFault, duplicate_id, field_total, too_many_documents}
+use Rattle.fc_spec.specs.ScriptFault.{LineFault, field_total, too_many_documents}
 use Rattle.fc_spec.specs.ScriptReading.{check_documents}
 use Rattle.fc_spec.specs.ScriptTotals.{Limits, ids_in, has_repeat, absolute_total, total_limit, sums_fit, are_few}
 use Rattle.fc_spec.specs.Totals.{documents_of, documents_in}

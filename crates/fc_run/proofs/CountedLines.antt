@@ -9,7 +9,7 @@ use Rattle.fc_spec.specs.Document.{Block}
 use Rattle.fc_spec.specs.Request.{Request}
 use Rattle.fc_spec.specs.RequestFault.{RequestFault}
 use Rattle.fc_spec.specs.Schema.{Schema}
-use Rattle.fc_spec.specs.Script.{Line, add, commit, sync, asks, is_sync, commits_shard}
+use Rattle.fc_spec.specs.Script.{add, commit, sync, asks, is_sync, commits_shard}
 use Rattle.fc_spec.specs.ScriptFault.{too_many_commits, too_many_sessions, too_many_syncs}
 use Rattle.fc_spec.specs.ScriptReading.{check_last}
 use Rattle.fc_spec.specs.ScriptTotals.{Limits, added, session_in, sessions, first_ones, few_commits}

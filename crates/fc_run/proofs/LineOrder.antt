@@ -1,5 +1,5 @@
 -- The numbers of lines ascend, and so a fault among later lines is behind the lines before.
-use Rattle.std.proofs.Common.{◌≡◌, ℕ, ◌+◌, ◌<◌, List, [], ◌∷◌, Bool, true, false, cond, Option, None, Some, Result, Ok, Err, arith}
+use Rattle.std.proofs.Common.{ℕ, ◌+◌, ◌<◌, List, [], ◌∷◌, Bool, true, false, cond, Option, None, Some, Result, Ok, Err, arith}
 use Rattle.std.specs.List.{filter, enumerate_from}
 use Rattle.serde_json.specs.Data.{Data}
 use Rattle.fc_spec.specs.Val.{Text}

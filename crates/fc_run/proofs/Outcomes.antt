@@ -7,9 +7,9 @@ use Rattle.fc_spec.specs.Val.{Text}
 use Rattle.fc_spec.specs.Schema.{Schema}
 use Rattle.fc_spec.specs.Request.{Request}
 use Rattle.fc_spec.specs.RequestFault.{RequestFault}
-use Rattle.fc_spec.specs.Script.{Line, add, commit, sync, asks, Script}
+use Rattle.fc_spec.specs.Script.{Line, add, commit, sync, asks}
 use Rattle.fc_spec.specs.ScriptFault.{LineFault, ScriptFault, too_long}
-use Rattle.fc_spec.specs.ScriptReading.{Numbered, at_line as script_at_line, check_last, is_silent, numbered_lines, schema_on, script_limit, script_of, script_of_lines, value_on, with_line, with_lines}
+use Rattle.fc_spec.specs.ScriptReading.{Numbered, at_line as script_at_line, check_last, is_silent, numbered_lines, schema_on, script_limit, script_of_lines, value_on, with_lines}
 use Rattle.fc_spec.specs.ScriptLines.{lines_of}
 use Rattle.fc_spec.specs.ScriptTotals.{Limits}
 use Rattle.fc_spec.specs.LineReading.{line_said}

@@ -1,13 +1,12 @@
 -- A script that was read is within its limits.
-use Rattle.std.proofs.Common.{◌≡◌, ℕ, ◌+◌, ◌<◌, ◌≤◌, List, length, get_or, Bool, true, false, Ok, refl, sym, ◌∙◌, ap, arith}
+use Rattle.std.proofs.Common.{◌≡◌, ◌+◌, List, length, Bool, true, refl, ◌∙◌, ap, arith}
 use Rattle.std.specs.Prelude.{nat_le, ◌&&◌, count_by}
 use Rattle.std.specs.List.{filter_map}
 use Rattle.std.proofs.lemmas.Bool.Decides.{nat_tests}
 use Rattle.fc_spec.specs.Document.{Block}
 use Rattle.fc_spec.specs.Schema.{Schema}
-use Rattle.fc_spec.specs.Script.{Line, commits_shard}
-use Rattle.fc_spec.specs.ScriptReading.{check_documents}
-use Rattle.fc_spec.specs.ScriptTotals.{Limits, added, documents_added, absolute_total, total_limit, sums_fit, are_few, few_commits, few_sessions, few_syncs}
+use Rattle.fc_spec.specs.Script.{commits_shard}
+use Rattle.fc_spec.specs.ScriptTotals.{Limits, added, documents_added, absolute_total, total_limit, sums_fit, are_few}
 use Rattle.fc_spec.specs.Totals.{documents_in, document_total, value_total}
 use Rattle.fc_spec.specs.ValidScripts.{IsWithin}
 use Rattle.fc_run.specs.Counts.{AreCounts}

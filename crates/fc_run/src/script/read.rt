@@ -125,11 +125,7 @@ fn read_lines(
 }
 
 // Line by line.
-fn read_in_lines(
-    alloc: Global,
-    limits: Limits,
-    bytes: &[u8],
-) -> Result<Script, Refusal<FirstFault>>
+fn read_in_lines(alloc: Global, limits: Limits, bytes: &[u8]) -> Result<Script, Refusal<FirstFault>>
     ensures answer { (m : Meanings) → AreMeanings m
         → Answers script_view fault_view result (read_in (limits_view limits) m bytes.now) }
     ensures within { IfOk result (λ script. IsWithin (limits_view limits) (script_view script)) }

@@ -61,7 +61,9 @@ impl Reading {
             mut lines,
             counts,
         } = self;
-        let counts = counts.with(alloc, &schema, &line).map_err(|refusal| refused_by(refusal))?;
+        let counts = counts
+            .with(alloc, &schema, &line)
+            .map_err(|refusal| refused_by(refusal))?;
         lines.push(line)?;
         Ok(Reading {
             limits,

@@ -1,16 +1,15 @@
-use Rattle.std.proofs.Common.{◌≡◌, Result, Ok, Err, sym, ◌∙◌, ap, subst}
+use Rattle.std.proofs.Common.{◌≡◌, Result, Ok, sym, ◌∙◌, ap, subst}
 use Rattle.std.proofs.lemmas.Result.{err_from_is_err_and}
 use Rattle.serde_json.specs.Data.{Data}
 use Rattle.serde_json.specs.View.{view}
 use Rattle.fc_spec.specs.ScriptFault as fault
-use Rattle.fc_spec.specs.Schema.{Schema}
 use Rattle.fc_spec.specs.Script.{Line}
 use Rattle.fc_spec.specs.ScriptReading.{value_on}
 use Rattle.fc_spec.specs.LineReading.{line_said}
 use Rattle.fc_spec.specs.Val.{Text}
 use Rattle.fc_spec.specs.Walks.{◌>>=◌, with_fault}
 use Rattle.fc_base.specs.Answers.{Answers}
-use Rattle.fc_run.specs.Refusals.{Refused, refused}
+use Rattle.fc_run.specs.Refusals.{refused}
 use Rattle.fc_run.specs.Requests.{Meaning}
 use Rattle.fc_run.specs.ReadSoFar.{ReadSoFar, asked_line, with_asked, with_text}
 use Rattle.fc_run.specs.ReadView.{reading_view}
@@ -31,7 +30,7 @@ returns-in_err-line-clause-answer c = λ means is.
     let json = defined view line_fault_view _ c.value_on.result c.map_err.result c.in_ok-json.json (value_on c.args.text.now) c.map_err.ensures.cases c.in_ok-json.was c.value_on.ensures in
     let said = defined said_view line_fault_view _ c.line_said.result c.map_err-2.result c.in_ok-said.said (line_said c.args.self.schema (view c.in_ok-json.json)) c.map_err-2.ensures.cases c.in_ok-said.was c.line_said.ensures.answer in
     rw (p.1, p.2) (step_fails line_view reading_view refused_view c.in_err-line.field-0.0 (asked_line means c.args.self.schema (said_view c.in_ok-said.said)) (with_asked (reading_view c.args.self)) _
-        (said_walk means (reading_view c.args.self) c.args.text.now (view c.in_ok-json.json) (said_view c.in_ok-said.said) json said) (c.in_err-line.ensures.answer means is))
+    (said_walk means (reading_view c.args.self) c.args.text.now (view c.in_ok-json.json) (said_view c.in_ok-said.said) json said) (c.in_err-line.ensures.answer means is))
 
 pub returns-clause-answer : goal.returns-clause-answer
 returns-clause-answer c = λ means is.
