@@ -1,5 +1,5 @@
 -- The documents of one block more: what is counted then.
-use Rattle.std.proofs.Common.{◌≡◌, ℕ, ◌+◌, List, [], ◌∷◌, ◌++◌, length, get_or, Bool, true, false, not, cond, ◌||◌, ◌&&◌, Some, None, is_some, Result, Ok, Err, refl, sym, ◌∙◌, ap, append-nil}
+use Rattle.std.proofs.Common.{◌≡◌, ℕ, ◌+◌, List, [], ◌∷◌, ◌++◌, length, get_or, Bool, true, false, not, ◌||◌, ◌&&◌, Some, None, is_some, Ok, Err, refl, sym, ◌∙◌, ap, append-nil}
 use Rattle.std.specs.Prelude.{nat_le, nat_abs}
 use Rattle.std.specs.List.{flat_map, list_all, list_any, range_with_len, sum_by}
 use Rattle.std.proofs.lemmas.List.Concat.{flat_map-append}
@@ -9,14 +9,14 @@ use Rattle.fc_spec.specs.Val.{Val, same_val, has_val}
 use Rattle.fc_spec.specs.Document.{Document, Block, values_of}
 use Rattle.fc_spec.specs.Columns.{longs_in}
 use Rattle.fc_spec.specs.Schema.{Schema}
-use Rattle.fc_spec.specs.ScriptFault.{duplicate_id, field_total, too_many_documents}
+use Rattle.fc_spec.specs.ScriptFault.{LineFault, field_total, too_many_documents}
 use Rattle.fc_spec.specs.ScriptReading.{check_documents}
 use Rattle.fc_spec.specs.ScriptTotals.{Limits, ids_in, has_repeat, absolute_total, total_limit, sums_fit, are_few}
 use Rattle.fc_spec.specs.Totals.{documents_of, documents_in}
-use Rattle.fc_run.specs.FirstScript.{not_built, Refused, ids_of, are_new}
-use Rattle.fc_run.specs.Gathered.{AreIdsOf, if_new, limits_after, limits_with}
-use Rattle.fc_run.proofs.Gathering.{within-append}
-use Rattle.fc_run.proofs.NewIds.{among, new_among}
+use Rattle.fc_run.specs.Ids.{ids_of, are_new, if_new, AreIdsOf}
+use Rattle.fc_run.specs.Left.{limits_after, limits_with}
+use Rattle.fc_run.proofs.LimitsLeft.{few-append}
+use Rattle.fc_run.proofs.NewIds.{among, by_test, new_among, not_by_test}
 
 -- ---- documents
 
@@ -57,20 +57,6 @@ has_repeat-append (x ∷ xs) ys once =
     ∙ behind (has_val x ys) (has_repeat ys) (list_any (λ w. has_val w xs) ys)
     ∙ ap (λ m. not (not (has_repeat ys) && not m)) (sym (among x xs ys))
 
-if_new_true : (known vs : List Val) → if_new known vs ≡ Ok tt → are_new known vs ≡ true
-if_new_true known vs is = go (are_new known vs) is
-  where
-    go : (b : Bool) → cond {A = Result (Unit {0}) Refused} b (Ok tt) (Err not_built) ≡ Ok tt → b ≡ true
-    go true is = refl
-    go false is = cc
-
-if_new_false : (known vs : List Val) (e : Refused) → if_new known vs ≡ Err e → are_new known vs ≡ false
-if_new_false known vs e is = go (are_new known vs) is
-  where
-    go : (b : Bool) → cond {A = Result (Unit {0}) Refused} b (Ok tt) (Err not_built) ≡ Err e → b ≡ false
-    go true is = cc
-    go false is = refl
-
 -- whether an id stands twice
 repeats : (ids : List Val) (blocks : List Block) (b : Block) → AreIdsOf ids blocks → has_repeat (ids_in (documents_in blocks)) ≡ false → has_repeat (ids_in (documents_in (blocks ++ b ∷ []))) ≡ not (are_new ids (ids_of b))
 repeats ids blocks b are once =
@@ -95,18 +81,20 @@ fits_are s sums blocks b count are =
 
 -- ---- the answers
 
-pub duplicate : (limits : Limits) (s : Schema) (ids : List Val) (blocks : List Block) (b : Block) (e : Refused) → AreIdsOf ids blocks → has_repeat (ids_in (documents_in blocks)) ≡ false → if_new ids (ids_of b) ≡ Err e
-    → check_documents limits s (documents_in (blocks ++ b ∷ [])) ≡ Err duplicate_id
-duplicate limits s ids blocks b e are once refused = rw (repeats ids blocks b are once, if_new_false ids (ids_of b) e refused) refl
+pub duplicate : (limits : Limits) (s : Schema) (ids : List Val) (blocks : List Block) (b : Block) (e : LineFault) → AreIdsOf ids blocks → has_repeat (ids_in (documents_in blocks)) ≡ false → if_new ids (ids_of b) ≡ Err e
+    → check_documents limits s (documents_in (blocks ++ b ∷ [])) ≡ Err e
+duplicate limits s ids blocks b e are once refused =
+    let parts = not_by_test (are_new ids (ids_of b)) e refused in
+    rw (repeats ids blocks b are once, parts.0) (ap (λ (f : LineFault). Err f) (sym parts.1))
 
 pub once_more : (ids : List Val) (blocks : List Block) (b : Block) → AreIdsOf ids blocks → has_repeat (ids_in (documents_in blocks)) ≡ false → if_new ids (ids_of b) ≡ Ok tt → has_repeat (ids_in (documents_in (blocks ++ b ∷ []))) ≡ false
-once_more ids blocks b are once new = repeats ids blocks b are once ∙ ap not (if_new_true ids (ids_of b) new)
+once_more ids blocks b are once new = repeats ids blocks b are once ∙ ap not (by_test (are_new ids (ids_of b)) new)
 
 pub too_much : (limits : Limits) (s : Schema) (ds : List Document) → has_repeat (ids_in ds) ≡ false → sums_fit s ds ≡ false → check_documents limits s ds ≡ Err field_total
 too_much limits s ds once fits = rw (once, fits) refl
 
 few_are : (limits left : Limits) (blocks : List Block) (b : Block) → limits ≡ limits_with left blocks → are_few limits (documents_in (blocks ++ b ∷ [])) ≡ is_some (limits_after left b)
-few_are limits left blocks b is = ap (λ ls. are_few ls (documents_in (blocks ++ b ∷ []))) is ∙ within-append left blocks b
+few_are limits left blocks b is = ap (λ ls. are_few ls (documents_in (blocks ++ b ∷ []))) is ∙ few-append left blocks b
 
 pub too_many : (limits left : Limits) (s : Schema) (blocks : List Block) (b : Block) → limits ≡ limits_with left blocks → has_repeat (ids_in (documents_in (blocks ++ b ∷ []))) ≡ false → sums_fit s (documents_in (blocks ++ b ∷ [])) ≡ true → limits_after left b ≡ None
     → check_documents limits s (documents_in (blocks ++ b ∷ [])) ≡ Err too_many_documents

@@ -9,8 +9,8 @@ use Rattle.fc_base.specs.declared.value.Val.{Val}
 use Rattle.fc_base.specs.declared.value.Val.TheVariants.{Text, Long}
 use Rattle.fc_base.specs.View.{val_view}
 use Rattle.fc_base.specs.ValOrder.{vals_equiv}
-use Rattle.fc_run.specs.FirstScript.{not_built, are_new}
-use Rattle.fc_run.specs.Gathered.{AreKnownToo, if_new}
+use Rattle.fc_spec.specs.ScriptFault.{duplicate_id}
+use Rattle.fc_run.specs.Ids.{are_new, if_new, AreKnownToo}
 
 -- what a set has is among the values of its keys
 pub has_val-keys : (q : Val) (ks : List Val) → list_any (is_at (on val_view val_cmp q)) ks ≡ has_val (val_view q) (map val_view ks)
@@ -45,8 +45,8 @@ one_new : (id : Val) (ks : List Val) (added : Bool) → added ≡ not (list_any 
 one_new id ks added is = ap not (or_false (has_val (val_view id) (map val_view ks)) ∙ sym (has_val-keys id ks)) ∙ sym is
 
 -- what an insert says of its key: whether it was new
-pub if_new-added : (key id : Val) (ks : List Val) (added : Bool) → key ≡ id → added ≡ not (list_any (is_at (on val_view val_cmp key)) ks) → if_new (map val_view ks) (val_view id ∷ []) ≡ cond added (Ok tt) (Err not_built)
-if_new-added key id ks added same is = ap (λ k. if_new (map val_view ks) (val_view k ∷ [])) (sym same) ∙ ap (λ t. cond t (Ok tt) (Err not_built)) (one_new key ks added is)
+pub if_new-added : (key id : Val) (ks : List Val) (added : Bool) → key ≡ id → added ≡ not (list_any (is_at (on val_view val_cmp key)) ks) → if_new (map val_view ks) (val_view id ∷ []) ≡ cond added (Ok tt) (Err duplicate_id)
+if_new-added key id ks added same is = ap (λ k. if_new (map val_view ks) (val_view k ∷ [])) (sym same) ∙ ap (λ t. cond t (Ok tt) (Err duplicate_id)) (one_new key ks added is)
 
 -- and that the key is known then
 pub known_too : (key id : Val) (old new : List Val) → key ≡ id → HasOneMore key old new → AreKnownToo (val_view id ∷ []) (map val_view old) (map val_view new)

@@ -1,5 +1,6 @@
 pub mod CutLines
 pub mod IdSets
+pub mod LimitsLeft
 pub mod FieldTexts
 pub mod LookedInto
 pub mod Meanings
@@ -26,3 +27,8 @@ pub mod CountedLines
 pub mod CountedDocuments
 pub mod SumsOfBlocks
 pub mod WithinLimits
+pub mod AskedCounts
+pub mod NotBuiltFaults
+pub mod LineOrder
+pub mod Outcomes
+pub mod PassedFaults

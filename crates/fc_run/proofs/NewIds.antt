@@ -10,10 +10,11 @@ use Rattle.fc_spec.specs.ScriptTotals.{has_repeat}
 use Rattle.fc_spec.specs.Document.{Block, values_of}
 use Rattle.fc_base.specs.declared.error.Refusal.{Refusal}
 use Rattle.fc_base.specs.declared.error.Refusal.TheVariants as refusal
-use Rattle.fc_run.specs.declared.fault.Fault.{Fault}
-use Rattle.fc_run.specs.View.{refused_view}
-use Rattle.fc_run.specs.FirstScript.{Refused, not_built, ids_of, are_new}
-use Rattle.fc_run.specs.Gathered.{AreIdsOf, AreKnownToo, if_new}
+use Rattle.fc_spec.specs.ScriptFault as fault
+use Rattle.fc_spec.specs.ScriptFault.{duplicate_id}
+use Rattle.fc_run.specs.ScriptView.{line_fault_view}
+use Rattle.fc_run.specs.Ids.{ids_of, are_new, if_new, AreIdsOf, AreKnownToo}
+use Rattle.fc_run.specs.declared.script.fault.LineFault.{LineFault}
 use Rattle.fc_run.proofs.IndexOrder.{same_val_equiv}
 
 -- ---- tests of lists
@@ -116,14 +117,14 @@ inserted_behind old now more xs ys first then = record {
 
 -- ---- what a call answers
 
-abbrev nothing_if : Bool → Result (Unit {0}) Refused
-nothing_if test = cond test (Ok tt) (Err not_built)
+abbrev nothing_if : Bool → Result (Unit {0}) fault.LineFault
+nothing_if test = cond test (Ok tt) (Err duplicate_id)
 
 pub by_test : (test : Bool) → nothing_if test ≡ Ok tt → test ≡ true
 by_test true e = refl
 by_test false e = cc
 
-pub not_by_test : (test : Bool) (e : Refused) → nothing_if test ≡ Err e → (test ≡ false) × (e ≡ not_built)
+pub not_by_test : (test : Bool) (e : fault.LineFault) → nothing_if test ≡ Err e → (test ≡ false) × (e ≡ duplicate_id)
 not_by_test true e is = cc
 not_by_test false e is = (refl, cc)
 
@@ -138,16 +139,16 @@ pub if_new_behind : (old now xs ys : List Val) → Inserted old now xs → if_ne
 if_new_behind old now xs ys first = ap nothing_if (new_behind old now xs ys first.too.members first.new)
 
 -- how a call fails: for want of memory, or by the fault that is defined
-abbrev pub Refuses : {V : Type 0} → Refusal Fault → Result V Refused → Type 0
+abbrev pub Refuses : {V : Type 0} → Refusal LineFault → Result V fault.LineFault → Type 0
 Refuses refusal.Memory defined = Unit {0}
-Refuses (refusal.Fault fault) defined = defined ≡ Err (refused_view fault)
+Refuses (refusal.Fault f) defined = defined ≡ Err (line_fault_view f)
 
 -- what is refused is refused with others behind it
-pub refused_front : (known xs ys : List Val) (e : Refusal Fault) → Refuses e (if_new known xs) → Refuses e (if_new known (xs ++ ys))
+pub refused_front : (known xs ys : List Val) (e : Refusal LineFault) → Refuses e (if_new known xs) → Refuses e (if_new known (xs ++ ys))
 refused_front known xs ys refusal.Memory is = tt
-refused_front known xs ys (refusal.Fault fault) is =
-    let parts = not_by_test (are_new known xs) (refused_view fault) is in
-    ap nothing_if (not_new_front known xs ys parts.0) ∙ ap (λ (r : Refused). Err r) (sym parts.1)
+refused_front known xs ys (refusal.Fault f) is =
+    let parts = not_by_test (are_new known xs) (line_fault_view f) is in
+    ap nothing_if (not_new_front known xs ys parts.0) ∙ ap (λ (r : fault.LineFault). Err r) (sym parts.1)
 
 -- ---- a loop over parts, each with some values
 module _ {X : Type 0} (values : X → List Val) (old now : List Val) (xs : List X) (i : ℕ) (so_far : Inserted old now (flat_map values (take i xs))) where
@@ -165,7 +166,7 @@ module _ {X : Type 0} (values : X → List Val) (old now : List Val) (xs : List 
         rw longer (inserted_behind old now more (flat_map values (take i xs)) (values x) so_far next)
 
     -- the next part's are refused, and so are all
-    pub refused_at : (e : Refusal Fault) → Refuses e (if_new now (values x)) → Refuses e (if_new old (flat_map values xs))
+    pub refused_at : (e : Refusal LineFault) → Refuses e (if_new now (values x)) → Refuses e (if_new old (flat_map values xs))
     refused_at e refuses = rw (all, if_new_behind old now (flat_map values (take i xs)) (values x ++ later) so_far) (refused_front now (values x) later e refuses)
       where
         later : List Val

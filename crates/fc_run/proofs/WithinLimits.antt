@@ -1,18 +1,17 @@
 -- A script that was read is within its limits.
-use Rattle.std.proofs.Common.{◌≡◌, ℕ, ◌+◌, ◌<◌, ◌≤◌, List, length, get_or, Bool, true, false, Ok, refl, sym, ◌∙◌, ap, arith}
+use Rattle.std.proofs.Common.{◌≡◌, ◌+◌, List, length, Bool, true, refl, ◌∙◌, ap, arith}
 use Rattle.std.specs.Prelude.{nat_le, ◌&&◌, count_by}
 use Rattle.std.specs.List.{filter_map}
 use Rattle.std.proofs.lemmas.Bool.Decides.{nat_tests}
-use Rattle.serde_json.specs.Data.{Data}
 use Rattle.fc_spec.specs.Document.{Block}
 use Rattle.fc_spec.specs.Schema.{Schema}
-use Rattle.fc_spec.specs.Script.{Line, commits_shard}
-use Rattle.fc_spec.specs.ScriptReading.{check_documents}
-use Rattle.fc_spec.specs.ScriptTotals.{Limits, added, documents_added, absolute_total, total_limit, sums_fit, are_few, few_commits, few_sessions, few_syncs}
+use Rattle.fc_spec.specs.Script.{commits_shard}
+use Rattle.fc_spec.specs.ScriptTotals.{Limits, added, documents_added, absolute_total, total_limit, sums_fit, are_few}
 use Rattle.fc_spec.specs.Totals.{documents_in, document_total, value_total}
 use Rattle.fc_spec.specs.ValidScripts.{IsWithin}
 use Rattle.fc_run.specs.Counts.{AreCounts}
-use Rattle.fc_run.specs.Gathered.{limits_with}
+use Rattle.fc_run.specs.Left.{limits_with}
+use Rattle.fc_run.specs.ReadSoFar.{AskedLine}
 use Rattle.fc_run.specs.declared.script.counts.Counts.{Counts}
 use Rattle.fc_run.proofs.InRange.{all_below}
 
@@ -22,7 +21,7 @@ few_of left blocks = both (nat_le (document_total blocks) (left.documents + docu
     both : (a b : Bool) → a ≡ true → b ≡ true → (a && b) ≡ true
     both a b a_is b_is = rw (a_is, b_is) refl
 
-pub is_within : (limits : Limits) (s : Schema) (lines : List (Line Data)) (c : Counts) → AreCounts limits s lines c → IsWithin limits (record { schema = s; lines = lines })
+pub is_within : (limits : Limits) (s : Schema) (lines : List AskedLine) (c : Counts) → AreCounts limits s lines c → IsWithin limits (record { schema = s; lines = lines })
 is_within limits s lines c are = record {
   blocks = are.valid;
   documents = rw (are.documents.once, fits, few) refl;

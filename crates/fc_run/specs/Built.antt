@@ -1,7 +1,6 @@
 -- What a run makes of the bytes of a script today: the script, or its first line that is at fault or not built.
 use Rattle.std.specs.Prelude.{ℕ, List, [], ◌∷◌, Bool, false, ◌==◌, is_err, nat_lt, Option, None, Some, Result, Ok, Err, if◌then◌else◌}
 use Rattle.serde_json.specs.Data.{Data}
-use Rattle.fc_spec.specs.Val.{Text}
 use Rattle.fc_spec.specs.Schema.{Schema}
 use Rattle.fc_spec.specs.Query.{all}
 use Rattle.fc_spec.specs.Request.{no_nodes, Request}

@@ -1,5 +1,7 @@
 -- What a script that is being read stands for.
-use Rattle.std.specs.Prelude.{map}
+use Rattle.std.specs.Prelude.{map, All}
+use Rattle.fc_run.specs.Counts.{IsLineOf}
+use Rattle.fc_run.specs.Fitting.{IsAskedOf}
 use Rattle.fc_run.specs.ReadSoFar.{ReadSoFar}
 use Rattle.fc_run.specs.ScriptView.{line_view}
 use Rattle.fc_run.specs.View.{limits_view}
@@ -7,3 +9,8 @@ use Rattle.fc_run.specs.declared.script.reading.Reading.{Reading}
 
 abbrev pub reading_view : Reading → ReadSoFar
 reading_view r = record { limits = limits_view r.limits; schema = r.schema; lines = map line_view r.lines.items }
+
+-- each of its lines is of its schema, and so is what each search asks
+pub record IsRead (r : Reading) : Type 0 where
+  pub valid : All (IsLineOf r.schema) (map line_view r.lines.items)
+  pub asked : All (IsAskedOf r.schema) r.lines.items

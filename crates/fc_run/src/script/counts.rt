@@ -8,8 +8,8 @@ ghost use Rattle.fc_run.specs.ReadSoFar.{AskedLine};
 ghost use Rattle.fc_run.specs.View.{limits_view};
 ghost use Rattle.fc_run.specs.ScriptView.{line_fault_view, line_view};
 
-use super::commits::add_commit;
 use super::asked::Line;
+use super::commits::add_commit;
 use super::documents::DocumentCounts;
 use super::fault::LineFault;
 use super::sessions::add_session;

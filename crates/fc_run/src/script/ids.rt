@@ -29,7 +29,11 @@ fn insert_id(alloc: Global, ids: &mut BTreeSet<Val>, id: &Val) -> Result<(), Ref
 }
 
 /// Makes each of the values known, none of which was known or stands there twice.
-fn insert_all(alloc: Global, ids: &mut BTreeSet<Val>, values: &[Val]) -> Result<(), Refusal<LineFault>>
+fn insert_all(
+    alloc: Global,
+    ids: &mut BTreeSet<Val>,
+    values: &[Val],
+) -> Result<(), Refusal<LineFault>>
     ensures new { Answers (λ done. tt) line_fault_view result
         (if_new (map val_view ids.old.keys) (map val_view values.now)) }
     ensures known { OnOk result

@@ -8,7 +8,7 @@ ghost use Rattle.fc_run.specs.Built.{outcome_within, AreMeanings, Meanings};
 ghost use Rattle.fc_run.specs.Counts.{IsLineOf};
 ghost use Rattle.fc_run.specs.Fitting.{IsAskedOf};
 ghost use Rattle.fc_run.specs.ReadSoFar.{at_line as at_line_defined, one_shard as of_one_shard, read_from, read_in, schema_read, with_rest};
-ghost use Rattle.fc_run.specs.ReadView.{reading_view};
+ghost use Rattle.fc_run.specs.ReadView.{reading_view, IsRead};
 ghost use Rattle.fc_run.specs.Requests.{IsMeaning, Meaning};
 ghost use Rattle.fc_run.specs.ScriptView.{line_fault_view, lines_left, script_view};
 ghost use Rattle.fc_run.specs.View.{fault_view, limits_view, refused_view};
@@ -87,6 +87,7 @@ fn read_rest(
     mut reading: Reading,
     mut lines: Lines<'_>,
 ) -> Result<Script, Refusal<FirstFault>>
+    requires { IsRead reading }
     ensures answer { (means : Meaning) → IsMeaning (reading_view reading).schema means
         → Answers script_view fault_view result (with_rest means (reading_view reading) (lines_left lines.entry)) }
     ensures within { IfOk result (λ script. IsWithin (reading_view reading).limits (script_view script)) }
@@ -124,11 +125,7 @@ fn read_lines(
 }
 
 // Line by line.
-fn read_in_lines(
-    alloc: Global,
-    limits: Limits,
-    bytes: &[u8],
-) -> Result<Script, Refusal<FirstFault>>
+fn read_in_lines(alloc: Global, limits: Limits, bytes: &[u8]) -> Result<Script, Refusal<FirstFault>>
     ensures answer { (m : Meanings) → AreMeanings m
         → Answers script_view fault_view result (read_in (limits_view limits) m bytes.now) }
     ensures within { IfOk result (λ script. IsWithin (limits_view limits) (script_view script)) }

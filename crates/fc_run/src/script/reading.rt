@@ -30,11 +30,12 @@ pub(crate) struct Reading {
 }
 
 impl Reading {
-    ghost use Rattle.fc_run.specs.ReadView.{reading_view};
+    ghost use Rattle.fc_run.specs.ReadView.{reading_view, IsRead};
 
     /// The schema alone.
     pub(crate) fn new(alloc: Global, limits: Limits, schema: Schema) -> Result<Reading, WantMemory>
-        ensures { IfOk result (λ r. reading_view r ≡ record { limits = limits_view limits; schema = schema; lines = [] }) }
+        ensures view { IfOk result (λ r. reading_view r ≡ record { limits = limits_view limits; schema = schema; lines = [] }) }
+        ensures read { IfOk result IsRead }
     {
         let counts = Counts::new(alloc, &schema, limits)?;
         Ok(Reading {
@@ -52,6 +53,7 @@ impl Reading {
         ensures answer { Answers reading_view refused_view result (with_asked (reading_view self) (line_view line)) }
         ensures limits { IfOk result (λ r. (reading_view r).limits ≡ (reading_view self).limits) }
         ensures schema { IfOk result (λ r. (reading_view r).schema ≡ (reading_view self).schema) }
+        ensures read { IsRead self → IfOk result IsRead }
     {
         let Reading {
             limits,
@@ -59,7 +61,9 @@ impl Reading {
             mut lines,
             counts,
         } = self;
-        let counts = counts.with(alloc, &schema, &line).map_err(|refusal| refused_by(refusal))?;
+        let counts = counts
+            .with(alloc, &schema, &line)
+            .map_err(|refusal| refused_by(refusal))?;
         lines.push(line)?;
         Ok(Reading {
             limits,
@@ -74,6 +78,7 @@ impl Reading {
             → Answers reading_view refused_view result (with_text_line means (reading_view self) text.now) }
         ensures limits { IfOk result (λ r. (reading_view r).limits ≡ (reading_view self).limits) }
         ensures schema { IfOk result (λ r. (reading_view r).schema ≡ (reading_view self).schema) }
+        ensures read { IsRead self → IfOk result IsRead }
     {
         let json = value_on(alloc, text).map_err(|refusal| refused_by(refusal))?;
         let said = line_said(alloc, &self.schema, &json).map_err(|refusal| refused_by(refusal))?;
@@ -92,6 +97,7 @@ impl Reading {
             → Answers reading_view fault_view result (with_numbered_line means (reading_view self) (number, text.now)) }
         ensures limits { IfOk result (λ r. (reading_view r).limits ≡ (reading_view self).limits) }
         ensures schema { IfOk result (λ r. (reading_view r).schema ≡ (reading_view self).schema) }
+        ensures read { IsRead self → IfOk result IsRead }
     {
         self.with_text(alloc, text)
             .map_err(|refusal| at_line(number, refusal))
@@ -99,6 +105,7 @@ impl Reading {
 
     /// The schema and the lines.
     pub(crate) fn into_parts(self) -> (Schema, Vec<Line>)
+        requires { IsRead self }
         ensures schema { result.0 ≡ (reading_view self).schema }
         ensures lines { map line_view result.1.items ≡ (reading_view self).lines }
         ensures within { IsWithin (reading_view self).limits (record { schema = result.0; lines = map line_view result.1.items }) }

@@ -1,4 +1,4 @@
-use Rattle.std.proofs.Common.{◌≡◌, ◌+◌, ◌<◌, ◌≤◌, ℕ, get_or, length, true, false, Result, Err, sym, ◌∙◌, ap, subst, arith}
+use Rattle.std.proofs.Common.{◌≡◌, ◌+◌, ◌<◌, ◌≤◌, ℕ, get_or, length, true, false, Result, Ok, Err, sym, ◌∙◌, ap, subst, arith}
 use Rattle.std.specs.Prelude.{nat_le, All}
 use Rattle.std.specs.List.{filter_map, list_all, range_with_len}
 use Rattle.std.proofs.lemmas.Bool.Decides.{nat_tests}
@@ -9,13 +9,13 @@ use Rattle.fc_base.specs.declared.error.Refusal.{Refusal}
 use Rattle.fc_base.specs.declared.error.Refusal.TheVariants as refusal
 use Rattle.fc_spec.specs.ScriptFault as fault
 use Rattle.fc_run.specs.ScriptView.{line_fault_view}
+use Rattle.fc_run.specs.View.{request_view}
 use Rattle.fc_run.specs.declared.script.counts.Counts.{Counts}
 use Rattle.fc_run.specs.declared.script.documents.DocumentCounts.{DocumentCounts}
 use Rattle.fc_run.specs.declared.script.fault.LineFault.{LineFault}
 use Rattle.fc_spec.specs.ScriptReading.{check_documents}
 use Rattle.fc_spec.specs.ScriptTotals.{added}
 use Rattle.fc_spec.specs.Totals.{documents_in}
-use Rattle.serde_json.specs.View.{view}
 use Rattle.fc_docs.specs.View.{block_view}
 use Rattle.fc_run.specs.Commits.{more_at}
 use Rattle.fc_run.proofs.CountedLines.{added-add, with_add, with_commit, with_sync, with_search, commit_fits, search_fits, sync_fits}
@@ -36,7 +36,7 @@ pub returns-in_ok-with-in-Add : goal.returns-in_ok-with-in-Add
 returns-in_ok-with-in-Add c = λ limits lines are.
     let kept = c.in_ok-with-in-Add.ensures limits (filter_map added lines) are.documents in
     let block = block_view c.in-Add.block in let shard = c.in-Add.field-0 in
-    rw c.in-Add.is (ap (λ bs. check_documents limits c.args.schema.now (documents_in bs)) (added-add lines shard block) ∙ kept.0, with_add limits c.args.schema.now lines c.args.self are shard block c.in_ok-with-in-Add.field-0 (rw c.in-Add.is at c.requires.valid) kept.1)
+    rw c.in-Add.is (ap (λ bs. check_documents limits c.args.schema.now (documents_in bs)) (added-add lines shard block) ∙ kept.0, with_add limits c.args.schema.now lines c.args.self are shard block c.in_ok-with-in-Add.field-0 (rw c.in-Add.is at c.requires.valid).1 kept.1)
 
 pub returns-then-not-add_commit : goal.returns-then-not-add_commit
 returns-then-not-add_commit c = λ limits lines are.
@@ -66,7 +66,7 @@ returns-else-syncs-ge-SYNC_LIMIT c = λ limits lines are.
 
 pub returns-then-not-branch : goal.returns-then-not-branch
 returns-then-not-branch c = λ limits lines are.
-    rw c.in-Search.is (search_fits limits c.args.schema.now lines c.args.self are c.in-Search.session (view c.in-Search.field-1) false (sym c.if-not-branch.true ∙ c.in_ok-add_session-in-Search.ensures.few), tt)
+    rw c.in-Search.is (search_fits limits c.args.schema.now lines c.args.self are c.in-Search.session (Ok (request_view c.in-Search.field-1)) false (sym c.if-not-branch.true ∙ c.in_ok-add_session-in-Search.ensures.few), tt)
 
 pub returns-else-not-branch : goal.returns-else-not-branch
 returns-else-not-branch c = λ limits lines are.
@@ -74,6 +74,6 @@ returns-else-not-branch c = λ limits lines are.
     let few = sym yes ∙ c.in_ok-add_session-in-Search.ensures.few in
     let now = c.in_ok-add_session-in-Search.ensures.sessions yes in
     rw c.in-Search.is (
-      search_fits limits c.args.schema.now lines c.args.self are c.in-Search.session (view c.in-Search.field-1) true few,
-      with_search limits c.args.schema.now lines c.args.self are c.in-Search.session (view c.in-Search.field-1) _ now (rw now (grind (arith, nat_tests))),
+      search_fits limits c.args.schema.now lines c.args.self are c.in-Search.session (Ok (request_view c.in-Search.field-1)) true few,
+      with_search limits c.args.schema.now lines c.args.self are c.in-Search.session (Ok (request_view c.in-Search.field-1)) _ now (rw now (grind (arith, nat_tests))),
     )
