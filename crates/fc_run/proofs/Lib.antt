@@ -24,3 +24,6 @@ pub mod CountedLines
 pub mod CountedDocuments
 pub mod SumsOfBlocks
 pub mod WithinLimits
+pub mod PickedValues
+pub mod SameCounts
+pub mod TermCounts
