@@ -27,3 +27,4 @@ pub mod WithinLimits
 pub mod PickedValues
 pub mod SameCounts
 pub mod TermCounts
+pub mod TermCopies

@@ -10,18 +10,16 @@ use Rattle.fc_run.specs.Tally.{Tally, number_at, with_more, Counts, HasRoom}
 use Rattle.fc_run.proofs.TallySteps.{count_by-copies}
 
 -- each value stands equally often in both lists
-pub AreAlike : List Val → List Val → Type 0
+abbrev pub AreAlike : List Val → List Val → Type 0
 AreAlike vs ws = (v : Val) → count_by (same_val v) vs ≡ count_by (same_val v) ws
 
 pub Counts-alike : (a b : Tally) (vs ws : List Val) → AreAlike vs ws → Counts a b vs → Counts a b ws
-unfolding AreAlike
 Counts-alike a b vs ws alike counts = record {
   numbers = λ v. counts.numbers v ∙ ap (with_more (number_at a v)) (alike v);
   ordered = counts.ordered;
 }
 
 pub HasRoom-alike : (a : Tally) (vs ws : List Val) → AreAlike vs ws → HasRoom a ws → HasRoom a vs
-unfolding AreAlike
 HasRoom-alike a vs ws alike room = record { within = λ v. omega (arith, alike v, room.within v) }
 
 -- a list of integers whose first n are one integer
@@ -33,5 +31,4 @@ run_and_rest z (suc n) (y ∷ zs) within same =
 
 -- the same values in another order
 pub permuted_alike : {X : Type 0} (f : X → Val) (xs ys : List X) → IsPermutation xs ys → AreAlike (map f ys) (map f xs)
-unfolding AreAlike
 permuted_alike f xs ys permutation v = sum_by-IsPermutation (λ w. cond (same_val v w) 1 0) (map f xs) (map f ys) (IsPermutation-map f xs ys permutation)

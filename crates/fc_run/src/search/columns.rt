@@ -1,5 +1,5 @@
 // How many documents of a segment have each value of a field.
-ghost use Rattle.std.specs.Prelude.{◌≡◌, ℕ, ℤ, ◌+◌, ◌==◌, ◌<◌, ◌≤◌, ◌^◌, length, map, replicate, slice_index, slice_index_or, count_by, All, IfOk, OnOk};
+ghost use Rattle.std.specs.Prelude.{◌≡◌, ℕ, ℤ, ◌+◌, ◌==◌, ◌<◌, ◌≤◌, ◌^◌, length, map, replicate, slice_index, slice_index_or, count_by, All, EachIndex, IfOk, OnOk};
 ghost use Rattle.fc_spec.specs.Val.{Text, text, long, same_text};
 ghost use Rattle.fc_segment.specs.Columns.{column_values};
 ghost use Rattle.fc_column.specs.Terms.{terms_of};
@@ -17,8 +17,8 @@ use std::alloc::Global;
 // Counts each of the ordinals once more.
 fn count_ordinals(counts: &mut [u64], ordinals: &[u32])
     requires within { All (λ ord. ord < length counts.old) ordinals.now }
-    requires room { (k : ℕ) → slice_index counts.old k + count_by (λ ord. ord == k) ordinals.now
-        < 2 ^ 64 }
+    requires room { EachIndex counts.old
+        (λ k. slice_index counts.old k + count_by (λ ord. ord == k) ordinals.now < 2 ^ 64) }
     ensures { (k : ℕ) → slice_index counts.new k
         ≡ slice_index counts.old k + count_by (λ ord. ord == k) ordinals.now }
 {
