@@ -32,3 +32,7 @@ pub mod NotBuiltFaults
 pub mod LineOrder
 pub mod Outcomes
 pub mod PassedFaults
+pub mod PickedValues
+pub mod SameCounts
+pub mod TermCounts
+pub mod TermCopies
