@@ -23,4 +23,5 @@ pub mod SessionOrder
 pub mod CountedLines
 pub mod CountedDocuments
 pub mod SumsOfBlocks
+pub mod RootDomain
 pub mod WithinLimits

@@ -1,4 +1,10 @@
 // How many documents of a segment have each value of a field.
+ghost use Rattle.std.specs.Prelude.{◌≡◌, length, All, OnOk};
+ghost use Rattle.std.specs.List.{flat_map, items_where_true};
+ghost use Rattle.fc_segment.specs.Columns.{column_values};
+ghost use Rattle.fc_run.specs.PlainReply.{AreDifferent};
+ghost use Rattle.fc_run.specs.Tally.{Counts, HasRoom};
+
 use super::tally::{Tally, count_term};
 use super::term::Term;
 use fc_base::WantMemory;
@@ -86,7 +92,12 @@ pub(crate) fn tally_column<'a>(
     column: &'a Column,
     docs: &DocSet,
     tally: &mut Tally<'a>,
-) -> Result<(), WantMemory> {
+) -> Result<(), WantMemory>
+    requires length { length docs.now ≡ length (column_values column.now) }
+    requires room { HasRoom tally.old (flat_map (λ vs. vs) (items_where_true docs.now (column_values column.now))) }
+    requires different { All AreDifferent (column_values column.now) }
+    ensures { OnOk result (Counts tally.old tally.new (flat_map (λ vs. vs) (items_where_true docs.now (column_values column.now)))) }
+{
     match column {
         Column::Text(column) => tally_texts(alloc, column, docs, tally),
         Column::Long(column) => tally_longs(alloc, column, docs, tally),
