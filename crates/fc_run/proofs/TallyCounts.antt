@@ -1,6 +1,5 @@
 -- A tally of the values of documents has their different values in index order, each with the number of documents that have it.
 use Rattle.std.specs.Prelude.{length, unwrap_or, ◌≡◌, ℕ, zero, suc, ◌+◌, ◌^◌, ◌<◌, ◌≤◌, List, [], ◌∷◌, ◌++◌, map, Bool, true, false, cond, ◌||◌, None, Some, count_by}
-use Rattle.std.specs.Borrow.{Bor}
 use Rattle.std.specs.List.{flat_map, list_any, AllByRecursion}
 use Rattle.std.specs.List.Sorted.{IsStrictlySortedBy}
 use Rattle.std.specs.Map.{lookup, keys_of}
@@ -15,13 +14,13 @@ use Rattle.fc_spec.specs.Val as definition
 use Rattle.fc_spec.specs.Val.{val_cmp, same_val, has_val, distinct}
 use Rattle.fc_spec.specs.Document.{Document, values_of}
 use Rattle.fc_spec.specs.Totals.{documents_of, documents_in}
-use Rattle.fc_base.specs.declared.value.Val.{Val}
-use Rattle.fc_base.specs.View.{val_view}
+use Rattle.fc_spec.proofs.ValOrder.{val_cmp_total, exact_val, same_val_exact}
 use Rattle.fc_docs.specs.declared.block.Block.{Block}
 use Rattle.fc_docs.specs.View.{block_view}
 use Rattle.fc_run.specs.PlainReply.{values_at, documents_with, value_counts, AreDifferent, HaveDifferentValues}
+use Rattle.fc_run.specs.declared.search.term.Term.{Term}
+use Rattle.fc_run.specs.Term.{term_view}
 use Rattle.fc_run.specs.Tally.{Tally, tally_view, key_cmp, with_more, Counts, HasRoom}
-use Rattle.fc_run.proofs.IndexOrder.{val_cmp_total, val_cmp_exact, same_val_exact}
 use Rattle.fc_run.proofs.SameEntries.{same_entries}
 use Rattle.fc_run.proofs.DistinctValues.{has_val-distinct, distinct_ascends}
 
@@ -73,7 +72,7 @@ count_by-values_at field (d ∷ ds) h v =
 pub HasRoom-start : (field : ℕ) (ds : List Document) → HaveDifferentValues field ds → length ds < 2 ^ 64 → (a : Tally) → a.entries ≡ [] → HasRoom a (values_at field ds)
 HasRoom-start field ds different few a empty = record {
   within = λ v.
-      let none = ap (λ es. unwrap_or (lookup (λ k. same_val v (val_view k.now)) es) 0) empty in
+      let none = ap (λ es. unwrap_or (lookup (λ k. same_val v (term_view k)) es) 0) empty in
       omega (arith, none, count_by-values_at field ds different v, count_by-le-length (λ d. has_val v (values_of d field)) ds);
 }
 
@@ -101,18 +100,18 @@ keys_of-numbered n [] = refl
 keys_of-numbered n (v ∷ vs) = ap (λ l. v ∷ l) (keys_of-numbered n vs)
 
 -- the entries of a tally, as they are seen
-abbrev viewed : List (Bor Val × ℕ) → List (definition.Val × ℕ)
-viewed es = map (λ e. (val_view e.0.now, e.1)) es
+abbrev viewed : List (Term × ℕ) → List (definition.Val × ℕ)
+viewed es = map (λ e. (term_view e.0, e.1)) es
 
-lookup-viewed : (v : definition.Val) (es : List (Bor Val × ℕ)) → lookup (same_val v) (viewed es) ≡ lookup (λ k. same_val v (val_view k.now)) es
+lookup-viewed : (v : definition.Val) (es : List (Term × ℕ)) → lookup (same_val v) (viewed es) ≡ lookup (λ k. same_val v (term_view k)) es
 lookup-viewed v [] = refl
-lookup-viewed v (e ∷ es) = ap (cond (same_val v (val_view e.0.now)) (Some e.1)) (lookup-viewed v es)
+lookup-viewed v (e ∷ es) = ap (cond (same_val v (term_view e.0)) (Some e.1)) (lookup-viewed v es)
 
-viewed_under : (k : Bor Val) (es : List (Bor Val × ℕ)) → AllByRecursion (λ j. key_cmp k j ≡ Less) (keys_of es) → AllByRecursion (λ v. val_cmp (val_view k.now) v ≡ Less) (keys_of (viewed es))
+viewed_under : (k : Term) (es : List (Term × ℕ)) → AllByRecursion (λ j. key_cmp k j ≡ Less) (keys_of es) → AllByRecursion (λ v. val_cmp (term_view k) v ≡ Less) (keys_of (viewed es))
 viewed_under k [] h = tt
 viewed_under k (e ∷ es) h = (h.0, viewed_under k es h.1)
 
-viewed_ascend : (es : List (Bor Val × ℕ)) → IsStrictlySortedBy key_cmp (keys_of es) → IsStrictlySortedBy val_cmp (keys_of (viewed es))
+viewed_ascend : (es : List (Term × ℕ)) → IsStrictlySortedBy key_cmp (keys_of es) → IsStrictlySortedBy val_cmp (keys_of (viewed es))
 unfolding IsStrictlySortedBy
 viewed_ascend [] h = tt
 viewed_ascend (e ∷ es) h = (viewed_under e.0 es h.0, viewed_ascend es h.1)
@@ -120,7 +119,7 @@ viewed_ascend (e ∷ es) h = (viewed_under e.0 es h.0, viewed_ascend es h.1)
 -- an empty tally in which the values of documents are counted
 pub tally_view-counted : (field : ℕ) (ds : List Document) → HaveDifferentValues field ds → (a t : Tally) → a.entries ≡ [] → IsOrdered key_cmp a → Counts a t (values_at field ds) → tally_view t ≡ value_counts field ds
 tally_view-counted field ds different a t empty order counts =
-    same_entries val_cmp_total val_cmp_exact (tally_view t) (value_counts field ds) (viewed_ascend t.entries (counts.ordered order))
+    same_entries val_cmp_total exact_val (tally_view t) (value_counts field ds) (viewed_ascend t.entries (counts.ordered order))
     (subst (IsStrictlySortedBy val_cmp) (sym (keys_of-numbered number (distinct all))) (distinct_ascends all)) same
   where
     all : List definition.Val
@@ -132,7 +131,7 @@ tally_view-counted field ds different a t empty order counts =
     same : (v : definition.Val) → lookup (same_val v) (tally_view t) ≡ lookup (same_val v) (value_counts field ds)
     same v =
         lookup-viewed v t.entries ∙ counts.numbers v
-        ∙ ap (λ es. with_more (lookup (λ k. same_val v (val_view k.now)) es) (count_by (same_val v) all)) empty
+        ∙ ap (λ es. with_more (lookup (λ k. same_val v (term_view k)) es) (count_by (same_val v) all)) empty
         ∙ counted (same_val v) all
         ∙ (λ i. cond (sym (has_val-distinct v all) i) (Some (count_by-values_at field ds different v i)) None)
         ∙ sym (lookup-numbered number v (distinct all))

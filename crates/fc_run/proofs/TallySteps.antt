@@ -1,46 +1,65 @@
 -- What one write to a tally does to the numbers of values.
-use Rattle.std.specs.Prelude.{◌≡◌, ℕ, zero, suc, ◌+◌, List, [], ◌∷◌, ◌++◌, ◌<◌, ◌≤◌, Bool, true, false, cond, Option, Some, unwrap_or, count_by, length, take, drop}
-use Rattle.std.specs.Borrow.{Bor}
+use Rattle.std.specs.Prelude.{◌≡◌, ℕ, zero, suc, ◌+◌, ◌*◌, ◌^◌, List, [], ◌∷◌, ◌++◌, ◌<◌, ◌≤◌, Bool, true, false, cond, Option, Some, unwrap_or, count_by, replicate, length, take, drop}
 use Rattle.std.specs.BTreeMap.{get, Updates, IsOrdered}
 use Rattle.std.specs.List.{flat_map}
 use Rattle.std.proofs.Common.{refl, sym, ◌∙◌, ap, subst, add-zero, zero-add, arith, get_or, drop-cons, append-nil}
 use Rattle.std.proofs.lemmas.List.{take_all, take_more, take-append-drop}
 use Rattle.std.proofs.lemmas.List.Concat.{flat_map-append}
+use Rattle.std.proofs.lemmas.List.Folds.{sum_by-replicate}
 use Rattle.std.proofs.lemmas.List.Sums.{sum_by-append}
 use Rattle.fc_spec.specs.Val as definition
 use Rattle.fc_spec.specs.Val.{val_cmp, same_val}
-use Rattle.fc_base.specs.declared.value.Val.{Val}
-use Rattle.fc_base.specs.View.{val_view}
 use Rattle.fc_spec.specs.Document.{Document, values_of}
 use Rattle.fc_run.specs.PlainReply.{values_at}
+use Rattle.fc_run.specs.declared.search.term.Term.{Term}
+use Rattle.fc_run.specs.Term.{term_view}
 use Rattle.fc_run.specs.Tally.{Tally, number_at, with_more, key_cmp, Counts, HasRoom}
-use Rattle.fc_run.proofs.IndexOrder.{value_of, val_view-value_of, same_val_equiv, same_val_exact}
+use Rattle.fc_spec.proofs.ValOrder.{same_val_itself, same_val_exact}
+use Rattle.fc_run.proofs.IndexOrder.{term_of, term_view-term_of, same_val_equiv}
 
--- one more at the key k, and every other key as it was: then its value is counted once
-Counts-from_get : (m n : Tally) (k : Bor Val) → IsOrdered key_cmp n
-    → ((q : Bor Val) → get key_cmp n q ≡ cond (same_val (val_view k.now) (val_view q.now)) (Some (unwrap_or (get key_cmp m k) 0 + 1)) (get key_cmp m q))
-    → Counts m n (val_view k.now ∷ [])
-Counts-from_get m n k order at_key = record { numbers = numbers; ordered = λ _. order }
+-- a value stands n times in its n copies, and no other value does
+pub count_by-copies : (v w : definition.Val) (n : ℕ) → count_by (same_val v) (replicate n w) ≡ cond (same_val v w) n 0
+count_by-copies v w n = sum_by-replicate (λ u. cond (same_val v u) 1 0) n w ∙ times (same_val v w)
   where
-    go : (v : definition.Val) (b : Bool) → same_val v (val_view k.now) ≡ b
-        → cond (same_val (val_view k.now) v) (Some (unwrap_or (number_at m (val_view k.now)) 0 + 1)) (number_at m v) ≡ with_more (number_at m v) (0 + cond b 1 0)
-    go v true e =
-        ap (λ b. cond b (Some (unwrap_or (number_at m (val_view k.now)) 0 + 1)) (number_at m v)) (same_val_equiv.symm (val_view k.now) v ∙ e)
-        ∙ ap (λ x. Some (unwrap_or (number_at m x) 0 + 1)) (sym (same_val_exact v (val_view k.now) e))
-    go v false e = ap (λ b. cond b (Some (unwrap_or (number_at m (val_view k.now)) 0 + 1)) (number_at m v)) (same_val_equiv.symm (val_view k.now) v ∙ e)
+    times : (b : Bool) → n * cond b 1 0 ≡ cond b n 0
+    times true = omega arith
+    times false = omega arith
 
-    numbers : (v : definition.Val) → number_at n v ≡ with_more (number_at m v) (0 + cond (same_val v (val_view k.now)) 1 0)
-    numbers v =
-        let at_value = at_key (record { ref_ptr = k.ref_ptr; now = value_of v }) in
-        ap (number_at n) (sym (val_view-value_of v)) ∙ at_value
-        ∙ (λ i. cond (same_val (val_view k.now) (val_view-value_of v i)) (Some (unwrap_or (number_at m (val_view k.now)) 0 + 1)) (number_at m (val_view-value_of v i)))
-        ∙ go v (same_val v (val_view k.now)) refl
+-- where there is room for the copies, the number stays in range with them
+pub HasRoom-copies : (a : Tally) (k : Term) (n : ℕ) → HasRoom a (replicate n (term_view k)) → unwrap_or (get key_cmp a k) 0 + n < 2 ^ 64
+HasRoom-copies a k n room =
+    let copies = count_by-copies (term_view k) (term_view k) n ∙ ap (λ b. cond b n 0) (same_val_itself (term_view k)) in
+    omega (arith, room.within (term_view k), copies)
 
--- what an entry for k writes, with one more than the tally has there
-pub Counts-from_written : (m n : Tally) (k : Bor Val) (written : ℕ → Tally) (c : ℕ) → ((w : ℕ) → Updates key_cmp m (written w) k (Some w)) → ((w : ℕ) → IsOrdered key_cmp (written w))
-    → n ≡ written (c + 1) → c ≡ unwrap_or (get key_cmp m k) 0 → Counts m n (val_view k.now ∷ [])
-Counts-from_written m n k written c writes orders is counted =
-    Counts-from_get m n k (subst (IsOrdered key_cmp) (sym is) (orders (c + 1))) (λ q. ap (λ t. get key_cmp t q) is ∙ (writes (c + 1)).0 q ∙ ap (λ d. cond (same_val (val_view k.now) (val_view q.now)) (Some (d + 1)) (get key_cmp m q)) counted)
+-- n more at the key k, and every other key as it was: then its value is counted n times
+module _ (a b : Tally) (k : Term) (n : ℕ) (some : 0 < n) where
+  abbrev more_here : Option ℕ
+  more_here = Some (unwrap_or (number_at a (term_view k)) 0 + n)
+
+  with_some : (o : Option ℕ) (m : ℕ) → 0 < m → Some (unwrap_or o 0 + m) ≡ with_more o m
+  with_some o zero h = absurd (omega arith)
+  with_some o (suc m) h = refl
+
+  Counts-from_get : IsOrdered key_cmp b → ((q : Term) → get key_cmp b q ≡ cond (same_val (term_view k) (term_view q)) more_here (get key_cmp a q)) → Counts a b (replicate n (term_view k))
+  Counts-from_get order at_key = record { numbers = numbers; ordered = λ _. order }
+    where
+      go : (v : definition.Val) (t : Bool) → same_val v (term_view k) ≡ t → cond (same_val (term_view k) v) more_here (number_at a v) ≡ with_more (number_at a v) (cond t n 0)
+      go v true e =
+          ap (λ t. cond t more_here (number_at a v)) (same_val_equiv.symm (term_view k) v ∙ e)
+          ∙ ap (λ x. Some (unwrap_or (number_at a x) 0 + n)) (sym (same_val_exact v (term_view k) e)) ∙ with_some (number_at a v) n some
+      go v false e = ap (λ t. cond t more_here (number_at a v)) (same_val_equiv.symm (term_view k) v ∙ e)
+
+      numbers : (v : definition.Val) → number_at b v ≡ with_more (number_at a v) (count_by (same_val v) (replicate n (term_view k)))
+      numbers v =
+          ap (number_at b) (sym (term_view-term_of v)) ∙ at_key (term_of v)
+          ∙ (λ i. cond (same_val (term_view k) (term_view-term_of v i)) more_here (number_at a (term_view-term_of v i)))
+          ∙ go v (same_val v (term_view k)) refl ∙ ap (with_more (number_at a v)) (sym (count_by-copies v (term_view k) n))
+
+  -- what an entry for k writes, with n more than the tally has there
+  pub Counts-from_written : (written : ℕ → Tally) (c : ℕ) → ((w : ℕ) → Updates key_cmp a (written w) k (Some w)) → ((w : ℕ) → IsOrdered key_cmp (written w))
+      → b ≡ written (c + n) → c ≡ unwrap_or (get key_cmp a k) 0 → Counts a b (replicate n (term_view k))
+  Counts-from_written written c writes orders is counted =
+      Counts-from_get (subst (IsOrdered key_cmp) (sym is) (orders (c + n))) (λ q. ap (λ t. get key_cmp t q) is ∙ (writes (c + n)).0 q ∙ ap (λ d. cond (same_val (term_view k) (term_view q)) (Some (d + n)) (get key_cmp a q)) counted)
 
 -- nothing is counted
 pub Counts-none : (t : Tally) → Counts t t []
