@@ -24,4 +24,5 @@ pub mod CountedLines
 pub mod CountedDocuments
 pub mod SumsOfBlocks
 pub mod RootDomain
+pub mod FoundValues
 pub mod WithinLimits
