@@ -25,4 +25,5 @@ pub mod CountedDocuments
 pub mod SumsOfBlocks
 pub mod RootDomain
 pub mod FoundValues
+pub mod FoundSegments
 pub mod WithinLimits
