@@ -1,8 +1,8 @@
 -- What a search finds in documents.
-use Rattle.std.specs.Prelude.{◌≡◌, ℕ, ◌+◌, List, [], length, Option, None, Some}
+use Rattle.std.specs.Prelude.{◌≡◌, ℕ, ◌+◌, List, [], length, Option, None, Some, ◌==◌, if◌then◌else◌}
 use Rattle.fc_spec.specs.Val.{Val}
 use Rattle.fc_spec.specs.Document.{Document}
-use Rattle.fc_spec.specs.Reply.{Facets, no_facets, many}
+use Rattle.fc_spec.specs.Reply.{Bucket, bucket, Facets, no_facets, many}
 use Rattle.fc_run.specs.PlainReply.{Facet, values_at, value_counts, counted_row}
 use Rattle.fc_run.specs.Tally.{Counts}
 use Rattle.fc_run.specs.declared.search.found.Found.{Found}
@@ -26,3 +26,7 @@ facets_with (Some f) counts = many f.0 (counted_row counts) no_facets
 pub record Finds (old new : Found) (facet : Option Facet) (documents : List Document) : Type 0 where
   pub count : new.count ≡ old.count + length documents
   pub tally : Counts old.tally new.tally (asked_values facet documents)
+
+-- the reply that a number of documents and those values make
+abbrev pub found_reply : ℕ → Option Facet → List (Val × ℕ) → Bucket
+found_reply count facet counts = bucket None count (if count == 0 then no_facets else facets_with facet counts)
