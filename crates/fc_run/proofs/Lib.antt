@@ -26,6 +26,9 @@ pub mod SessionOrder
 pub mod CountedLines
 pub mod CountedDocuments
 pub mod SumsOfBlocks
+pub mod RootDomain
+pub mod FoundValues
+pub mod FoundSegments
 pub mod WithinLimits
 pub mod AskedCounts
 pub mod NotBuiltFaults

@@ -1,5 +1,5 @@
 -- The JSON of a reply tree has no float.
-use Rattle.std.specs.Prelude.{◌≡◌, [], ◌∷◌, ℤ, pos, negsuc, None, Some, Option, false, codes}
+use Rattle.std.specs.Prelude.{◌≡◌, [], ◌∷◌, ℕ, ℤ, pos, negsuc, None, Some, Option, false, codes}
 use Rattle.std.specs.Ordering.{match_ordering}
 use Rattle.std.specs.Cmp.Lexicographic.{slice_cmp}
 use Rattle.std.specs.Ordering.{nat_cmp}
@@ -73,9 +73,9 @@ mutual
   has_float-put_row no_parts ms h = h
   has_float-put_row (part spot b row) ms h = has_float-put_row row (put_beside spot (bucket_data b) ms) (has_float-put_beside spot (bucket_data b) ms (has_float-bucket_data b) h)
 
--- what a reply line of one shard at its first generation says
-abbrev pub line_data : Data → Text → Data
-line_data facets session = object (put (codes "facets") facets (put (codes "generations") (array (numbers_data (1 ∷ []))) (put (codes "session") (string session) no_members)))
+-- what a reply line of one shard says
+abbrev pub line_data : Data → ℕ → Text → Data
+line_data facets generation session = object (put (codes "facets") facets (put (codes "generations") (array (numbers_data (generation ∷ []))) (put (codes "session") (string session) no_members)))
 
-pub has_float-line_data : (b : Bucket) (session : Text) → has_float (line_data (bucket_data b) session) ≡ false
-has_float-line_data b session = or_from (has_float (bucket_data b)) false (has_float-bucket_data b) refl
+pub has_float-line_data : (b : Bucket) (generation : ℕ) (session : Text) → has_float (line_data (bucket_data b) generation session) ≡ false
+has_float-line_data b generation session = or_from (has_float (bucket_data b)) false (has_float-bucket_data b) refl

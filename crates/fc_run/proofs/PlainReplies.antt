@@ -1,12 +1,14 @@
--- The distributed reply to the one request, over one shard, is made by counting documents.
-use Rattle.std.specs.Prelude.{◌≡◌, ℕ, List, [], ◌∷◌, length, map, cond, ◌==◌, None, Some}
+-- The distributed reply to a request that is built, over one shard, is made by counting documents.
+use Rattle.std.specs.Prelude.{◌≡◌, ℕ, List, [], ◌∷◌, length, map, Bool, true, false, cond, ◌==◌, None, Some}
+use Rattle.std.specs.List.{filter}
 use Rattle.std.proofs.Common.{refl, sym, ◌∙◌, ap}
 use Rattle.std.proofs.Math.Bool.{and-true}
 use Rattle.std.proofs.lemmas.List.{length-map}
 use Rattle.std.proofs.lemmas.List.Elements.{filter_agree}
 use Rattle.std.proofs.lemmas.List.Sums.{length-filter}
 use Rattle.fc_spec.specs.Val.{Text, Val, has_val, distinct}
-use Rattle.fc_spec.specs.Document.{values_of}
+use Rattle.fc_spec.specs.Document.{Block, values_of}
+use Rattle.fc_spec.specs.Base.{meets_base, root_domain}
 use Rattle.fc_spec.specs.World.{World, Place, places}
 use Rattle.fc_spec.specs.Request.{Terms, terms, Request}
 use Rattle.fc_spec.specs.Buckets.{Key, value, in_bucket, bucket_places}
@@ -17,9 +19,8 @@ use Rattle.fc_spec.specs.Values.{value_places, entries_in}
 use Rattle.fc_spec.specs.Printed.{terms_keys}
 use Rattle.fc_spec.specs.SortingLaw.{PagesAreCuts}
 use Rattle.fc_spec.specs.WithoutLimits.{IsExactWithoutLimits}
-use Rattle.fc_spec.specs.Totals.{documents_in}
-use Rattle.fc_run.specs.FirstRequest.{one_facet, plain_request}
-use Rattle.fc_run.specs.PlainReply.{documents_with, value_counts, counted_row, IsPlainOnOneShard}
+use Rattle.fc_run.specs.Requests.{one_facet}
+use Rattle.fc_run.specs.PlainReply.{built_request, root_documents, documents_with, value_counts, counted_row, counted_reply, IsPlainOnOneShard}
 use Rattle.fc_run.proofs.PlainPlaces.{documents_at, documents_at-places, flat_map-documents_at, documents_at-filter, filter_true}
 use Rattle.fc_run.proofs.PlainKeys.{every_value, terms_keys_are}
 
@@ -58,19 +59,32 @@ facets_are pages r W name field Q =
         ap (row_over Q) (terms_keys_are pages field Q) ∙ row_is field Q (distinct (pair_values field Q))
         ∙ ap (λ vs. counted_row (map (λ v. (v, documents_with field (documents_at Q) v)) (distinct vs))) (flat_map-documents_at (λ d. values_of d field) Q)
 
+-- the places of the root domain are those of its documents
+documents_at-root : (r : Request) (blocks : List Block) → documents_at (root_domain r (blocks ∷ [])) ≡ root_documents r blocks
+documents_at-root r blocks = documents_at-filter (meets_base r []) (places (blocks ∷ [])) ∙ ap (filter (meets_base r [])) (documents_at-places blocks)
+
+either_way : {X : Type 0} (b : Bool) (x : X) → x ≡ cond b x x
+either_way true x = refl
+either_way false x = refl
+
 pub plain_from_laws : IsExactWithoutLimits → PagesAreCuts → IsPlainOnOneShard
-plain_from_laws exact_is pages name field blocks =
+plain_from_laws exact_is pages q filters None blocks =
+    let r = built_request q filters None in
+    let Q : List Place = root_domain r (blocks ∷ []) in
+    exact_is r (blocks ∷ []) refl refl
+    ∙ ap (λ n. bucket None n no_facets) (sym (length-map Q (λ p. p.document)) ∙ ap length (documents_at-root r blocks))
+    ∙ ap (bucket None (length (root_documents r blocks))) (either_way (length (root_documents r blocks) == 0) no_facets)
+plain_from_laws exact_is pages q filters (Some f) blocks =
     exact_is r W refl refl
-    ∙ ap (λ Q. bucket None (length Q) (exact_facets r W (one_facet name field) Q)) (filter_true (places W))
-    ∙ ap (bucket None (length (places W))) (facets_are pages r W name field (places W))
-    ∙ ap (λ n. bucket None n (cond (n == 0) no_facets (many name (counted_row (value_counts field (documents_at (places W)))) no_facets))) total
-    ∙ ap (λ ds. bucket None (length (documents_in blocks)) (cond (length (documents_in blocks) == 0) no_facets (many name (counted_row (value_counts field ds)) no_facets))) (documents_at-places blocks)
+    ∙ ap (bucket None (length Q)) (facets_are pages r W f.0 f.1 Q)
+    ∙ ap (λ n. bucket None n (cond (n == 0) no_facets (many f.0 (counted_row (value_counts f.1 (documents_at Q))) no_facets))) (sym (length-map Q (λ p. p.document)))
+    ∙ ap (counted_reply (Some f)) (documents_at-root r blocks)
   where
     r : Request
-    r = plain_request name field
+    r = built_request q filters (Some f)
 
     W : World
     W = blocks ∷ []
 
-    total : length (places W) ≡ length (documents_in blocks)
-    total = sym (length-map (places W) (λ p. p.document)) ∙ ap length (documents_at-places blocks)
+    Q : List Place
+    Q = root_domain r W

@@ -16,4 +16,5 @@ pub mod Commits
 pub mod Looking
 pub mod Term
 pub mod Tally
+pub mod Found
 pub mod Outcome

@@ -9,10 +9,11 @@ ghost use Rattle.fc_spec.specs.Json.{natural_data, val_data, bucket_data, listed
 ghost use Rattle.fc_spec.specs.Lines.{numbers_data, reply_line};
 ghost use Rattle.fc_spec.specs.Distributed.{distributed};
 ghost use Rattle.fc_run.specs.Fitting.{AreDifferentIn, Fits};
+ghost use Rattle.fc_run.specs.Found.{found_reply};
 ghost use Rattle.fc_run.specs.PlainReply.{counted_row, IsPlainOnOneShard};
 ghost use Rattle.fc_run.specs.Tally.{tally_view};
 ghost use Rattle.fc_run.specs.Term.{term_view};
-ghost use Rattle.fc_run.specs.View.{request_view};
+ghost use Rattle.fc_run.specs.View.{facet_view, request_view};
 
 use super::found::find;
 use super::tally::Tally;
@@ -34,7 +35,7 @@ fn plain_replies()
 }
 
 fn term_json(alloc: Global, term: Term<'_>) -> Result<Value, WantMemory>
-    ensures { IfOk result (λ json. view json ≡ val_data (term_view term)) }
+    ensures { IfOk result (λ json. view json ≡ val_data (term_view term.entry)) }
 {
     match term {
         Term::Text(name) => Ok(Value::try_from_str(alloc, name.text())?),
@@ -78,7 +79,10 @@ fn reply_json(
     count: u64,
     facet: &Option<Facet>,
     tally: &Tally<'_>,
-) -> Result<Value, WantMemory> {
+) -> Result<Value, WantMemory>
+    ensures { IfOk result (λ json. view json
+        ≡ bucket_data (found_reply count (option_map facet_view facet.now) (tally_view tally.now))) }
+{
     match facet {
         Some(facet) if count > 0 => {
             let buckets = buckets_json(alloc, tally)?;

@@ -5,13 +5,13 @@ use Rattle.serde_json.proofs.Views.{view-Array}
 use Rattle.fc_run.proofs.ReplyJson.{entry_data, push_bucket, listed_items-counted_row}
 use Rattle.fc_run.proofs.search.reply.buckets_json.Goals as goal
 
-pub loop-value-init : goal.loop-value-init
-loop-value-init c = rw (c.new-buckets.ensures.items, c.into_iter-value-iterator.ensures.into_iter_gives.0)
+pub loop-term-init : goal.loop-term-init
+loop-term-init c = rw (c.new-buckets.ensures.items, c.into_iter-term-iterator.ensures.into_iter_gives.0)
 
-pub loop-value-preserved : goal.loop-value-preserved
-loop-value-preserved c = rw c.in_ok-push.ensures.items (push_bucket _ _ _ _ _ _ c.loop-value.invariant c.in-Some.ensures.steps c.in_ok-bucket_json.ensures)
+pub loop-term-preserved : goal.loop-term-preserved
+loop-term-preserved c = rw c.in_ok-push.ensures.items (push_bucket _ _ _ _ _ _ c.loop-term.invariant c.in-Some.ensures.steps c.in_ok-bucket_json.ensures)
 
 pub returns : goal.returns
 returns c =
-    let all = ap (λ left. map view c.loop-value.buckets.items ++ map entry_data left) (sym c.in-None.ensures.steps.0) ∙ c.loop-value.invariant in
-    view-Array c.loop-value.buckets ∙ ap (λ ds. array (items_of ds)) (sym (append-nil (map view c.loop-value.buckets.items)) ∙ all) ∙ ap array (sym (listed_items-counted_row c.args.tally.now.entries))
+    let all = ap (λ left. map view c.loop-term.buckets.items ++ map entry_data left) (sym c.in-None.ensures.steps.0) ∙ c.loop-term.invariant in
+    view-Array c.loop-term.buckets ∙ ap (λ ds. array (items_of ds)) (sym (append-nil (map view c.loop-term.buckets.items)) ∙ all) ∙ ap array (sym (listed_items-counted_row c.args.tally.now.entries))

@@ -1,0 +1,10 @@
+use Rattle.std.proofs.Common.{take, drop, map, option_map}
+use Rattle.fc_spec.specs.Lists.{joined}
+use Rattle.fc_run.specs.View.{facet_view, request_view}
+use Rattle.fc_run.proofs.FoundSegments.{IsSearched}
+use Rattle.fc_run.proofs.search.found.find.Given as goal
+
+abbrev pub invariant-loop-segment : goal.invariant-loop-segment
+invariant-loop-segment l =
+    IsSearched (request_view l.request) (option_map facet_view l.request.facet) l.initial.found l.found
+    (joined (map (λ segment. segment.blocks) (take l.segment-index l.segments))) (joined (map (λ segment. segment.blocks) (drop l.segment-index l.segments)))
