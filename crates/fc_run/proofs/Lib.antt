@@ -4,6 +4,7 @@ pub mod FieldTexts
 pub mod NewIds
 pub mod DistinctValues
 pub mod GoodBlocks
+pub mod IndexPremises
 pub mod IndexOrder
 pub mod NoFloats
 pub mod PlainKeys
@@ -14,7 +15,10 @@ pub mod SameEntries
 pub mod TallyCounts
 pub mod TallySteps
 pub mod NumberedLines
-pub mod FirstOutput
+pub mod BatchesSoFar
+pub mod LegalNumbers
+pub mod ScriptOrder
+pub mod RunningText
 pub mod Printed
 pub mod Leaving
 pub mod ScriptMembers

@@ -17,3 +17,4 @@ pub mod Looking
 pub mod Term
 pub mod Tally
 pub mod Outcome
+pub mod Running

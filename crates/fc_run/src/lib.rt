@@ -8,6 +8,7 @@ mod lines;
 mod looking;
 mod refusal;
 mod request;
+mod running;
 mod script;
 mod search;
 mod shard;
