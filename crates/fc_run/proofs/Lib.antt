@@ -20,6 +20,7 @@ pub mod LegalNumbers
 pub mod ScriptOrder
 pub mod RunningText
 pub mod Printed
+pub mod QueryMeanings
 pub mod Leaving
 pub mod ScriptMembers
 pub mod InRange

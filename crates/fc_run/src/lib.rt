@@ -6,6 +6,7 @@ mod fault;
 mod limits;
 mod lines;
 mod looking;
+mod outcome;
 mod refusal;
 mod request;
 mod running;
@@ -16,5 +17,6 @@ mod status;
 mod text_line;
 mod top;
 
+pub use outcome::scripts_have_one_outcome;
 pub use status::Status;
 pub use top::run;

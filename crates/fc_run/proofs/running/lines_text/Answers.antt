@@ -16,7 +16,7 @@ run-requires-clause-index c =
 
 pub loop-line-preserved : goal.loop-line-preserved
 loop-line-preserved c =
-    let rest : c.loop-line.line-iterator.rest.items ≡ c.in-Some.line ∷ c.next.new.self.rest.items = c.in-Some.ensures.steps in
+    let rest : c.loop-line.line-iterator.rest.items ≡ c.in-Some.line ∷ c.next.new.self.rest.items = c.in-Some.ensures.steps.0 in
     let before = shard_view c.loop-line.running.shard in
     let after = shard_view c.in_ok-running.running.shard in
     let l = line_view c.in-Some.line in
