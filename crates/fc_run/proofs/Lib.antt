@@ -7,6 +7,7 @@ pub mod Meanings
 pub mod NewIds
 pub mod DistinctValues
 pub mod GoodBlocks
+pub mod IndexPremises
 pub mod IndexOrder
 pub mod NoFloats
 pub mod PlainKeys
@@ -17,8 +18,12 @@ pub mod SameEntries
 pub mod TallyCounts
 pub mod TallySteps
 pub mod NumberedLines
-pub mod FirstOutput
+pub mod BatchesSoFar
+pub mod LegalNumbers
+pub mod ScriptOrder
+pub mod RunningText
 pub mod Printed
+pub mod QueryMeanings
 pub mod Leaving
 pub mod ScriptMembers
 pub mod InRange

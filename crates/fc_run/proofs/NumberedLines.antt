@@ -1,5 +1,5 @@
 -- What depends on the number of earlier lines that pass a test is told line by line.
-use Rattle.std.proofs.Common.{◌≡◌, ℕ, ◌+◌, List, [], ◌∷◌, ◌++◌, length, take, Bool, true, false, cond, count_by, Option, refl, sym, ◌∙◌, ap, arith, append_assoc, length-append}
+use Rattle.std.proofs.Common.{◌≡◌, ℕ, ◌+◌, ◌≤◌, List, [], ◌∷◌, ◌++◌, length, take, Bool, true, false, cond, count_by, Option, None, Some, refl, sym, ◌∙◌, ap, arith, append_assoc, length-append}
 use Rattle.std.specs.List.{filter_map, cons_option, enumerate_from}
 use Rattle.std.proofs.lemmas.List.Sums.{sum_by_push, sum_by-cons}
 use Rattle.fc_spec.specs.Script.{Line, earlier}
@@ -19,6 +19,13 @@ abbrev pub walk_count : {A : Type 0} → (ℕ → Line A → Bool) → (Line A �
 walk_count p test c [] = 0
 walk_count p test c (x ∷ xs) = counted (p c x) (walk_count p test (counted (test x) c) xs)
 
+-- how many pass behind all of them
+abbrev pub walked : {A : Type 0} → (Line A → Bool) → ℕ → List (Line A) → ℕ
+walked test c [] = c
+walked test c (x ∷ xs) = walked test (counted (test x) c) xs
+
+-- ---- numbers of earlier lines
+
 take_front : {X : Type 0} (xs ys : List X) → take (length xs) (xs ++ ys) ≡ xs
 take_front [] ys = refl
 take_front (x ∷ xs) ys = ap (λ zs. x ∷ zs) (take_front xs ys)
@@ -34,11 +41,34 @@ first_counted : (b : Bool) (n : ℕ) → cond b 1 0 + n ≡ counted b n
 first_counted true n = omega arith
 first_counted false n = omega arith
 
-one_more : {A : Type 0} (test : Line A → Bool) (front : List (Line A)) (x : Line A) → count_by test (front ++ x ∷ []) ≡ counted (test x) (count_by test front)
+pub count_first : {A : Type 0} (test : Line A → Bool) (x : Line A) (xs : List (Line A)) → count_by test (x ∷ xs) ≡ counted (test x) (count_by test xs)
+count_first test x xs = sum_by-cons (λ y. cond (test y) 1 0) x xs ∙ first_counted (test x) (count_by test xs)
+
+pub one_more : {A : Type 0} (test : Line A → Bool) (front : List (Line A)) (x : Line A) → count_by test (front ++ x ∷ []) ≡ counted (test x) (count_by test front)
 one_more test front x = sum_by_push (λ y. cond (test y) 1 0) front x ∙ last_counted (test x) (count_by test front)
 
+counted_sum : (b : Bool) (c n : ℕ) → counted b c + n ≡ c + counted b n
+counted_sum true c n = omega arith
+counted_sum false c n = omega arith
+
+walked_is : {A : Type 0} (test : Line A → Bool) (c : ℕ) (xs : List (Line A)) → walked test c xs ≡ c + count_by test xs
+walked_is test c [] = omega arith
+walked_is test c (x ∷ xs) = walked_is test (counted (test x) c) xs ∙ counted_sum (test x) c (count_by test xs) ∙ ap (λ n. c + n) (sym (count_first test x xs))
+
+pub walked_all : {A : Type 0} (test : Line A → Bool) (xs : List (Line A)) → walked test 0 xs ≡ count_by test xs
+walked_all test xs = let is = walked_is test 0 xs in omega arith
+
+pub counted_more : (b : Bool) (c : ℕ) → c ≤ counted b c
+counted_more true c = omega arith
+counted_more false c = omega arith
+
+pub walked_more : {A : Type 0} (test : Line A → Bool) (c : ℕ) (xs : List (Line A)) → c ≤ walked test c xs
+walked_more test c xs = let is = walked_is test c xs in omega arith
+
+-- ---- line by line
+
 -- the front with one line more
-moved : {A : Type 0} (front : List (Line A)) (x : Line A) (xs : List (Line A)) → (front ++ x ∷ []) ++ xs ≡ front ++ x ∷ xs
+pub moved : {A : Type 0} (front : List (Line A)) (x : Line A) (xs : List (Line A)) → (front ++ x ∷ []) ++ xs ≡ front ++ x ∷ xs
 moved front x xs = append_assoc front (x ∷ []) xs
 
 length_moved : {A : Type 0} (front : List (Line A)) (x : Line A) → length (front ++ x ∷ []) ≡ length front + 1
@@ -60,3 +90,23 @@ count_by_numbered p test front (x ∷ xs) =
     ∙ count_by_numbered p test (front ++ x ∷ []) xs ∙ ap (λ c. walk_count p test c xs) (one_more test front x) in
     sum_by-cons (λ n. cond (p (earlier test (front ++ x ∷ xs) n.0) n.1) 1 0) (length front, x) (enumerate_from (length front + 1) xs)
     ∙ (λ i. cond (p (earlier_here test front (x ∷ xs) i) x) 1 0 + rest i) ∙ first_counted (p (count_by test front) x) _
+
+-- ---- two lists of lines
+
+cons_append : {X : Type 0} (o : Option X) (xs ys : List X) → cons_option o (xs ++ ys) ≡ cons_option o xs ++ ys
+cons_append None xs ys = refl
+cons_append (Some x) xs ys = refl
+
+pub walk-append : {A X : Type 0} (h : ℕ → Line A → Option X) (test : Line A → Bool) (c : ℕ) (xs ys : List (Line A)) → walk h test c (xs ++ ys) ≡ walk h test c xs ++ walk h test (walked test c xs) ys
+walk-append h test c [] ys = refl
+walk-append h test c (x ∷ xs) ys =
+    ap (cons_option (h c x)) (walk-append h test (counted (test x) c) xs ys) ∙ cons_append (h c x) (walk h test (counted (test x) c) xs) (walk h test (walked test c (x ∷ xs)) ys)
+
+counted_before : (b : Bool) (m n : ℕ) → counted b (m + n) ≡ counted b m + n
+counted_before true m n = omega arith
+counted_before false m n = refl
+
+pub walk_count-append : {A : Type 0} (p : ℕ → Line A → Bool) (test : Line A → Bool) (c : ℕ) (xs ys : List (Line A)) → walk_count p test c (xs ++ ys) ≡ walk_count p test c xs + walk_count p test (walked test c xs) ys
+walk_count-append p test c [] ys = omega arith
+walk_count-append p test c (x ∷ xs) ys =
+    ap (counted (p c x)) (walk_count-append p test (counted (test x) c) xs ys) ∙ counted_before (p c x) (walk_count p test (counted (test x) c) xs) (walk_count p test (walked test c (x ∷ xs)) ys)

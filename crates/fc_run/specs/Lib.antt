@@ -18,3 +18,4 @@ pub mod Term
 pub mod Tally
 pub mod Found
 pub mod Outcome
+pub mod Running

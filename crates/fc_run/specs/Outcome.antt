@@ -48,6 +48,10 @@ Leaves Write spelled t = IsFront spelled t
 abbrev pub HasOutcome : List ℕ → (Result AskedScript FirstFault → Type 0) → Type 0
 HasOutcome bytes P = (m : Meanings) × AreMeanings m × P (outcome m bytes)
 
+-- the bytes have one outcome, whatever meanings of query texts it is made by
+abbrev pub HasOneOutcome : Type 0
+HasOneOutcome = (bytes : List ℕ) → (spelled : Result AskedScript FirstFault) × HasOutcome bytes (λ found. found ≡ spelled) × ((m : Meanings) → AreMeanings m → outcome m bytes ≡ spelled)
+
 -- with Done, P holds of the script
 abbrev pub OnDone : Status → Result AskedScript FirstFault → (AskedScript → Type 0) → Type 0
 OnDone Done (Ok S) P = P S

@@ -11,9 +11,8 @@ ghost use Rattle.fc_run.specs.ScriptView.{script_view};
 use crate::fault::{Fault, FirstFault};
 use crate::limits::SCRIPT_LIMITS;
 use crate::refusal::refused_line;
-use crate::script::{Line, Script, read_script};
-use crate::search::reply_line;
-use crate::shard::Shard;
+use crate::running::lines_text;
+use crate::script::{Script, read_script};
 use fc_base::{Refusal, WantMemory};
 use fc_spec::{refined_paths_are_exact, without_limits};
 use std::alloc::Global;
@@ -25,7 +24,7 @@ pub(crate) enum Answer {
     Fault(Vec<u8>),
 }
 
-// The lines of the searches, in script order. Each search sees every commit before it.
+// The lines of the searches, in script order.
 fn reply_lines(alloc: Global, script: Script) -> Result<Vec<u8>, WantMemory>
     requires one { script.schema.shards ≡ 1 }
     requires within { IsWithin script_limits (script_view script) }
@@ -36,20 +35,7 @@ fn reply_lines(alloc: Global, script: Script) -> Result<Vec<u8>, WantMemory>
     without_limits();
     refined_paths_are_exact();
     let Script { schema, lines } = script;
-    let mut shard = Shard::new(alloc);
-    let mut text = Vec::new(alloc);
-    for line in lines {
-        match line {
-            Line::Add(_, block) => shard = shard.add(block)?,
-            Line::Commit(_) => shard = shard.commit(alloc, &schema)?,
-            Line::Sync => {}
-            Line::Search(session, request) => {
-                let line = reply_line(alloc, &shard.segments, &request, &session)?;
-                text.extend_from_slice(&line)?;
-            }
-        }
-    }
-    Ok(text)
+    lines_text(alloc, &schema, lines)
 }
 
 /// The answer to a script of more bytes than it may have.

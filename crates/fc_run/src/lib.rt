@@ -6,8 +6,10 @@ mod fault;
 mod limits;
 mod lines;
 mod looking;
+mod outcome;
 mod refusal;
 mod request;
+mod running;
 mod script;
 mod search;
 mod shard;
@@ -15,5 +17,6 @@ mod status;
 mod text_line;
 mod top;
 
+pub use outcome::scripts_have_one_outcome;
 pub use status::Status;
 pub use top::run;

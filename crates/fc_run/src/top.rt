@@ -12,6 +12,7 @@ use crate::limits::SCRIPT_LIMIT;
 use crate::status::Status;
 use fc_base::WantMemory;
 use fc_io::{AllRead, Sink, Source, WriteEnd, read_all, write_all};
+use fc_spec::query_texts_have_one_meaning;
 use std::alloc::Global;
 
 /// Writes the answer, where there is one.
@@ -70,6 +71,7 @@ pub fn run<S: Source, K: Sink>(
         × Appends (K.written sink.old) (K.written sink.new) t
         × HasOutcome bytes (λ spelled. OnDone result spelled (λ S. IsCountedOutput S t))) }
 {
+    query_texts_have_one_meaning();
     if words.len() != 1 {
         return Status::Usage;
     }

@@ -1,0 +1,132 @@
+// Running the lines of a script.
+ghost use Rattle.std.specs.Prelude.{◌≡◌, ◌≤◌, [], ◌++◌, map, All, IfOk};
+ghost use Rattle.std.specs.List.{filter_map};
+ghost use Rattle.fc_spec.specs.Distributed.{distributed};
+ghost use Rattle.fc_spec.specs.Lists.{joined};
+ghost use Rattle.fc_spec.specs.ScriptTotals.{added};
+ghost use Rattle.fc_spec.specs.Totals.{document_total};
+ghost use Rattle.fc_spec.specs.ValidBlocks.{IsBlockOf};
+ghost use Rattle.fc_docs.specs.View.{block_view};
+ghost use Rattle.fc_run.specs.Fitting.{AreDifferentIn, Fits, IsAskedOf};
+ghost use Rattle.fc_run.specs.Running.{indexed_after, line_text, lines_text, nothing, search_text, shard_view, with_block, with_commit, HasKinds, IsIndexOf};
+ghost use Rattle.fc_run.specs.ScriptView.{line_view};
+ghost use Rattle.fc_run.specs.View.{request_view};
+
+use crate::request::Request;
+use crate::script::Line;
+use crate::search::reply_line;
+use crate::shard::Shard;
+use fc_base::{Name, Schema, WantMemory};
+use fc_docs::Block;
+use std::alloc::Global;
+
+// The one shard of a script, and what its searches have written, as far as the lines were run.
+#[derive(Drop)]
+struct Running {
+    shard: Shard,
+    text: Vec<u8>,
+}
+
+impl Running {
+    // Before the first line.
+    fn new(alloc: Global) -> Running
+        ensures shard { shard_view result.shard ≡ nothing }
+        ensures segments { result.shard.segments.items ≡ [] }
+        ensures text { result.text.items ≡ [] }
+    {
+        Running {
+            shard: Shard::new(alloc),
+            text: Vec::new(alloc),
+        }
+    }
+
+    fn add(self, block: Block) -> Result<Running, WantMemory>
+        ensures shard { IfOk result (λ running. shard_view running.shard
+            ≡ with_block (shard_view self.shard) (block_view block)) }
+        ensures segments { IfOk result (λ running. running.shard.segments.items
+            ≡ self.shard.segments.items) }
+        ensures text { IfOk result (λ running. running.text.items ≡ self.text.items) }
+    {
+        let Running { shard, text } = self;
+        Ok(Running {
+            shard: shard.add(block)?,
+            text,
+        })
+    }
+
+    fn commit(self, alloc: Global, schema: &Schema) -> Result<Running, WantMemory>
+        requires { IsIndexOf schema.now self.shard }
+        ensures shard { IfOk result (λ running. shard_view running.shard
+            ≡ with_commit (shard_view self.shard)) }
+        ensures kinds { IfOk result (λ running. HasKinds schema.now running.shard) }
+        ensures text { IfOk result (λ running. running.text.items ≡ self.text.items) }
+    {
+        let Running { shard, text } = self;
+        Ok(Running {
+            shard: shard.commit(alloc, schema)?,
+            text,
+        })
+    }
+
+    // Writes the line of a search over every commit so far.
+    fn search(
+        self,
+        alloc: Global,
+        session: &Name,
+        request: &Request,
+    ) -> Result<Running, WantMemory>
+        requires fits { All (λ segment. Fits segment.texts request.now) self.shard.segments.items }
+        requires different { AreDifferentIn (joined (shard_view self.shard).committed) }
+        requires few { document_total (joined (shard_view self.shard).committed) ≤ 1_048_576 }
+        ensures shard { IfOk result (λ running. running.shard ≡ self.shard) }
+        ensures text { IfOk result (λ running. running.text.items
+            ≡ self.text.items ++ search_text distributed (shard_view self.shard) session.now (request_view request.now)) }
+    {
+        let Running { shard, mut text } = self;
+        let line = reply_line(alloc, &shard.segments, request, session)?;
+        text.extend_from_slice(&line)?;
+        Ok(Running { shard, text })
+    }
+
+    // Behind one more line.
+    fn run(
+        self,
+        alloc: Global,
+        schema: &Schema,
+        line: Line,
+    ) -> Result<Running, WantMemory>
+        requires index { IsIndexOf schema.now self.shard }
+        requires asked { IsAskedOf schema.now line }
+        ensures shard { IfOk result (λ running. shard_view running.shard
+            ≡ indexed_after (shard_view self.shard) (line_view line)) }
+        ensures kinds { IfOk result (λ running. HasKinds schema.now running.shard) }
+        ensures text { IfOk result (λ running. running.text.items
+            ≡ self.text.items ++ line_text distributed (shard_view self.shard) (line_view line)) }
+    {
+        match line {
+            Line::Add(_, block) => self.add(block),
+            Line::Commit(_) => self.commit(alloc, schema),
+            Line::Sync => Ok(self),
+            Line::Search(session, request) => self.search(alloc, &session, &request),
+        }
+    }
+}
+
+/// What the searches among the lines write, in their order.
+pub(crate) fn lines_text(
+    alloc: Global,
+    schema: &Schema,
+    lines: Vec<Line>,
+) -> Result<Vec<u8>, WantMemory>
+    requires valid { All (IsBlockOf schema.now) (filter_map added (map line_view lines.items)) }
+    requires few { document_total (filter_map added (map line_view lines.items)) ≤ 1_048_576 }
+    requires asked { All (IsAskedOf schema.now) lines.items }
+    ensures { IfOk result (λ text. text.items
+        ≡ lines_text distributed nothing (map line_view lines.items)) }
+{
+    let mut running = Running::new(alloc);
+    for line in lines {
+        running = running.run(alloc, schema, line)?;
+    }
+    Ok(running.text)
+}
