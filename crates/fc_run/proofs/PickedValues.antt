@@ -1,10 +1,11 @@
 -- The values of the positions in a set, from the positions one after another.
-use Rattle.std.specs.Prelude.{◌≡◌, ℕ, zero, suc, ◌+◌, ◌<◌, List, [], ◌∷◌, ◌++◌, length, map, Bool, true, false, All}
-use Rattle.std.specs.List.{flat_map, items_where_true}
-use Rattle.std.proofs.Common.{◌⊎◌, inl, inr, refl, sym, ap, ap₂, ◌∙◌, arith, get_or}
+use Rattle.std.specs.Prelude.{◌≡◌, ℕ, suc, ◌+◌, ◌<◌, List, [], ◌∷◌, ◌++◌, length, map, Bool, true, false, All}
+use Rattle.std.specs.List.{flat_map, items_where_true, list_any}
+use Rattle.std.proofs.Common.{inl, inr, refl, sym, ap, ap₂, ◌∙◌, arith, get_or}
+use Rattle.std.proofs.lemmas.Bool.{or_cases, or_left, or_right}
 use Rattle.std.proofs.lemmas.List.{map-append}
 use Rattle.std.proofs.lemmas.List.Elements.{All-cons}
-use Rattle.fc_spec.proofs.Members.{Member}
+use Rattle.std.proofs.lemmas.List.Folds.{list_any-append}
 use Rattle.fc_docset.specs.Positions.{positions_from}
 use Rattle.fc_run.specs.Tally.{picked_values}
 
@@ -45,28 +46,16 @@ picked_values-map f (true ∷ set) (values ∷ column) =
     ap (λ l. map f values ++ l) (picked_values-map f set column) ∙ sym (map-append f values (picked_values set column))
 picked_values-map f (false ∷ set) (values ∷ column) = picked_values-map f set column
 
--- members of joined lists
-member_left : {X : Type 0} (x : X) (xs ys : List X) → Member x xs → Member x (xs ++ ys)
-member_left x [] ys m = absurd m
-member_left x (z ∷ xs) ys (inl is) = inl is
-member_left x (z ∷ xs) ys (inr m) = inr (member_left x xs ys m)
-
-member_right : {X : Type 0} (x : X) (xs ys : List X) → Member x ys → Member x (xs ++ ys)
-member_right x [] ys m = m
-member_right x (z ∷ xs) ys m = inr (member_right x xs ys m)
-
-member_cases : {X : Type 0} (x : X) (xs ys : List X) → Member x (xs ++ ys) → Member x xs ⊎ Member x ys
-member_cases x [] ys m = inr m
-member_cases x (z ∷ xs) ys (inl is) = inl (inl is)
-member_cases x (z ∷ xs) ys (inr m) = elim (member_cases x xs ys m) [ inl a ↦ inl (inr a) | inr b ↦ inr b ]
-
--- a picked value is a value of the column
-pub picked_member : {X : Type 0} (x : X) (set : List Bool) (column : List (List X)) → Member x (picked_values set column) → Member x (flat_map (λ values. values) column)
-picked_member x [] column m = absurd m
-picked_member x (b ∷ set) [] m = absurd m
-picked_member x (true ∷ set) (values ∷ column) m =
-    elim (member_cases x values (picked_values set column) m)
-    [ inl here ↦ member_left x values (flat_map (λ values. values) column) here
-    | inr behind ↦ member_right x values (flat_map (λ values. values) column) (picked_member x set column behind)
+-- what is found among picked values is found in the column
+pub picked_found : {X : Type 0} (p : X → Bool) (set : List Bool) (column : List (List X)) → list_any p (picked_values set column) ≡ true → list_any p (flat_map (λ values. values) column) ≡ true
+picked_found p [] column found = cc
+picked_found p (b ∷ set) [] found = cc
+picked_found p (true ∷ set) (values ∷ column) found =
+    list_any-append p values (flat_map (λ values. values) column)
+    ∙ elim (or_cases (list_any p values) (list_any p (picked_values set column)) (sym (list_any-append p values (picked_values set column)) ∙ found)) [
+      | inl here ↦ or_left (list_any p values) (list_any p (flat_map (λ values. values) column)) here
+      | inr behind ↦ or_right (list_any p values) (list_any p (flat_map (λ values. values) column)) (picked_found p set column behind)
     ]
-picked_member x (false ∷ set) (values ∷ column) m = member_right x values (flat_map (λ values. values) column) (picked_member x set column m)
+picked_found p (false ∷ set) (values ∷ column) found =
+    list_any-append p values (flat_map (λ values. values) column)
+    ∙ or_right (list_any p values) (list_any p (flat_map (λ values. values) column)) (picked_found p set column found)

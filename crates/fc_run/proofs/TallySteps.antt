@@ -9,8 +9,6 @@ use Rattle.std.proofs.lemmas.List.Folds.{sum_by-replicate}
 use Rattle.std.proofs.lemmas.List.Sums.{sum_by-append}
 use Rattle.fc_spec.specs.Val as definition
 use Rattle.fc_spec.specs.Val.{val_cmp, same_val}
-use Rattle.fc_spec.specs.Document.{Document, values_of}
-use Rattle.fc_run.specs.PlainReply.{values_at}
 use Rattle.fc_run.specs.declared.search.term.Term.{Term}
 use Rattle.fc_run.specs.Term.{term_view}
 use Rattle.fc_run.specs.Tally.{Tally, number_at, with_more, key_cmp, Counts, HasRoom}
@@ -123,7 +121,3 @@ module _ {X : Type 0} (values : X → List definition.Val) (a b : Tally) (xs : L
         ap (flat_map values) (sym (take-append-drop i xs)) ∙ flat_map-append values (take i xs) (drop i xs)
         ∙ ap (λ l. flat_map values (take i xs) ++ flat_map values l) (drop-cons xs i x in_list) ∙ ap (λ y. flat_map values (take i xs) ++ (values y ++ later)) (sym is) in
         HasRoom-front b (values x) later (HasRoom-rest a b (flat_map values (take i xs)) (values x ++ later) (rw split at room) so_far)
-
--- the values of documents and of one behind them
-pub values_at-push : (field : ℕ) (ds : List Document) (d : Document) → values_at field (ds ++ d ∷ []) ≡ values_at field ds ++ values_of d field
-values_at-push field ds d = flat_map-append (λ e. values_of e field) ds (d ∷ []) ∙ ap (λ l. values_at field ds ++ l) (append-nil (values_of d field))

@@ -1,8 +1,8 @@
 -- Each term as often as it stands among texts: the list of all these has each value as often as the texts.
-use Rattle.std.specs.Prelude.{◌≡◌, ℕ, ℤ, suc, ◌+◌, ◌<◌, List, [], ◌∷◌, ◌++◌, length, map, Bool, true, false, cond, ◌||◌, replicate, count_by, All}
-use Rattle.std.specs.List.{flat_map, list_any}
+use Rattle.std.specs.Prelude.{◌≡◌, ℕ, ℤ, suc, ◌+◌, ◌<◌, List, [], ◌∷◌, length, map, Bool, true, false, cond, ◌||◌, replicate, count_by}
+use Rattle.std.specs.List.{flat_map}
 use Rattle.std.specs.Ordering.{is_eq}
-use Rattle.std.proofs.Common.{refl, sym, ap, ap₂, ◌∙◌, arith, get_or}
+use Rattle.std.proofs.Common.{refl, sym, ap, ◌∙◌, arith, get_or}
 use Rattle.std.proofs.lemmas.List.{get_or-map}
 use Rattle.std.proofs.lemmas.List.Folds.{list_any_none}
 use Rattle.std.proofs.lemmas.List.Sums.{sum_by-append}
@@ -11,10 +11,10 @@ use Rattle.fc_spec.specs.Columns.{IsAscending}
 use Rattle.fc_spec.proofs.MappedLists.{count_by-map}
 use Rattle.fc_spec.proofs.Counting.{count_by-none}
 use Rattle.fc_column.specs.Terms.{has_text}
+use Rattle.fc_domain.proofs.TextOrder.{same_is_equal}
 use Rattle.fc_run.proofs.TallySteps.{count_by-copies}
 use Rattle.fc_run.proofs.TallyCounts.{list_any-false}
 use Rattle.fc_run.proofs.SameCounts.{AreAlike}
-use Rattle.fc_run.proofs.TermCounts.{same_text_exact}
 
 -- the term as often as it stands among the texts
 abbrev pub copies_in : List Text → Text → List Val
@@ -52,7 +52,7 @@ module _ (ts : List Text) where
       go : (b : Bool) → same_text u term ≡ b → count_by (same_val (text u)) (flat_map (copies_in ts) terms) ≡ cond (has_text u terms) (count_by (same_text u) ts) 0
           → cond (same_text u term) (count_by (same_text term) ts) 0 + count_by (same_val (text u)) (flat_map (copies_in ts) terms) ≡ cond (same_text u term || has_text u terms) (count_by (same_text u) ts) 0
       go true e behind =
-          let is = same_text_exact u term e in
+          let is = same_is_equal u term e in
           let none = ap (λ t. has_text t terms) is ∙ not_behind term terms sorted in
           let number = ap {B = ℕ} (λ b. cond b (count_by (same_text term) ts) 0) e in
           let others = ap {B = ℕ} (λ b. cond b (count_by (same_text u) ts) 0) none in

@@ -28,17 +28,13 @@ fn count_ordinals(counts: &mut [u64], ordinals: &[u32])
 }
 
 // For each term, by its ordinal, how many of the documents have it.
-fn ordinal_counts(
-    alloc: Global,
-    column: &TextColumn,
-    docs: &DocSet,
-) -> Result<Vec<u64>, WantMemory>
+fn ordinal_counts(alloc: Global, column: &TextColumn, docs: &DocSet) -> Result<Vec<u64>, WantMemory>
     requires length { length docs.now ≡ length column.now }
     requires room { (t : Text) → count_by (same_text t) (picked_values docs.now column.now)
         < 2 ^ 64 }
     ensures { IfOk result (λ counts. counts.items
         ≡ map (λ term. count_by (same_text term) (picked_values docs.now column.now))
-            (terms_of column.now)) }
+        (terms_of column.now)) }
 {
     let mut counts = vec![in alloc; 0u64; column.terms() as usize]?;
     for doc in docs.iter() {
@@ -48,11 +44,7 @@ fn ordinal_counts(
 }
 
 // Counts a value so many times more, or leaves the tally where that is never.
-fn count_if_any<'a>(
-    tally: &mut Tally<'a>,
-    term: Term<'a>,
-    count: u64,
-) -> Result<(), WantMemory>
+fn count_if_any<'a>(tally: &mut Tally<'a>, term: Term<'a>, count: u64) -> Result<(), WantMemory>
     requires { HasRoom tally.old (replicate count (term_view term)) }
     ensures { OnOk result (Counts tally.old tally.new (replicate count (term_view term.entry))) }
 {

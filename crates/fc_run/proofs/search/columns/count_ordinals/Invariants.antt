@@ -1,4 +1,4 @@
-use Rattle.std.proofs.Common.{◌≡◌, ℕ, ◌+◌, ◌==◌, length, get_or, take, count_by}
+use Rattle.std.proofs.Common.{◌≡◌, ℕ, ◌+◌, ◌==◌, get_or, take, count_by}
 use Rattle.fc_run.proofs.search.columns.count_ordinals.Given as goal
 
 abbrev pub invariant-loop-ord : goal.invariant-loop-ord

@@ -1,13 +1,13 @@
-use Rattle.std.proofs.Common.{◌≡◌, ℕ, ◌+◌, ◌==◌, ◌<◌, ◌++◌, ◌∙◌, [], cond, map, replicate, length, take, drop, get_or, count_by, ap, sym, refl, zero-add, arith, rules}
+use Rattle.std.proofs.Common.{◌≡◌, ℕ, ◌==◌, ◌<◌, ◌++◌, ◌∙◌, [], cond, map, replicate, length, take, drop, get_or, count_by, ap, sym, arith, rules}
 use Rattle.std.proofs.lemmas.List.{take_all, take-append-le, get_or-replicate, get_or_default, get_or-map, length-map, length-replicate, same_lists}
 use Rattle.std.proofs.lemmas.List.Elements.{All-tail}
 use Rattle.std.proofs.lemmas.List.Sums.{sum_by-append}
-use Rattle.std.specs.List.{flat_map, items_where_true}
+use Rattle.std.specs.List.{flat_map}
 use Rattle.fc_spec.specs.Val.{Text, same_text}
-use Rattle.fc_column.specs.Terms.{terms_of, terms_below, ordinals_in}
+use Rattle.fc_column.specs.Terms.{terms_of, ordinals_in}
 use Rattle.fc_run.specs.Tally.{picked_values}
-use Rattle.fc_run.proofs.PickedValues.{positions_below, flat_map-positions, flat_map-of_map}
-use Rattle.fc_run.proofs.TermCounts.{ordinal_counted}
+use Rattle.fc_run.proofs.PickedValues.{positions_below}
+use Rattle.fc_run.proofs.TermCounts.{positions_counted}
 use Rattle.fc_run.proofs.search.columns.ordinal_counts.Goals as goal
 
 pub loop-doc-init : goal.loop-doc-init
@@ -17,16 +17,13 @@ loop-doc-init c =
     let row = λ (doc : ℕ). ordinals_in column (get_or column doc []) in
     let all = c.into_iter-doc-iterator.ensures.into_iter_gives ∙ c.iter-doc-items.ensures in
     let zeros : c.in_ok-counts.counts.items ≡ replicate (length (terms_of column)) 0 = search rules in
-    let ordinals =
-        ap (flat_map row) all
-        ∙ flat_map-positions row (ordinals_in column) 0 docs column c.requires.length (λ k h. ap row (zero-add k))
-        ∙ flat_map-of_map (terms_below column) (items_where_true docs column) in
     record {
       size = ap length zeros ∙ length-replicate (length (terms_of column)) 0;
       within = rw all (λ k d inside. let below = positions_below 0 docs k d inside in omega arith);
       counts = λ k below.
           let none = ap (λ l. get_or l k 0) zeros ∙ get_or-replicate (length (terms_of column)) k 0 0 below in
-          omega (arith, none, ap (count_by (λ ord. ord == k)) ordinals, ordinal_counted docs column k below);
+          let left = ap (λ l. count_by (λ ord. ord == k) (flat_map row l)) all in
+          omega (arith, none, left, positions_counted docs column k c.requires.length below);
     }
 
 pub count_ordinals-requires-clause-room : goal.count_ordinals-requires-clause-room
@@ -67,7 +64,7 @@ returns c =
     let row = λ (doc : ℕ). ordinals_in column (get_or column doc []) in
     same_lists c.loop-doc.counts.items (map number terms) (c.loop-doc.invariant.size ∙ sym (length-map terms number))
     (λ k d below.
-      let within : k < length terms = let size = c.loop-doc.invariant.size in omega arith in
-      let none = ap (λ l. count_by (λ ord. ord == k) (flat_map row l)) c.in-None.ensures.steps.0 in
-      let counted = c.loop-doc.invariant.counts k within in
-      get_or_default c.loop-doc.counts.items k d 0 below ∙ omega arith ∙ sym (get_or-map number terms k [] d within))
+    let within : k < length terms = let size = c.loop-doc.invariant.size in omega arith in
+    let none = ap (λ l. count_by (λ ord. ord == k) (flat_map row l)) c.in-None.ensures.steps.0 in
+    let counted = c.loop-doc.invariant.counts k within in
+    get_or_default c.loop-doc.counts.items k d 0 below ∙ omega arith ∙ sym (get_or-map number terms k [] d within))

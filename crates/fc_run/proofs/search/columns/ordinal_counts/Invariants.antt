@@ -11,5 +11,5 @@ invariant-loop-doc l = record {
   within : All (λ doc. doc < length l.column) l.doc-iterator;
   counts : (k : ℕ) → k < length (terms_of l.column)
       → get_or l.counts.items k 0 + count_by (λ ord. ord == k) (flat_map (λ doc. ordinals_in l.column (get_or l.column doc [])) l.doc-iterator)
-          ≡ count_by (same_text (get_or (terms_of l.column) k [])) (picked_values l.docs l.column);
+      ≡ count_by (same_text (get_or (terms_of l.column) k [])) (picked_values l.docs l.column);
 }

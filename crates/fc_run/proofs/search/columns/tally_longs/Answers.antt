@@ -1,7 +1,6 @@
-use Rattle.std.proofs.Common.{map, subst, ap, sym, ◌∙◌}
+use Rattle.std.proofs.Common.{map}
 use Rattle.std.proofs.lemmas.Result.{on_ok_weaker}
 use Rattle.fc_spec.specs.Val.{long}
-use Rattle.fc_run.specs.Tally.{HasRoom, picked_values}
 use Rattle.fc_run.proofs.SameCounts.{permuted_alike, HasRoom-alike, Counts-alike}
 use Rattle.fc_run.proofs.search.columns.tally_longs.Goals as goal
 
