@@ -1,38 +1,53 @@
 -- What a run leaves, from the answer to its script and from how writing it ended.
-use Rattle.std.proofs.Common.{◌≡◌, ℕ, ◌<◌, nat_lt, true, cond, List, [], ◌++◌, length, Option, None, Some, Ok, Err, Result, IfOk, IfSome, inl, inr, subst, refl, sym, ◌∙◌, ap, arith, append-nil, length-append}
-use Rattle.std.proofs.lemmas.Bool.{lt-ltb}
+use Rattle.std.proofs.Common.{◌≡◌, ℕ, ◌<◌, nat_lt, List, [], ◌++◌, length, Bool, true, false, Option, None, Some, Ok, Err, Result, IfOk, IfSome, inl, inr, subst, refl, sym, ◌∙◌, ap, arith, append-nil, length-append}
+use Rattle.std.specs.Prelude.{nat_le}
+use Rattle.std.proofs.lemmas.Bool.{lt-leb, le-ltb}
 use Rattle.std.specs.Io.KnownBytes.{Appends}
+use Rattle.serde_json.specs.Data.{Data}
 use Rattle.fc_spec.specs.Val.{Text}
+use Rattle.fc_spec.specs.Outputs.{IsOutputBy}
+use Rattle.fc_spec.specs.QueryReadingLaw.{HasOneReading}
+use Rattle.fc_spec.specs.Script as script
+use Rattle.fc_spec.specs.ScriptFault.{ScriptFault, too_long}
+use Rattle.fc_spec.specs.ScriptReading.{numbered_lines, script_limit, script_of, script_of_lines}
+use Rattle.fc_spec.specs.ScriptTotals.{script_limits}
+use Rattle.fc_spec.specs.Walks.{◌>>=◌, unless}
 use Rattle.fc_base.specs.declared.error.WantMemory.{WantMemory}
 use Rattle.fc_io.specs.AllRead.{TakesSome}
 use Rattle.fc_io.specs.WriteEnd.{AppendsFront}
-use Rattle.fc_run.specs.FirstScript.{FirstFault}
-use Rattle.fc_spec.specs.ScriptTotals.{script_limits}
-use Rattle.fc_spec.specs.ScriptReading.{script_limit}
-use Rattle.fc_run.specs.FirstLines.{FirstScript, first_script, lines_from}
-use Rattle.fc_spec.specs.ScriptLines.{lines_of}
-use Rattle.fc_run.specs.Outcome.{IsWhole, Leaves, IsAnswer, Ends, too_many}
+use Rattle.fc_run.specs.Refusals.{FirstFault}
+use Rattle.fc_run.specs.Built.{AreMeanings, AskedScript, Meanings, judged, outcome, unbuilt_in}
+use Rattle.fc_run.specs.Outcome.{by_single_index, Ends, HasOutcome, IsAnswer, IsCountedOutput, IsWhole, Leaves, OnDone, too_many}
 use Rattle.fc_run.specs.declared.answer.Answer.{Answer}
 use Rattle.fc_run.specs.declared.answer.Answer.TheVariants.{Lines, Fault}
 use Rattle.fc_run.specs.declared.status.Status.{Status}
 use Rattle.fc_run.specs.declared.status.Status.TheVariants.{Done, Usage, Script, Read, Memory, Write}
+use Rattle.fc_run.proofs.QueryMeanings.{meanings, meanings_are}
 
--- behind what was written before stands what the status leaves
-abbrev pub Left : Status → Result FirstScript FirstFault → Option (List ℕ) → Option (List ℕ) → Type 0
-Left status spelled old new = (t : Text) × Appends old new t × Leaves status spelled t
+-- ---- by what the bytes spell
 
-pub appends_nothing : (old new : Option (List ℕ)) → new ≡ old → Appends old new []
+-- all that is promised of the text that is left
+record IsLeft (status : Status) (spelled : Result AskedScript FirstFault) (t : Text) : Type 0 where
+  pub leaves : Leaves status spelled t
+  pub single_index : OnDone status spelled (λ S. IsOutputBy by_single_index S t)
+  pub counts : OnDone status spelled (λ S. IsCountedOutput S t)
+
+abbrev Left : Status → Result AskedScript FirstFault → Option (List ℕ) → Option (List ℕ) → Type 0
+Left status spelled old new = (t : Text) × Appends old new t × IsLeft status spelled t
+
+appends_nothing : (old new : Option (List ℕ)) → new ≡ old → Appends old new []
 appends_nothing None new same = tt
 appends_nothing (Some xs) new same = subst (λ o. Appends (Some xs) o []) (sym same) (sym (append-nil xs))
 
 -- a text that is whole, written in part
-front : (spelled : Result FirstScript FirstFault) (whole : Text) (old new : Option (List ℕ)) → IsWhole spelled whole → AppendsFront old new whole → Left Write spelled old new
-front spelled whole old new is (rest, (part, appended, split), more) = (part, appended, inr (rest, subst (λ t. IsWhole spelled t) (sym split) is))
+front : (spelled : Result AskedScript FirstFault) (whole : Text) (old new : Option (List ℕ)) → IsWhole spelled whole → AppendsFront old new whole → Left Write spelled old new
+front spelled whole old new is (rest, (part, appended, split), more) =
+    (part, appended, record { leaves = inr (rest, subst (λ t. IsWhole spelled t) (sym split) is); single_index = tt; counts = tt })
 
-pub left_by : (status : Status) (answer : Result Answer WantMemory) (spelled : Result FirstScript FirstFault) (old new : Option (List ℕ)) → IfOk answer (IsAnswer spelled) → Ends status answer old new → Left status spelled old new
-left_by Memory (Err e) spelled old new is ends = ([], appends_nothing old new ends, inl refl)
-left_by Done (Ok (Lines text)) (Ok S) old new is ends = (text.items, ends, is.output)
-left_by Script (Ok (Fault text)) (Err f) old new is ends = (text.items, ends, is)
+left_by : (status : Status) (answer : Result Answer WantMemory) (spelled : Result AskedScript FirstFault) (old new : Option (List ℕ)) → IfOk answer (IsAnswer spelled) → Ends status answer old new → Left status spelled old new
+left_by Memory (Err e) spelled old new is ends = ([], appends_nothing old new ends, record { leaves = inl refl; single_index = tt; counts = tt })
+left_by Done (Ok (Lines text)) (Ok S) old new is ends = (text.items, ends, record { leaves = is.output; single_index = is.single_index; counts = is.counts })
+left_by Script (Ok (Fault text)) (Err f) old new is ends = (text.items, ends, record { leaves = is; single_index = tt; counts = tt })
 left_by Write (Ok (Lines text)) (Ok S) old new is ends = front (Ok S) text.items old new is.output ends
 left_by Write (Ok (Fault text)) (Err f) old new is ends = front (Err f) text.items old new is ends
 left_by Done (Err e) spelled old new is ends = absurd ends
@@ -53,21 +68,65 @@ left_by Write (Err e) spelled old new is ends = absurd ends
 left_by Write (Ok (Lines text)) (Err f) old new is ends = absurd is
 left_by Write (Ok (Fault text)) (Ok S) old new is ends = absurd is
 
-pub left_of_all : (status : Status) (answer : Result Answer WantMemory) (all : List ℕ) (left old new : Option (List ℕ)) → IfSome left (λ bytes. all ≡ bytes) → IfOk answer (IsAnswer (first_script script_limits all)) → Ends status answer old new
-    → IfSome left (λ bytes. Left status (first_script script_limits bytes) old new)
-left_of_all status answer all None old new same is ends = tt
-left_of_all status answer all (Some bytes) old new same is ends = subst (λ bs. Left status (first_script script_limits bs) old new) same (left_by status answer (first_script script_limits all) old new is ends)
+-- ---- by the bytes
+
+-- where the source tells its bytes, each of these
+pub record IsLeftOf (status : Status) (left old new : Option (List ℕ)) : Type 0 where
+  pub leaves : IfSome left (λ bytes. (t : Text) × Appends old new t × HasOutcome bytes (λ spelled. Leaves status spelled t))
+  pub single_index : IfSome left (λ bytes. (t : Text) × Appends old new t × HasOutcome bytes (λ spelled. OnDone status spelled (λ S. IsOutputBy by_single_index S t)))
+  pub counts : IfSome left (λ bytes. (t : Text) × Appends old new t × HasOutcome bytes (λ spelled. OnDone status spelled (λ S. IsCountedOutput S t)))
+
+untold : (status : Status) (old new : Option (List ℕ)) → IsLeftOf status None old new
+untold status old new = record { leaves = tt; single_index = tt; counts = tt }
+
+with_meanings : (one : HasOneReading) (status : Status) (bytes : List ℕ) (old new : Option (List ℕ)) → Left status (outcome (meanings one) bytes) old new → IsLeftOf status (Some bytes) old new
+with_meanings one status bytes old new (t, appended, is) = record {
+  leaves = (t, appended, (meanings one, meanings_are one, is.leaves));
+  single_index = (t, appended, (meanings one, meanings_are one, is.single_index));
+  counts = (t, appended, (meanings one, meanings_are one, is.counts));
+}
+
+-- of the whole script
+pub left_of_all : HasOneReading → (status : Status) (answer : Result Answer WantMemory) (all : List ℕ) (left old new : Option (List ℕ)) → IfSome left (λ bytes. all ≡ bytes)
+    → ((m : Meanings) → AreMeanings m → IfOk answer (IsAnswer (outcome m all))) → Ends status answer old new → IsLeftOf status left old new
+left_of_all one status answer all None old new same is ends = untold status old new
+left_of_all one status answer all (Some bytes) old new same is ends =
+    with_meanings one status bytes old new (subst (λ bs. Left status (outcome (meanings one) bs) old new) same (left_by status answer (outcome (meanings one) all) old new (is (meanings one) (meanings_are one)) ends))
 
 -- more bytes than a script may have are one that is too long
-passes : (taken rest : List ℕ) → script_limit < length taken → first_script script_limits (taken ++ rest) ≡ Err too_many
-passes taken rest more = ap (λ b. cond b (Err too_many) (lines_from script_limits 1 (lines_of (taken ++ rest)))) long
+passes : (m : Meanings) (taken rest : List ℕ) → script_limit < length taken → outcome m (taken ++ rest) ≡ Err too_many
+passes m taken rest more = ap (judged m (unbuilt_in m (numbered_lines (taken ++ rest)))) read ∙ judged_so (unbuilt_in m (numbered_lines (taken ++ rest)))
   where
-    long : nat_lt script_limit (length (taken ++ rest)) ≡ true
-    long = lt-ltb script_limit (length (taken ++ rest)) (let all = length-append taken rest in omega (arith, more, all))
+    fault : ScriptFault
+    fault = record { line = 0; fault = too_long }
 
-pub left_of_many : (status : Status) (answer : Result Answer WantMemory) (left after old new : Option (List ℕ)) → TakesSome left after (λ n. script_limit < n) → IfOk answer (IsAnswer (Err too_many)) → Ends status answer old new
-    → IfSome left (λ bytes. Left status (first_script script_limits bytes) old new)
-left_of_many status answer None after old new taken is ends = tt
-left_of_many status answer (Some bytes) None old new (taken, cut, more) is ends = absurd cut
-left_of_many status answer (Some bytes) (Some rest) old new (taken, cut, more) is ends =
-    subst (λ spelled. Left status spelled old new) (sym (ap (first_script script_limits) cut ∙ passes taken rest more)) (left_by status answer (Err too_many) old new is ends)
+    long : nat_le (length (taken ++ rest)) script_limit ≡ false
+    long = lt-leb (length (taken ++ rest)) script_limit (let all = length-append taken rest in omega (arith, more, all))
+
+    read : script_of script_limits (taken ++ rest) ≡ Err fault
+    read = ap (λ b. unless b fault >>= λ u. script_of_lines script_limits (numbered_lines (taken ++ rest))) long
+
+    judged_so : (o : Option ℕ) → judged m o (Err fault) ≡ Err too_many
+    judged_so None = refl
+    judged_so (Some n) = rw (le-ltb n 0 (omega arith)) refl
+
+pub left_of_many : HasOneReading → (status : Status) (answer : Result Answer WantMemory) (left after old new : Option (List ℕ)) → TakesSome left after (λ n. script_limit < n) → IfOk answer (IsAnswer (Err too_many)) → Ends status answer old new
+    → IsLeftOf status left old new
+left_of_many one status answer None after old new taken is ends = untold status old new
+left_of_many one status answer (Some bytes) None old new (taken, cut, more) is ends = absurd cut
+left_of_many one status answer (Some bytes) (Some rest) old new (taken, cut, more) is ends =
+    with_meanings one status bytes old new (subst (λ spelled. Left status spelled old new) (sym (ap (outcome (meanings one)) cut ∙ passes (meanings one) taken rest more)) (left_by status answer (Err too_many) old new is ends))
+
+-- of a run that writes nothing
+left_of_none : HasOneReading → (status : Status) (left old : Option (List ℕ)) → ((spelled : Result AskedScript FirstFault) → IsLeft status spelled []) → IsLeftOf status left old old
+left_of_none one status None old is = untold status old old
+left_of_none one status (Some bytes) old is = with_meanings one status bytes old old ([], appends_nothing old old refl, is (outcome (meanings one) bytes))
+
+pub left_by_usage : HasOneReading → (left old : Option (List ℕ)) → IsLeftOf Usage left old old
+left_by_usage one left old = left_of_none one Usage left old (λ spelled. record { leaves = refl; single_index = tt; counts = tt })
+
+pub left_by_read : HasOneReading → (left old : Option (List ℕ)) → IsLeftOf Read left old old
+left_by_read one left old = left_of_none one Read left old (λ spelled. record { leaves = refl; single_index = tt; counts = tt })
+
+pub left_by_memory : HasOneReading → (left old : Option (List ℕ)) → IsLeftOf Memory left old old
+left_by_memory one left old = left_of_none one Memory left old (λ spelled. record { leaves = inl refl; single_index = tt; counts = tt })

@@ -100,9 +100,9 @@ lines_left reply S front [] i one is valid behind seen up = refl
 lines_left reply S front (l ∷ ls) i one is valid behind seen up =
     let here = All-head (IsLineOf S.schema) l ls valid in
     let next : AreWritten reply S (commits_in front) (counted (is_sync l) (phase_behind front)) ls (lines_text reply (indexed_after i l) ls) = λ now now_up.
-        subst (λ p. AreLinesOf reply S now (walk search_at is_sync p ls) (lines_text reply (indexed_after i l) ls)) (one_more is_sync front l)
-        (lines_left reply S (front ++ l ∷ []) ls (indexed_after i l) one (is ∙ sym (moved front l ls)) (All-tail (IsLineOf S.schema) l ls valid) (behind_after S.schema front i l one here behind) now
-        (up_to_more (commits_in front) (commits_in (front ++ l ∷ [])) now (grown front l) now_up)) in
+    subst (λ p. AreLinesOf reply S now (walk search_at is_sync p ls) (lines_text reply (indexed_after i l) ls)) (one_more is_sync front l)
+    (lines_left reply S (front ++ l ∷ []) ls (indexed_after i l) one (is ∙ sym (moved front l ls)) (All-tail (IsLineOf S.schema) l ls valid) (behind_after S.schema front i l one here behind) now
+    (up_to_more (commits_in front) (commits_in (front ++ l ∷ [])) now (grown front l) now_up)) in
     at_line reply S front ls i l one is behind next seen up
   where
     grown : (front : List AskedLine) (l : AskedLine) → commits_in front ≤ commits_in (front ++ l ∷ [])

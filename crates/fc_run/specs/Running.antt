@@ -69,7 +69,7 @@ shard_view shard = record { committed = map (λ segment. segment.blocks) shard.s
 abbrev pub HasKinds : Schema → Shard → Type 0
 HasKinds s shard = All (λ segment. segment.texts ≡ map (λ f. holds_texts f.kind) s.fields) shard.segments.items
 
--- and its blocks are valid, and as few as a script may have
+-- so it has, its blocks are valid, and there are as few documents as a script may have
 pub record IsIndexOf (s : Schema) (shard : Shard) : Type 0 where
   pub kinds : HasKinds s shard
   pub blocks : All (IsBlockOf s) (blocks_in (shard_view shard))

@@ -69,12 +69,7 @@ impl Running {
     }
 
     // Writes the line of a search over every commit so far.
-    fn search(
-        self,
-        alloc: Global,
-        session: &Name,
-        request: &Request,
-    ) -> Result<Running, WantMemory>
+    fn search(self, alloc: Global, session: &Name, request: &Request) -> Result<Running, WantMemory>
         requires fits { All (λ segment. Fits segment.texts request.now) self.shard.segments.items }
         requires different { AreDifferentIn (joined (shard_view self.shard).committed) }
         requires few { document_total (joined (shard_view self.shard).committed) ≤ 1_048_576 }
@@ -89,12 +84,7 @@ impl Running {
     }
 
     // Behind one more line.
-    fn run(
-        self,
-        alloc: Global,
-        schema: &Schema,
-        line: Line,
-    ) -> Result<Running, WantMemory>
+    fn run(self, alloc: Global, schema: &Schema, line: Line) -> Result<Running, WantMemory>
         requires index { IsIndexOf schema.now self.shard }
         requires asked { IsAskedOf schema.now line }
         ensures shard { IfOk result (λ running. shard_view running.shard

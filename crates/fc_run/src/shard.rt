@@ -45,9 +45,10 @@ impl Shard {
     pub(crate) fn commit(self, alloc: Global, schema: &Schema) -> Result<Shard, WantMemory>
         requires valid { All (IsBlockOf schema.now) (map block_view self.waiting.items) }
         requires few { document_total (map block_view self.waiting.items) ≤ 1_048_576 }
-        ensures segments { IfOk result (λ shard. shard.segments.items ≡ self.segments.items ++ record
-            { texts = map (λ f. holds_texts f.kind) schema.now.fields;
-            blocks = map block_view self.waiting.items } ∷ []) }
+        ensures segments { IfOk result (λ shard. shard.segments.items ≡ self.segments.items ++ record {
+          texts = map (λ f. holds_texts f.kind) schema.now.fields;
+          blocks = map block_view self.waiting.items;
+        } ∷ []) }
         ensures waiting { IfOk result (λ shard. shard.waiting.items ≡ []) }
     {
         let Shard {

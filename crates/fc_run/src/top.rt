@@ -35,10 +35,9 @@ fn give<K: Sink>(sink: &mut K, answer: &Result<Answer, WantMemory>) -> Status
 /// Reads a script from `source` and writes its answer to `sink`: one line for each search, in script order, or the
 /// one line of the script's fault. `words` are those of the command; the first is the program's name.
 ///
-/// Today exactly the lists of one word are taken, and a script has one form: a schema of one shard whose fields are
-/// all `string`, documents without children, one commit, one sync, and one search for everything with one terms
-/// facet without a limit in index order. Other bytes are refused with their first fault: too long, not JSON, or not
-/// built.
+/// Today exactly the lists of one word are taken, a script has one shard, and a request has a query, filters, and at
+/// most one terms facet of every value in index order. Other bytes are refused at their first line that is not JSON
+/// or not built, or as too long.
 ///
 /// The clauses on bytes hold where the source tells the bytes that it has left, and the sink those that were
 /// written.

@@ -1,4 +1,4 @@
-use Rattle.std.proofs.Common.{◌≡◌, map, All, refl}
+use Rattle.std.proofs.Common.{◌≡◌, map, refl}
 use Rattle.std.proofs.lemmas.List.Elements.{All-push}
 use Rattle.fc_spec.specs.ValidBlocks.{holds_texts}
 use Rattle.fc_run.proofs.IndexPremises.{waiting_valid}
