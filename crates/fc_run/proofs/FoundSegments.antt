@@ -1,6 +1,6 @@
 -- A search through blocks, of which some are done and some are left.
 use Rattle.std.specs.Prelude.{◌≡◌, ℕ, ◌+◌, ◌^◌, ◌<◌, ◌≤◌, List, [], ◌∷◌, ◌++◌, length, map, take, drop, All, Option, None, Some}
-use Rattle.std.specs.List.{filter, flat_map}
+use Rattle.std.specs.List.{filter}
 use Rattle.std.specs.BTreeMap.{IsOrdered}
 use Rattle.std.proofs.Common.{refl, sym, ◌∙◌, ap, subst, arith, append-nil, length-append, get_or, drop-cons, add-one}
 use Rattle.std.proofs.lemmas.List.{map-append, take_more}
@@ -14,8 +14,8 @@ use Rattle.fc_spec.specs.Request.{Request}
 use Rattle.fc_spec.specs.Totals.{documents_of, documents_in, document_total}
 use Rattle.fc_segment.specs.Segmented.{Segmented}
 use Rattle.fc_run.specs.Fitting.{AreDifferentIn}
-use Rattle.fc_run.specs.Found.{asked_counts, asked_values, Finds}
-use Rattle.fc_run.specs.PlainReply.{Facet, AreDifferent, root_documents}
+use Rattle.fc_run.specs.Found.{asked_values, Finds}
+use Rattle.fc_run.specs.PlainReply.{Facet, AreDifferent, asked_counts, root_documents}
 use Rattle.fc_run.specs.Tally.{key_cmp, tally_view, Counts, HasRoom}
 use Rattle.fc_run.specs.declared.search.found.Found.{Found}
 use Rattle.fc_run.proofs.TallyCounts.{HasRoom-start, tally_view-counted}

@@ -4,8 +4,8 @@ ghost use Rattle.std.specs.List.{items_where_true};
 ghost use Rattle.fc_spec.specs.Lists.{joined};
 ghost use Rattle.fc_spec.specs.Totals.{document_total, documents_in};
 ghost use Rattle.fc_run.specs.Fitting.{AreDifferentIn, Fits};
-ghost use Rattle.fc_run.specs.Found.{asked_counts, asked_values, Finds};
-ghost use Rattle.fc_run.specs.PlainReply.{root_documents};
+ghost use Rattle.fc_run.specs.Found.{asked_values, Finds};
+ghost use Rattle.fc_run.specs.PlainReply.{asked_counts, root_documents};
 ghost use Rattle.fc_run.specs.Tally.{Counts, HasRoom, tally_view};
 ghost use Rattle.fc_run.specs.View.{facet_view, request_view};
 
