@@ -1,5 +1,5 @@
 -- What a search finds in documents.
-use Rattle.std.specs.Prelude.{◌≡◌, ℕ, ◌+◌, List, [], length, Option, None, Some}
+use Rattle.std.specs.Prelude.{◌≡◌, ◌+◌, List, [], length, Option, None, Some}
 use Rattle.fc_spec.specs.Val.{Val}
 use Rattle.fc_spec.specs.Document.{Document}
 use Rattle.fc_run.specs.PlainReply.{Facet, values_at}
