@@ -27,3 +27,7 @@ pub mod RootDomain
 pub mod FoundValues
 pub mod FoundSegments
 pub mod WithinLimits
+pub mod PickedValues
+pub mod SameCounts
+pub mod TermCounts
+pub mod TermCopies

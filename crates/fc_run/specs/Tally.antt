@@ -1,5 +1,6 @@
 -- Tallies: how many documents have each value of a field.
-use Rattle.std.specs.Prelude.{◌≡◌, ℕ, zero, suc, ◌+◌, ◌^◌, ◌<◌, List, map, count_by, Option, Some, unwrap_or}
+use Rattle.std.specs.Prelude.{◌≡◌, ℕ, zero, suc, ◌+◌, ◌^◌, ◌<◌, List, Bool, map, count_by, Option, Some, unwrap_or}
+use Rattle.std.specs.List.{flat_map, items_where_true}
 use Rattle.std.specs.BTreeMap.{BTreeMap, get_by, IsOrdered}
 use Rattle.std.specs.declared.cmp.Ordering.{Ordering}
 use Rattle.fc_spec.specs.Val as definition
@@ -36,3 +37,7 @@ pub record Counts (old new : Tally) (vs : List definition.Val) : Type 0 where
 -- the number of each value stays in range when these are counted
 pub record HasRoom (tally : Tally) (vs : List definition.Val) : Type 0 where
   pub within : (v : definition.Val) → unwrap_or (number_at tally v) 0 + count_by (same_val v) vs < 2 ^ 64
+
+-- the values of the positions in a set, position by position
+abbrev pub picked_values : {X : Type 0} → List Bool → List (List X) → List X
+picked_values docs column = flat_map (λ values. values) (items_where_true docs column)

@@ -1,0 +1,38 @@
+use Rattle.std.proofs.Common.{◌≡◌, ℕ, ℤ, ◌<◌, ◌-◌, map, replicate, length, take, drop, get_or, ◌∙◌, arith, rules, w64}
+use lib.IntN.{pos}
+use mir.Val.{SFits}
+use Rattle.std.proofs.lemmas.Int.{to_z-of_z}
+use Rattle.std.proofs.lemmas.List.{take_all, length-drop, get_or_default}
+use Rattle.fc_spec.specs.Val.{long}
+use Rattle.fc_run.specs.Tally.{Counts}
+use Rattle.fc_run.proofs.TallySteps.{HasRoom-front, HasRoom-rest, Counts-append}
+use Rattle.fc_run.proofs.SameCounts.{run_and_rest}
+use Rattle.fc_run.proofs.search.columns.tally_runs.Goals as goal
+
+pub count_term-requires-clause-room : goal.count_term-requires-clause-room
+count_term-requires-clause-room c =
+    let rest = c.loop-rest.rest.now in
+    let n = c.run_length-length.result in
+    let first = get_or rest 0 (pos 0) in
+    let fits : SFits w64 first = search rules in
+    let split = run_and_rest first n rest c.run_length-length.ensures.within
+        (λ k d below. c.run_length-length.ensures.same k d below ∙ get_or_default rest 0 d (pos 0) (omega arith)) in
+    rw (to_z-of_z w64 first fits) (HasRoom-front c.loop-rest.tally (replicate n (long first)) (map long (drop n rest)) (rw split at c.loop-rest.invariant.room))
+
+pub loop-rest-preserved : goal.loop-rest-preserved
+loop-rest-preserved c =
+    let rest = c.loop-rest.rest.now in
+    let n = c.run_length-length.result in
+    let first = get_or rest 0 (pos 0) in
+    let fits : SFits w64 first = search rules in
+    let split = run_and_rest first n rest c.run_length-length.ensures.within
+        (λ k d below. c.run_length-length.ensures.same k d below ∙ get_or_default rest 0 d (pos 0) (omega arith)) in
+    let size = length-drop n rest in
+    let behind : take (length rest - n) (drop n rest) ≡ drop n rest = take_all (length rest - n) (drop n rest) (omega arith) in
+    let now : Counts c.loop-rest.tally c.count_term.new.tally (replicate n (long first)) = rw (to_z-of_z w64 first fits) at c.in_ok-count_term.ensures in
+    let room = HasRoom-rest c.loop-rest.tally c.count_term.new.tally (replicate n (long first)) (map long (drop n rest)) (rw split at c.loop-rest.invariant.room) now in
+    rw behind (record {
+      within = omega arith;
+      room = room;
+      so_far = λ t later. c.loop-rest.invariant.so_far t (rw split (Counts-append c.loop-rest.tally c.count_term.new.tally t (replicate n (long first)) (map long (drop n rest)) now later));
+    })
