@@ -29,7 +29,6 @@ fn tally_facet<'a>(
 ) -> Result<(), WantMemory>
     requires field { IfSome facet.now (λ f. f.field.0 < length segment.now.texts) }
     requires length { length docs.now ≡ document_total segment.now.blocks }
-    requires different { AreDifferentIn segment.now.blocks }
     requires room { HasRoom tally.old (asked_values (option_map facet_view facet.now)
         (items_where_true docs.now (documents_in segment.now.blocks))) }
     ensures { OnOk result (Counts tally.old tally.new (asked_values (option_map facet_view facet.now)
@@ -58,7 +57,6 @@ impl<'a> Found<'a> {
         request: &Request,
     ) -> Result<Found<'a>, WantMemory>
         requires fits { Fits segment.now.texts request.now }
-        requires different { AreDifferentIn segment.now.blocks }
         requires few { self.count + document_total segment.now.blocks < 2 ^ 64 }
         requires room { HasRoom self.tally (asked_values (option_map facet_view request.now.facet)
             (root_documents (request_view request.now) segment.now.blocks)) }

@@ -1,5 +1,5 @@
 // The reply line of a search over the segments of one shard.
-ghost use Rattle.std.specs.Prelude.{◌≡◌, ◌≤◌, [], ◌∷◌, length, map, codes, All, Option, None, Some, option_map, IfOk};
+ghost use Rattle.std.specs.Prelude.{◌≡◌, ◌≤◌, [], ◌∷◌, length, map, codes, All, Some, option_map, IfOk};
 ghost use Rattle.serde_json.specs.Data.{string, array, object, member, no_members, put};
 ghost use Rattle.serde_json.specs.View.{view};
 ghost use Rattle.fc_spec.specs.Lists.{joined};
