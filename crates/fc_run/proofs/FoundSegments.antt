@@ -1,11 +1,11 @@
 -- A search through blocks, of which some are done and some are left.
 use Rattle.std.specs.Prelude.{◌≡◌, ℕ, ◌+◌, ◌^◌, ◌<◌, ◌≤◌, List, [], ◌∷◌, ◌++◌, length, map, take, drop, All, Option, None, Some}
-use Rattle.std.specs.List.{filter, flat_map}
+use Rattle.std.specs.List.{filter}
 use Rattle.std.specs.BTreeMap.{IsOrdered}
 use Rattle.std.proofs.Common.{refl, sym, ◌∙◌, ap, subst, arith, append-nil, length-append, get_or, drop-cons, add-one}
 use Rattle.std.proofs.lemmas.List.{map-append, take_more}
 use Rattle.std.proofs.lemmas.List.Concat.{flat_map-append}
-use Rattle.std.proofs.lemmas.List.Elements.{All-nil, All-cons, All-head, All-tail, All-filter, filter-append}
+use Rattle.std.proofs.lemmas.List.Elements.{All-nil, All-filter, filter-append}
 use Rattle.std.proofs.lemmas.List.Sums.{count_by-le-length, length-filter}
 use Rattle.fc_spec.specs.Base.{meets_base}
 use Rattle.fc_spec.specs.Document.{Document, Block, values_of}
@@ -14,8 +14,8 @@ use Rattle.fc_spec.specs.Request.{Request}
 use Rattle.fc_spec.specs.Totals.{documents_of, documents_in, document_total}
 use Rattle.fc_segment.specs.Segmented.{Segmented}
 use Rattle.fc_run.specs.Fitting.{AreDifferentIn}
-use Rattle.fc_run.specs.Found.{asked_counts, asked_values, Finds}
-use Rattle.fc_run.specs.PlainReply.{Facet, AreDifferent, root_documents}
+use Rattle.fc_run.specs.Found.{asked_values, Finds}
+use Rattle.fc_run.specs.PlainReply.{Facet, AreDifferent, asked_counts, root_documents}
 use Rattle.fc_run.specs.Tally.{key_cmp, tally_view, Counts, HasRoom}
 use Rattle.fc_run.specs.declared.search.found.Found.{Found}
 use Rattle.fc_run.proofs.TallyCounts.{HasRoom-start, tally_view-counted}
@@ -39,23 +39,9 @@ document_total-append bs cs = ap length (documents_in-append bs cs) ∙ length-a
 root_total : (r : Request) (bs : List Block) → length (root_documents r bs) ≤ document_total bs
 root_total r bs = omega (arith, length-filter (meets_base r []) (documents_in bs), count_by-le-length (meets_base r []) (documents_in bs))
 
-All-front : {X : Type 0} (P : X → Type 0) (xs ys : List X) → All P (xs ++ ys) → All P xs
-All-front P [] ys h = All-nil P
-All-front P (x ∷ xs) ys h = All-cons P x xs (All-head P x (xs ++ ys) h) (All-front P xs ys (All-tail P x (xs ++ ys) h))
-
-All-back : {X : Type 0} (P : X → Type 0) (xs ys : List X) → All P (xs ++ ys) → All P ys
-All-back P [] ys h = h
-All-back P (x ∷ xs) ys h = All-back P xs ys (All-tail P x (xs ++ ys) h)
-
 -- no document has a value twice
 abbrev Differ : ℕ → Document → Type 0
 Differ field d = AreDifferent (values_of d field)
-
-different-front : (bs cs : List Block) → AreDifferentIn (bs ++ cs) → AreDifferentIn bs
-different-front bs cs h = λ field. All-front (Differ field) (documents_in bs) (documents_in cs) (subst (All (Differ field)) (documents_in-append bs cs) (h field))
-
-different-back : (bs cs : List Block) → AreDifferentIn (bs ++ cs) → AreDifferentIn cs
-different-back bs cs h = λ field. All-back (Differ field) (documents_in bs) (documents_in cs) (subst (All (Differ field)) (documents_in-append bs cs) (h field))
 
 pub root_different : (r : Request) (bs : List Block) → AreDifferentIn bs → (field : ℕ) → All (Differ field) (root_documents r bs)
 root_different r bs h field = All-filter (meets_base r []) (Differ field) (documents_in bs) (h field)
@@ -67,7 +53,6 @@ pub record IsSearched (r : Request) (facet : Option Facet) (start now : Found) (
   pub finds : Finds start now facet (root_documents r done)
   pub few : now.count + document_total left ≤ 1_048_576
   pub room : HasRoom now.tally (asked_values facet (root_documents r left))
-  pub different : AreDifferentIn left
 
 room_at_start : (facet : Option Facet) (ds : List Document) (a : Found) → a.tally.entries ≡ [] → ((field : ℕ) → All (Differ field) ds) → length ds < 2 ^ 64 → HasRoom a.tally (asked_values facet ds)
 room_at_start None ds a empty different few = HasRoom-start 0 [] (All-nil (Differ 0)) (omega arith) a.tally empty
@@ -79,7 +64,6 @@ module _ (r : Request) (facet : Option Facet) (start : Found) where
     finds = record { count = omega arith; tally = subst (Counts start.tally start.tally) (nothing facet) (Counts-none start.tally) };
     few = omega arith;
     room = room_at_start facet (root_documents r all) start empty (root_different r all different) (omega (arith, root_total r all));
-    different = different;
   }
     where
       nothing : (f : Option Facet) → [] ≡ asked_values f []
@@ -88,9 +72,6 @@ module _ (r : Request) (facet : Option Facet) (start : Found) where
 
   module _ (now : Found) (done bs left : List Block) (searched : IsSearched r facet start now done (bs ++ left)) where
     -- what the next blocks ask
-    pub next_different : AreDifferentIn bs
-    next_different = different-front bs left searched.different
-
     pub next_few : now.count + document_total bs < 2 ^ 64
     next_few = omega (arith, searched.few, document_total-append bs left)
 
@@ -111,7 +92,6 @@ module _ (r : Request) (facet : Option Facet) (start : Found) where
       };
       few = omega (arith, searched.few, found.count, root_total r bs, document_total-append bs left);
       room = HasRoom-rest now.tally later.tally (asked_values facet (root_documents r bs)) (asked_values facet (root_documents r left)) room_for_both found.tally;
-      different = different-back bs left searched.different;
     }
 
 -- the values of an empty tally in which those that are asked for are counted

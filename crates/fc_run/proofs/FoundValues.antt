@@ -1,6 +1,6 @@
 -- The values that a search finds in the column of a facet's field.
 use Rattle.std.specs.Prelude.{◌≡◌, ℕ, ◌+◌, List, [], ◌∷◌, ◌++◌, length, map, Bool, true, false, cond, Option, Some, option_map, count_by}
-use Rattle.std.specs.List.{filter, flat_map, items_where_true}
+use Rattle.std.specs.List.{filter, items_where_true}
 use Rattle.std.proofs.Common.{refl, sym, ◌∙◌, ap, arith}
 use Rattle.std.proofs.lemmas.List.Sums.{sum_by-cons}
 use Rattle.fc_spec.specs.Val.{Val}
@@ -11,21 +11,22 @@ use Rattle.fc_spec.specs.Request.{Request}
 use Rattle.fc_spec.specs.Totals.{documents_in}
 use Rattle.fc_run.specs.Found.{asked_values}
 use Rattle.fc_run.specs.PlainReply.{root_documents, values_at}
+use Rattle.fc_run.specs.Tally.{picked_values}
 use Rattle.fc_run.specs.View.{facet_view}
 use Rattle.fc_run.specs.declared.request.Facet.{Facet}
 
 -- what a set picks out of a column are the values of the documents that it picks
-picked_values : (field : ℕ) (docs : List Bool) (ds : List Document) → flat_map (λ vs. vs) (items_where_true docs (column_of field ds)) ≡ values_at field (items_where_true docs ds)
-picked_values field [] ds = refl
-picked_values field (b ∷ docs) [] = refl
-picked_values field (true ∷ docs) (d ∷ ds) = ap (λ vs. values_of d field ++ vs) (picked_values field docs ds)
-picked_values field (false ∷ docs) (d ∷ ds) = picked_values field docs ds
+picked_values-column : (field : ℕ) (docs : List Bool) (ds : List Document) → picked_values docs (column_of field ds) ≡ values_at field (items_where_true docs ds)
+picked_values-column field [] ds = refl
+picked_values-column field (b ∷ docs) [] = refl
+picked_values-column field (true ∷ docs) (d ∷ ds) = ap (λ vs. values_of d field ++ vs) (picked_values-column field docs ds)
+picked_values-column field (false ∷ docs) (d ∷ ds) = picked_values-column field docs ds
 
 -- those are the ones that the facet asks for
 pub picked_are_asked : (facet : Option Facet) (f : Facet) → facet ≡ Some f → (docs : List Bool) (ds : List Document) (column : List (List Val)) → column ≡ column_of f.field.0 ds
-    → flat_map (λ vs. vs) (items_where_true docs column) ≡ asked_values (option_map facet_view facet) (items_where_true docs ds)
+    → picked_values docs column ≡ asked_values (option_map facet_view facet) (items_where_true docs ds)
 picked_are_asked facet f is docs ds column values =
-    ap (λ c. flat_map (λ vs. vs) (items_where_true docs c)) values ∙ picked_values f.field.0 docs ds
+    ap (picked_values docs) values ∙ picked_values-column f.field.0 docs ds
     ∙ ap (λ o. asked_values (option_map facet_view o) (items_where_true docs ds)) (sym is)
 
 -- a set that a test makes picks those that pass

@@ -1,5 +1,5 @@
 -- The JSON of the reply that a tally makes.
-use Rattle.std.specs.Prelude.{◌≡◌, ℕ, List, [], ◌∷◌, ◌++◌, map, ◌<◌, length, Option, None, Some, option_map, cond, codes}
+use Rattle.std.specs.Prelude.{◌≡◌, ℕ, List, [], ◌∷◌, ◌++◌, map, ◌<◌, Option, None, Some, option_map, cond, codes}
 use Rattle.std.proofs.Common.{refl, sym, ◌∙◌, ap, arith, append_assoc}
 use Rattle.std.proofs.lemmas.List.{map-append}
 use Rattle.std.proofs.lemmas.Bool.{ne_eqb}
@@ -7,12 +7,9 @@ use Rattle.serde_json.specs.Data.{Data, item, array, object, Members, no_members
 use Rattle.serde_json.specs.View.{view, items_of}
 use Rattle.serde_json.specs.declared.value.Value.{Value}
 use Rattle.fc_spec.specs.Val.{Text, Val}
-use Rattle.fc_spec.specs.Document.{Document}
 use Rattle.fc_spec.specs.Reply.{bucket, no_facets, many}
 use Rattle.fc_spec.specs.Json.{natural_data, bucket_data, listed_items, put_row}
-use Rattle.fc_run.specs.Found.{asked_counts, facets_with, found_reply}
-use Rattle.fc_run.specs.PlainReply as plain
-use Rattle.fc_run.specs.PlainReply.{counted_row, counted_reply}
+use Rattle.fc_run.specs.PlainReply.{counted_row, reply_with}
 use Rattle.fc_run.specs.Term.{term_view}
 use Rattle.fc_run.specs.View.{facet_view}
 use Rattle.fc_run.specs.declared.request.Facet.{Facet}
@@ -42,15 +39,10 @@ put_row-counted_row (e ∷ es) ms = put_row-counted_row es ms
 -- where there are documents and a facet, the reply is the bucket of all with that facet
 pub faceted_reply : (facet : Option Facet) (f : Facet) → facet ≡ Some f → (name : Text) → name ≡ f.name → (count : ℕ) (counts : List (Val × ℕ)) (buckets : Data) → 0 < count
     → buckets ≡ array (listed_items (counted_row counts))
-    → object (put name (object (member (codes "buckets") buckets no_members)) (member (codes "count") (natural_data count) no_members)) ≡ bucket_data (found_reply count (option_map facet_view facet) counts)
+    → object (put name (object (member (codes "buckets") buckets no_members)) (member (codes "count") (natural_data count) no_members)) ≡ bucket_data (reply_with count (option_map facet_view facet) counts)
 faceted_reply facet f is name named count counts buckets some are =
     let list = member (codes "buckets") (array (listed_items (counted_row counts))) no_members in
     (λ i. object (put (named i) (object (member (codes "buckets") (are i) no_members)) (member (codes "count") (natural_data count) no_members)))
     ∙ ap (λ ms. object (put f.name (object ms) (member (codes "count") (natural_data count) no_members))) (sym (put_row-counted_row counts list))
     ∙ ap (λ b. bucket_data (bucket None count (cond b no_facets (many f.name (counted_row counts) no_facets)))) (sym (ne_eqb count 0 (λ none. omega arith)))
-    ∙ ap (λ o. bucket_data (found_reply count (option_map facet_view o) counts)) (sym is)
-
--- what was found is counted
-pub found_is_counted : (facet : Option plain.Facet) (ds : List Document) → found_reply (length ds) facet (asked_counts facet ds) ≡ counted_reply facet ds
-found_is_counted None ds = refl
-found_is_counted (Some f) ds = refl
+    ∙ ap (λ o. bucket_data (reply_with count (option_map facet_view o) counts)) (sym is)

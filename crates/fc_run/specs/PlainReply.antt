@@ -52,13 +52,22 @@ abbrev pub counted_row : List (Val × ℕ) → Row
 counted_row [] = no_parts
 counted_row (e ∷ rest) = part listed (bucket (Some e.0) e.1 no_facets) (counted_row rest)
 
-abbrev pub counted_facets : Option Facet → List Document → Facets
-counted_facets None documents = no_facets
-counted_facets (Some f) documents = many f.0 (counted_row (value_counts f.1 documents)) no_facets
+-- the different values in the facet's field, each with its number; none where no facet is asked
+abbrev pub asked_counts : Option Facet → List Document → List (Val × ℕ)
+asked_counts None documents = []
+asked_counts (Some f) documents = value_counts f.1 documents
+
+-- the facet that is asked, with a bucket for each of these
+abbrev pub facets_with : Option Facet → List (Val × ℕ) → Facets
+facets_with None counts = no_facets
+facets_with (Some f) counts = many f.0 (counted_row counts) no_facets
 
 -- the number of documents and, where there are some, the facet
+abbrev pub reply_with : ℕ → Option Facet → List (Val × ℕ) → Bucket
+reply_with count facet counts = bucket None count (if count == 0 then no_facets else facets_with facet counts)
+
 abbrev pub counted_reply : Option Facet → List Document → Bucket
-counted_reply facet documents = bucket None (length documents) (if length documents == 0 then no_facets else counted_facets facet documents)
+counted_reply facet documents = reply_with (length documents) facet (asked_counts facet documents)
 
 -- over the documents of the root domain
 abbrev pub plain_reply : Query → List Filter → Option Facet → List Block → Bucket

@@ -4,8 +4,8 @@ ghost use Rattle.std.specs.List.{items_where_true};
 ghost use Rattle.fc_spec.specs.Lists.{joined};
 ghost use Rattle.fc_spec.specs.Totals.{document_total, documents_in};
 ghost use Rattle.fc_run.specs.Fitting.{AreDifferentIn, Fits};
-ghost use Rattle.fc_run.specs.Found.{asked_counts, asked_values, Finds};
-ghost use Rattle.fc_run.specs.PlainReply.{root_documents};
+ghost use Rattle.fc_run.specs.Found.{asked_values, Finds};
+ghost use Rattle.fc_run.specs.PlainReply.{asked_counts, root_documents};
 ghost use Rattle.fc_run.specs.Tally.{Counts, HasRoom, tally_view};
 ghost use Rattle.fc_run.specs.View.{facet_view, request_view};
 
@@ -29,7 +29,6 @@ fn tally_facet<'a>(
 ) -> Result<(), WantMemory>
     requires field { IfSome facet.now (λ f. f.field.0 < length segment.now.texts) }
     requires length { length docs.now ≡ document_total segment.now.blocks }
-    requires different { AreDifferentIn segment.now.blocks }
     requires room { HasRoom tally.old (asked_values (option_map facet_view facet.now)
         (items_where_true docs.now (documents_in segment.now.blocks))) }
     ensures { OnOk result (Counts tally.old tally.new (asked_values (option_map facet_view facet.now)
@@ -58,7 +57,6 @@ impl<'a> Found<'a> {
         request: &Request,
     ) -> Result<Found<'a>, WantMemory>
         requires fits { Fits segment.now.texts request.now }
-        requires different { AreDifferentIn segment.now.blocks }
         requires few { self.count + document_total segment.now.blocks < 2 ^ 64 }
         requires room { HasRoom self.tally (asked_values (option_map facet_view request.now.facet)
             (root_documents (request_view request.now) segment.now.blocks)) }

@@ -1,5 +1,5 @@
 // The reply line of a search over the segments of one shard.
-ghost use Rattle.std.specs.Prelude.{◌≡◌, ◌≤◌, [], ◌∷◌, length, map, codes, All, Option, None, Some, option_map, IfOk};
+ghost use Rattle.std.specs.Prelude.{◌≡◌, ◌≤◌, [], ◌∷◌, length, map, codes, All, Some, option_map, IfOk};
 ghost use Rattle.serde_json.specs.Data.{string, array, object, member, no_members, put};
 ghost use Rattle.serde_json.specs.View.{view};
 ghost use Rattle.fc_spec.specs.Lists.{joined};
@@ -9,8 +9,7 @@ ghost use Rattle.fc_spec.specs.Json.{natural_data, val_data, bucket_data, listed
 ghost use Rattle.fc_spec.specs.Lines.{numbers_data, reply_line};
 ghost use Rattle.fc_spec.specs.Distributed.{distributed};
 ghost use Rattle.fc_run.specs.Fitting.{AreDifferentIn, Fits};
-ghost use Rattle.fc_run.specs.Found.{found_reply};
-ghost use Rattle.fc_run.specs.PlainReply.{counted_row, IsPlainOnOneShard};
+ghost use Rattle.fc_run.specs.PlainReply.{counted_row, reply_with, IsPlainOnOneShard};
 ghost use Rattle.fc_run.specs.Tally.{tally_view};
 ghost use Rattle.fc_run.specs.Term.{term_view};
 ghost use Rattle.fc_run.specs.View.{facet_view, request_view};
@@ -81,7 +80,7 @@ fn reply_json(
     tally: &Tally<'_>,
 ) -> Result<Value, WantMemory>
     ensures { IfOk result (λ json. view json
-        ≡ bucket_data (found_reply count (option_map facet_view facet.now) (tally_view tally.now))) }
+        ≡ bucket_data (reply_with count (option_map facet_view facet.now) (tally_view tally.now))) }
 {
     match facet {
         Some(facet) if count > 0 => {

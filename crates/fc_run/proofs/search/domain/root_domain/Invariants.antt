@@ -1,4 +1,4 @@
-use Rattle.std.proofs.Common.{◌≡◌, ℕ, take, map, length}
+use Rattle.std.proofs.Common.{◌≡◌, take, map, length}
 use Rattle.fc_spec.specs.Totals.{documents_in, document_total}
 use Rattle.fc_query.specs.QueryView.{query_view}
 use Rattle.fc_run.proofs.RootDomain.{meets_first}

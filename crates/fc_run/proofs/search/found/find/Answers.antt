@@ -2,16 +2,12 @@ use Rattle.std.proofs.Common.{refl, take_all, option_map}
 use Rattle.fc_run.specs.Found.{Finds}
 use Rattle.fc_run.specs.PlainReply.{root_documents}
 use Rattle.fc_run.specs.View.{facet_view, request_view}
-use Rattle.fc_run.proofs.FoundSegments.{blocks_of, searched_none, next_different, next_few, next_room, segment_next, segment_searched, root_different, counts_found}
+use Rattle.fc_run.proofs.FoundSegments.{blocks_of, searched_none, next_few, next_room, segment_next, segment_searched, root_different, counts_found}
 use Rattle.fc_run.proofs.search.found.find.Goals as goal
 
 pub loop-segment-init : goal.loop-segment-init
 loop-segment-init c =
     searched_none (request_view c.args.request.now) (option_map facet_view c.args.request.now.facet) (record { count = 0; tally = c.new.result }) refl c.new.ensures.empty (blocks_of c.args.segments.now) c.requires.different c.requires.few
-
-pub with-requires-clause-different : goal.with-requires-clause-different
-with-requires-clause-different c =
-    next_different _ _ _ _ _ _ _ (segment_next c.args.segments.now c.loop-segment.segment-index c.segment-item.result c.loop-segment-test.true c.segment-item.is _ _ _ _ c.loop-segment.invariant)
 
 pub with-requires-clause-few : goal.with-requires-clause-few
 with-requires-clause-few c =

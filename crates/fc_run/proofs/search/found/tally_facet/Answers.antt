@@ -1,8 +1,5 @@
-use Rattle.std.proofs.Common.{sym, subst, All}
-use Rattle.std.proofs.lemmas.List.Elements.{All-map}
-use Rattle.fc_spec.specs.Document.{values_of}
+use Rattle.std.proofs.Common.{sym, subst}
 use Rattle.fc_spec.specs.Totals.{documents_in}
-use Rattle.fc_run.specs.PlainReply.{AreDifferent}
 use Rattle.fc_run.specs.Tally.{Counts, HasRoom}
 use Rattle.fc_run.proofs.FoundValues.{picked_are_asked}
 use Rattle.fc_run.proofs.search.found.tally_facet.Goals as goal
@@ -11,11 +8,6 @@ pub tally_column-requires-clause-room : goal.tally_column-requires-clause-room
 tally_column-requires-clause-room c =
     subst (HasRoom c.args.tally.now)
     (sym (picked_are_asked c.args.facet.now c.in-Some.facet c.in-Some.is c.args.docs.now (documents_in c.args.segment.now.blocks) _ c.column.ensures.values)) c.requires.room
-
-pub tally_column-requires-clause-different : goal.tally_column-requires-clause-different
-tally_column-requires-clause-different c =
-    let field = c.in-Some.facet.field.0 in
-    subst (All AreDifferent) (sym c.column.ensures.values) (All-map AreDifferent (λ d. values_of d field) (documents_in c.args.segment.now.blocks) (c.requires.different field))
 
 pub returns-in_ok-tally_column : goal.returns-in_ok-tally_column
 returns-in_ok-tally_column c =
