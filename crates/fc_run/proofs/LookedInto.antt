@@ -7,8 +7,7 @@ use Rattle.serde_json.specs.View.{view, members_view}
 use Rattle.serde_json.specs.declared.value.Value.{Value}
 use Rattle.fc_spec.specs.Schema.{Schema}
 use Rattle.fc_spec.specs.SchemaReading.{member_count}
-use Rattle.fc_run.specs.Looking.{has_members}
-use Rattle.fc_run.specs.Requests.{facet_of, facets_of}
+use Rattle.fc_run.specs.Requests.{has_members, facet_of, facets_of}
 
 abbrev Entry : Type 0
 Entry = String Global × Value

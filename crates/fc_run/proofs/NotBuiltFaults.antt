@@ -14,7 +14,7 @@ use Rattle.fc_spec.specs.LineReading.{only_names}
 use Rattle.fc_spec.specs.ScriptTotals.{Limits, ids_in, has_repeat, documents_added, sums_fit, are_few, few_commits, few_sessions, few_syncs}
 use Rattle.fc_spec.specs.Walks.{◌>>=◌, unless, with_fault}
 use Rattle.fc_run.specs.Refusals.{Refused, not_built, refused}
-use Rattle.fc_run.specs.Requests.{Meaning, query_in, filter_of, filters_of, filters_in, facets_of, facets_in, has_limit, request_of, request_of_members}
+use Rattle.fc_run.specs.Requests.{Meaning, query_in, filter_of, filters_of, filters_in, facets_of, facets_in, asks_no_documents, request_of, request_of_members}
 
 -- where it fails, that is as not built
 abbrev pub FailsAsNotBuilt : {A : Type 0} → Result A Refused → Type 0
@@ -60,11 +60,11 @@ module _ (means : Meaning) (s : Schema) where
   facets None = tt
   facets (Some d) = of_option (facets_of s d)
 
-  parts : (text filtered limit named : Option Data) → FailsAsNotBuilt {A = Request} (query_in means text >>= λ q. filters_in means filtered >>= λ fs. unless (has_limit limit) not_built >>= λ u. facets_in s named >>= λ nodes. Ok (record { query = q; filters = fs; nodes = nodes }))
+  parts : (text filtered limit named : Option Data) → FailsAsNotBuilt {A = Request} (query_in means text >>= λ q. filters_in means filtered >>= λ fs. unless (asks_no_documents limit) not_built >>= λ u. facets_in s named >>= λ nodes. Ok (record { query = q; filters = fs; nodes = nodes }))
   parts text filtered limit named =
       both (query_in means text) _ (query text) (λ q.
       both (filters_in means filtered) _ (filters filtered) (λ fs.
-      both (unless (has_limit limit) not_built) _ (of_test (has_limit limit)) (λ u.
+      both (unless (asks_no_documents limit) not_built) _ (of_test (asks_no_documents limit)) (λ u.
       both (facets_in s named) _ (facets named) (λ nodes. tt))))
 
   members : (ms : Members) → FailsAsNotBuilt (request_of_members means s ms)

@@ -17,7 +17,7 @@ use Rattle.fc_spec.specs.ValidScripts.{line_asking}
 use Rattle.fc_spec.specs.Walks.{◌>>=◌, unless, with_fault}
 use Rattle.fc_run.specs.Refusals.{Refused, not_built, refused, FirstFault}
 use Rattle.fc_run.specs.Requests.{request_of}
-use Rattle.fc_run.specs.Built.{Meanings, AskedScript, asks_unbuilt, first_unbuilt, unbuilt_behind, unbuilt_in, built_or_all, fault_of, not_built_at, judged, outcome_within}
+use Rattle.fc_run.specs.Built.{Meanings, AskedScript, asks_unbuilt, first_unbuilt, unbuilt_behind, unbuilt_in, request_or_default, fault_of, not_built_at, judged, outcome_within}
 use Rattle.fc_run.specs.ReadSoFar.{AskedLine, ReadSoFar, asked_line, with_asked, at_line, with_rest, one_shard, read_from, read_in}
 use Rattle.fc_run.proofs.AskedCounts.{check_last-asked}
 use Rattle.fc_run.proofs.LineOrder.{Ascend, IsBehind, FailsBehind, numbers_ascend, unbuilt_later, fault_later}
@@ -45,7 +45,7 @@ is_below n k below = grind (arith, nat_tests)
 module _ (m : Meanings) (limits : Limits) (s : Schema) where
   -- what a search asks
   abbrev see : Data → Result Request RequestFault
-  see d = built_or_all (request_of (m s) s d)
+  see d = request_or_default (request_of (m s) s d)
 
   abbrev so_far : List AskedLine → ReadSoFar
   so_far ls = record { limits = limits; schema = s; lines = ls }
@@ -103,7 +103,7 @@ module _ (m : Meanings) (limits : Limits) (s : Schema) where
     search_line : (session : Text) (d : Data) (r : Result Request Refused) → request_of (m s) s d ≡ r → read_on (asked_line (m s) s (asks session d)) ≡ defined_on (asks_unbuilt m s (Ok (asks session d))) (asks session d)
     search_line session d (Ok r) is =
         ap (λ (q : Result Request Refused). read_on (q >>= λ a. Ok (asks session (Ok a)))) is
-        ∙ ap (λ (q : Result Request Refused). read_on (Ok (asks session (built_or_all q)))) (sym is)
+        ∙ ap (λ (q : Result Request Refused). read_on (Ok (asks session (request_or_default q)))) (sym is)
         ∙ built_line (asks session d)
         ∙ ap (λ (q : Result Request Refused). defined_on (is_err q) (asks session d)) (sym is)
     search_line session d (Err e) is =

@@ -43,21 +43,21 @@ abbrev pub unbuilt_behind : Meanings → Numbered → List Numbered → Result S
 unbuilt_behind m l ls (Ok s) = if s.shards == 1 then first_unbuilt m s ls else Some l.0
 unbuilt_behind m l ls (Err e) = None
 
--- the number of the first line that is not built
+-- the number of the first line that is not built: the schema line where it names another number of shards than 1, else the first such search behind it
 abbrev pub unbuilt_in : Meanings → List Numbered → Option ℕ
 unbuilt_in m [] = None
 unbuilt_in m (l ∷ ls) = unbuilt_behind m l ls (schema_on l.1)
 
 -- ---- the outcome
 
--- what is asked, where that is built; else everything, without a facet
-abbrev pub built_or_all : Result Request Refused → Result Request RequestFault
-built_or_all (Ok r) = Ok r
-built_or_all (Err e) = Ok (record { query = all; filters = []; nodes = no_nodes })
+-- the request that was read; a script is taken only where each is built, so what stands here for another is never seen
+abbrev pub request_or_default : Result Request Refused → Result Request RequestFault
+request_or_default (Ok r) = Ok r
+request_or_default (Err e) = Ok (record { query = all; filters = []; nodes = no_nodes })
 
 -- the script with its requests read
 abbrev pub asked : Meanings → Script Data → AskedScript
-asked m S = asking (λ d. built_or_all (request_of (m S.schema) S.schema d)) S
+asked m S = asking (λ d. request_or_default (request_of (m S.schema) S.schema d)) S
 
 abbrev pub fault_of : ScriptFault → FirstFault
 fault_of f = record { line = f.line; fault = refused f.fault }
@@ -65,7 +65,7 @@ fault_of f = record { line = f.line; fault = refused f.fault }
 abbrev pub not_built_at : ℕ → FirstFault
 not_built_at n = record { line = n; fault = not_built }
 
--- the script, where each of its lines is built; else the first line at fault or not built
+-- the script, where each of its lines is built; else the first line at fault or not built: the earlier of the two, and where they are one line it is told as not built either way
 abbrev pub judged : Meanings → Option ℕ → Result (Script Data) ScriptFault → Result AskedScript FirstFault
 judged m None (Ok S) = Ok (asked m S)
 judged m (Some n) (Ok S) = Err (not_built_at n)

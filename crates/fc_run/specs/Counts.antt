@@ -16,7 +16,7 @@ IsLineOf s (commit shard) = IfSome shard (λ n. n < s.shards)
 IsLineOf s sync = Unit {0}
 IsLineOf s (asks session a) = Unit {0}
 
--- there is a sum for each field and a count for each shard, and each is within its limit
+-- there is a sum for each field and a count for each shard; these, the sessions and the sync lines are within their limits
 pub record AreWithin (s : Schema) (c : Counts) : Type 0 where
   pub fields : length c.documents.sums.items ≡ length s.fields
   pub sums : All (λ sum. sum ≤ total_limit) c.documents.sums.items

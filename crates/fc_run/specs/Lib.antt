@@ -13,7 +13,6 @@ pub mod ReadSoFar
 pub mod ReadView
 pub mod Sessions
 pub mod Commits
-pub mod Looking
 pub mod Term
 pub mod Tally
 pub mod Found

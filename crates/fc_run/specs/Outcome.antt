@@ -44,7 +44,7 @@ Leaves Read spelled t = t ≡ []
 Leaves Memory spelled t = IsFront spelled t
 Leaves Write spelled t = IsFront spelled t
 
--- P holds of what a run makes of the bytes, by what query texts mean
+-- P holds of what a run makes of the bytes, by meanings of query texts: there are such, and all make the same of the bytes
 abbrev pub HasOutcome : List ℕ → (Result AskedScript FirstFault → Type 0) → Type 0
 HasOutcome bytes P = (m : Meanings) × AreMeanings m × P (outcome m bytes)
 
@@ -62,7 +62,7 @@ OnDone status spelled P = ⊤
 abbrev pub by_single_index : Replies
 by_single_index r W = exact r (single W)
 
--- the bucket has the count of all documents that match, and each bucket in it at a refined path has that of the places of its path
+-- the bucket has the count of all documents that match, and each bucket in it at a refined path has the count and the statistics of the places of its path
 abbrev pub HasCounts : Request → World → Bucket → Type 0
 HasCounts r W b = IsBucketOf r W at_root (AreFacetsOf r W r.nodes at_root) b
 
@@ -70,7 +70,7 @@ HasCounts r W b = IsBucketOf r W at_root (AreFacetsOf r W r.nodes at_root) b
 abbrev pub IsCountedOutput : AskedScript → Text → Type 0
 IsCountedOutput S t = (reply : Replies) × ((r : Request) (W : World) → IsTrue (outermost_exclusions r.nodes) → HasCounts r W (reply r W)) × IsOutputBy reply S t
 
--- the text is all that is promised of a script's lines
+-- all that is promised of what is written for a script that is taken
 pub record ArePrinted (S : AskedScript) (t : Text) : Type 0 where
   pub output : IsOutput S t
   pub single_index : IsOutputBy by_single_index S t

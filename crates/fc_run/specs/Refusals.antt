@@ -17,12 +17,12 @@ refused not_json = faulty not_json
 refused too_long = faulty too_long
 refused _ = not_built
 
--- with the line, 0 where it is none
+-- why a script is refused, and at which line: 0 where no line is at fault
 pub record FirstFault : Type 0 where
   pub line : ℕ
   pub fault : Refused
 
--- the line of a script refused so, at its n-th line
+-- the line that a script refused at its n-th line writes
 abbrev pub refused_as : ℕ → Refused → Text
 refused_as n not_built = line_of (put (codes "error") (json_string (codes "not-built")) (put (codes "line") (natural_data n) (put (codes "number") (natural_data 0) no_members)))
 refused_as n (faulty fault) = fault_line (record { line = n; fault = fault })

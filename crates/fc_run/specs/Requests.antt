@@ -2,7 +2,7 @@
 use Rattle.std.specs.Prelude.{ℕ, negsuc, List, [], ◌∷◌, codes, Bool, true, false, not, ◌&&◌, ◌||◌, ◌==◌, Option, None, Some, ok_or, option_map, option_and_then, unwrap_or, Result, Ok, if◌then◌else◌}
 use Rattle.std.specs.Ordering.{int_eq}
 use Rattle.serde_json.specs.Data.{Data, array, object, Items, no_items, item, Members, no_members, member}
-use Rattle.serde_json.specs.Find.{get_member, as_number, as_object, as_str, as_i64}
+use Rattle.serde_json.specs.Find.{get, get_member, as_number, as_object, as_str, as_i64}
 use Rattle.fc_spec.specs.Val.{Text, same_text}
 use Rattle.fc_spec.specs.Schema.{Schema, field_named}
 use Rattle.fc_spec.specs.SchemaReading.{member_count, natural_in}
@@ -21,7 +21,7 @@ use Rattle.fc_run.specs.Refusals.{Refused, not_built}
 abbrev pub Meaning : Type 0
 Meaning = Text → Result Query QueryFault
 
--- they are those of the texts for this schema
+-- for each text it is what the text means for this schema
 abbrev pub IsMeaning : Schema → Meaning → Type 0
 IsMeaning s means = (t : Text) → IsReadingOf s t (means t)
 
@@ -54,21 +54,29 @@ is_reserved name = same_text name (codes "count") || same_text name (codes "val"
 abbrev pub is_text : Text → Data → Bool
 is_text t d = unwrap_or (option_map (same_text t) (as_str d)) false
 
+-- an object of so many members
+abbrev pub has_members : ℕ → Data → Bool
+has_members n (object ms) = member_count ms == n
+has_members n _ = false
+
 -- a member of this name has this text
-abbrev pub has_text : Text → Text → Members → Bool
-has_text name t ms = unwrap_or (option_map (is_text t) (get_member name ms)) false
+abbrev pub has_text : (name t : Text) → Data → Bool
+has_text name t d = unwrap_or (option_map (is_text t) (get name d)) false
 
 -- a member of this name is the whole number -1
-abbrev pub has_minus_one : Text → Members → Bool
-has_minus_one name ms = unwrap_or (option_map (int_eq (negsuc 0)) (option_and_then as_i64 (option_and_then as_number (get_member name ms)))) false
+abbrev pub has_minus_one : Text → Data → Bool
+has_minus_one name d = unwrap_or (option_map (int_eq (negsuc 0)) (option_and_then as_i64 (option_and_then as_number (get name d)))) false
 
--- exactly `type` "terms", `field` a field's name, `limit` -1 and `sort` "index"
+-- exactly `type` "terms", `field`, `limit` -1 and `sort` "index"; what the field is stands open
+abbrev pub is_whole_terms : Data → Bool
+is_whole_terms d = has_members 4 d && has_text (codes "type") (codes "terms") d && has_text (codes "sort") (codes "index") d && has_minus_one (codes "limit") d
+
+-- of a field of the schema, under a name that is not taken
 abbrev pub facet_of : Schema → Text → Data → Option Nodes
-facet_of s name (object ms) =
-    if (member_count ms == 4) && has_text (codes "type") (codes "terms") ms && has_text (codes "sort") (codes "index") ms && has_minus_one (codes "limit") ms && not (is_reserved name)
-    then option_map (one_facet name) (option_and_then (field_named s) (option_and_then as_str (get_member (codes "field") ms)))
+facet_of s name d =
+    if is_whole_terms d && not (is_reserved name)
+    then option_map (one_facet name) (option_and_then (field_named s) (option_and_then as_str (get (codes "field") d)))
     else None
-facet_of s name _ = None
 
 -- an object of no facet or of one
 abbrev pub facets_of : Schema → Data → Option Nodes
@@ -112,10 +120,10 @@ filters_in means (Some d) = do
   f ← filter_of means d
   Ok (f ∷ [])
 
--- `limit` is the whole number 0 where it is named
-abbrev pub has_limit : Option Data → Bool
-has_limit None = true
-has_limit (Some d) = unwrap_or (option_map (λ n. n == 0) (natural_in d)) false
+-- no documents are asked for in the reply: `limit` is the whole number 0, or absent
+abbrev pub asks_no_documents : Option Data → Bool
+asks_no_documents None = true
+asks_no_documents (Some d) = unwrap_or (option_map (λ n. n == 0) (natural_in d)) false
 
 -- ---- the request
 
@@ -124,7 +132,7 @@ request_of_members means s ms = do
   _ ← unless (only_names (codes "query" ∷ codes "filter" ∷ codes "limit" ∷ codes "facet" ∷ []) ms) not_built
   q ← query_in means (get_member (codes "query") ms)
   fs ← filters_in means (get_member (codes "filter") ms)
-  _ ← unless (has_limit (get_member (codes "limit") ms)) not_built
+  _ ← unless (asks_no_documents (get_member (codes "limit") ms)) not_built
   nodes ← facets_in s (get_member (codes "facet") ms)
   Ok (record { query = q; filters = fs; nodes = nodes })
 

@@ -8,7 +8,7 @@ use Rattle.fc_spec.specs.Val.{val_cmp, same_val}
 use Rattle.fc_run.specs.Term.{term_view}
 use Rattle.fc_run.specs.declared.search.term.Term.{Term}
 
--- a `Tally`, since an alias has no name here
+-- the code's type `Tally`, written out
 abbrev pub Tally : Type 0
 Tally = BTreeMap Term ℕ
 

@@ -1,21 +1,14 @@
 // Looking into the JSON of a request.
 ghost use Rattle.std.specs.Prelude.{◌≡◌};
 ghost use Rattle.serde_json.specs.View.{view};
-ghost use Rattle.fc_spec.specs.Val.{same_text};
-ghost use Rattle.fc_run.specs.Looking.{has_members as counts, text_at, minus_one_at};
+ghost use Rattle.fc_run.specs.Requests as form;
 
+use crate::script::is_same;
 use serde_json::Value;
-
-/// The two texts are one.
-pub(crate) fn is_same_text(a: &str, b: &str) -> bool
-    ensures { result ≡ same_text a.now b.now }
-{
-    a == b
-}
 
 /// Whether it is an object of so many members.
 pub(crate) fn has_members(value: &Value, count: usize) -> bool
-    ensures { result ≡ counts count (view value.now) }
+    ensures { result ≡ form.has_members count (view value.now) }
 {
     match value.as_object() {
         Some(members) => members.len() == count,
@@ -25,17 +18,17 @@ pub(crate) fn has_members(value: &Value, count: usize) -> bool
 
 /// Whether an object's member of this name is this text.
 pub(crate) fn has_text(value: &Value, name: &str, text: &str) -> bool
-    ensures { result ≡ text_at name.now text.now (view value.now) }
+    ensures { result ≡ form.has_text name.now text.now (view value.now) }
 {
     value
         .get(name)
         .and_then(Value::as_str)
-        .is_some_and(|found| is_same_text(text, found))
+        .is_some_and(|found| is_same(text, found))
 }
 
 /// Whether an object's member of this name is the whole number -1.
 pub(crate) fn has_minus_one(value: &Value, name: &str) -> bool
-    ensures { result ≡ minus_one_at name.now (view value.now) }
+    ensures { result ≡ form.has_minus_one name.now (view value.now) }
 {
     value.get(name).and_then(Value::as_i64) == Some(-1)
 }

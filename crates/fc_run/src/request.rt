@@ -6,15 +6,14 @@ ghost use Rattle.fc_base.specs.Answers.{Answers};
 ghost use Rattle.fc_query.specs.FilterView.{filter_view};
 ghost use Rattle.fc_query.specs.QueryView.{query_view};
 ghost use Rattle.fc_run.specs.Fitting.{IsValidRequest};
-ghost use Rattle.fc_run.specs.Looking.{is_whole_terms as whole_terms_of_all};
 ghost use Rattle.fc_run.specs.Refusals.{not_built};
 ghost use Rattle.fc_run.specs.Requests as form;
 ghost use Rattle.fc_run.specs.Requests.{IsMeaning, Meaning};
 ghost use Rattle.fc_run.specs.View.{facets_view, refused_view, request_view};
 
 use crate::fault::Fault;
-use crate::looking::{has_members, has_minus_one, has_text, is_same_text};
-use crate::script::{has_only, member};
+use crate::looking::{has_members, has_minus_one, has_text};
+use crate::script::{has_only, is_same, member};
 use fc_base::{FieldId, Name, Refusal, Schema};
 use fc_query::{Filter, Query, parse, read_filter};
 use fc_spec::query_texts_have_one_meaning;
@@ -100,9 +99,9 @@ fn filters_in(
     }
 }
 
-// Whether the limit is the whole number 0, where one is named.
-fn has_limit(json: Option<&Value>) -> bool
-    ensures { result ≡ form.has_limit (option_map (λ json. view json.now) json.entry) }
+// Whether no documents are asked for: the limit is the whole number 0, or absent.
+fn asks_no_documents(json: Option<&Value>) -> bool
+    ensures { result ≡ form.asks_no_documents (option_map (λ json. view json.now) json.entry) }
 {
     match json {
         Some(json) => json.as_u64() == Some(0),
@@ -114,12 +113,12 @@ fn has_limit(json: Option<&Value>) -> bool
 fn is_reserved(name: &str) -> bool
     ensures { result ≡ form.is_reserved name.now }
 {
-    is_same_text(name, "count") || is_same_text(name, "val")
+    is_same(name, "count") || is_same(name, "val")
 }
 
 /// Whether it is a terms facet of all values in index order; its field is not looked at.
 fn is_whole_terms(facet: &Value) -> bool
-    ensures { result ≡ whole_terms_of_all (view facet.now) }
+    ensures { result ≡ form.is_whole_terms (view facet.now) }
 {
     has_members(facet, 4)
         && has_text(facet, "type", "terms")
@@ -192,7 +191,7 @@ fn request_of(
     }
     let query = query_in(alloc, schema, member(members, "query"))?;
     let filters = filters_in(alloc, schema, member(members, "filter"))?;
-    if !has_limit(member(members, "limit")) {
+    if !asks_no_documents(member(members, "limit")) {
         return Err(Refusal::Fault(Fault::NotBuilt));
     }
     let facet = facet_in(alloc, schema, member(members, "facet"))?;

@@ -16,5 +16,5 @@ mod sessions;
 mod tests;
 
 pub(crate) use asked::Line;
-pub(crate) use members::{has_only, member};
+pub(crate) use members::{has_only, is_same, member};
 pub(crate) use read::{Script, read_script};

@@ -119,7 +119,8 @@ fn long_scripts(rt: HostRuntime) -> Result<(), Fail> {
 // schema of one shard; `+` and the members of a document, whose id is the number of its add; `!`, a commit;
 // `-`, a sync; `?`, a session and a request, in which `@F` is a facet of every value of F in index order; `=`,
 // what the search ahead of it prints: its generation, its session and its facets; `*`, what the run prints
-// in place of all these: the name of a refusal, its line and its number. Any other line is a line of the script.
+// in place of all these: the name of a refusal, its line and its number; `~`, a blank line. Any other line is one
+// of the script.
 const RUNS: &str = r##"
 S "cat":"string"
 
