@@ -249,7 +249,12 @@ fn lines_are_kept(rt: HostRuntime) -> Result<(), Fail> {
             Line::Commit(Some(shard)) => write!(shown, " commit {shard}")?,
             Line::Sync => shown.push_str(" sync")?,
             Line::Search(session, request) => {
-                write!(shown, " search {} {}", session.text(), request.filters.len())?;
+                write!(
+                    shown,
+                    " search {} {}",
+                    session.text(),
+                    request.filters.len()
+                )?;
             }
         }
     }

@@ -276,7 +276,9 @@ fn written_out(alloc: Global, line: &str, adds: u32) -> Result<String, Fail> {
             format!(in alloc; "{{\"search\":{{\"request\":{request},\"session\":\"{first}\"}}}}")?
         }
         "=" => {
-            format!(in alloc; "{{\"facets\":{third},\"generations\":[{first}],\"session\":\"{second}\"}}")?
+            format!(in alloc;
+                "{{\"facets\":{third},\"generations\":[{first}],\"session\":\"{second}\"}}"
+            )?
         }
         "*" => {
             format!(in alloc; "{{\"error\":\"{first}\",\"line\":{second},\"number\":{third}}}")?
@@ -384,7 +386,11 @@ fn requests(rt: HostRuntime) -> Result<(), Fail> {
             assert_eq!(rt; status, Status::Done, "{row}");
         } else {
             assert_eq!(rt; status, Status::Script, "{row}");
-            assert_eq!(rt; written.as_str(), "{\"error\":\"not-built\",\"line\":2,\"number\":0}\n", "{row}");
+            assert_eq!(rt;
+                written.as_str(),
+                "{\"error\":\"not-built\",\"line\":2,\"number\":0}\n",
+                "{row}"
+            );
         }
     }
     Ok(())
