@@ -61,4 +61,4 @@ same_lines single [] i = refl
 same_lines single (line.Add shard block ∷ ls) i = same_lines single ls (indexed_after i (line_view (line.Add shard block)))
 same_lines single (line.Commit shard ∷ ls) i = same_lines single ls (indexed_after i (line_view (line.Commit shard)))
 same_lines single (line.Sync ∷ ls) i = same_lines single ls i
-same_lines single (line.Search session r ∷ ls) i = λ j. reply_line (same_reply single r (joined i.committed) j) (length i.committed ∷ []) session ++ same_lines single ls i j
+same_lines single (line.Search session r ∷ ls) i = λ j. reply_line (same_reply single r.value (joined i.committed) j) (length i.committed ∷ []) session ++ same_lines single ls i j

@@ -19,7 +19,7 @@ pub record IsValidRequest (s : Schema) (r : Request) : Type 0 where
 
 -- the request of a search is valid
 abbrev pub IsAskedOf : Schema → Line → Type 0
-IsAskedOf s (line.Search session r) = IsValidRequest s r
+IsAskedOf s (line.Search session r) = IsValidRequest s r.value
 IsAskedOf s _ = Unit {0}
 
 -- for each field whether it holds texts: the query and the filters fit, and the facet's field is there

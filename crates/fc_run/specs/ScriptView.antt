@@ -55,7 +55,7 @@ abbrev pub line_view : code.Line → AskedLine
 line_view (line.Add shard block) = add shard (block_view block)
 line_view (line.Commit shard) = commit shard
 line_view line.Sync = sync
-line_view (line.Search session request) = asks session (Ok (request_view request))
+line_view (line.Search session request) = asks session (Ok (request_view request.value))
 
 -- the lines that are left and say something, each with its number
 abbrev pub lines_left : Left → List Numbered

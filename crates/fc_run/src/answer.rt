@@ -50,10 +50,13 @@ pub(crate) fn too_long(alloc: Global) -> Result<Answer, WantMemory>
 }
 
 /// The answer to the script that the bytes spell.
-pub(crate) fn answer_to(alloc: Global, bytes: &[u8]) -> Result<Answer, WantMemory>
-    ensures { (m : Meanings) → AreMeanings m → IfOk result (IsAnswer (outcome m bytes.now)) }
+/// The bytes are let go before the lines are run.
+pub(crate) fn answer_to(alloc: Global, bytes: Vec<u8>) -> Result<Answer, WantMemory>
+    ensures { (m : Meanings) → AreMeanings m → IfOk result (IsAnswer (outcome m bytes.items)) }
 {
-    match read_script(alloc, SCRIPT_LIMITS, bytes) {
+    let read = read_script(alloc, SCRIPT_LIMITS, &bytes);
+    drop(bytes);
+    match read {
         Ok(script) => Ok(Answer::Lines(reply_lines(alloc, script)?)),
         Err(Refusal::Memory) => Err(WantMemory),
         Err(Refusal::Fault(refusal)) => Ok(Answer::Fault(refused_line(alloc, refusal)?)),

@@ -77,7 +77,7 @@ pub fn run<S: Source, K: Sink>(
         return Status::Usage;
     }
     match read_all(alloc, source, SCRIPT_LIMIT) {
-        Ok(AllRead::Bytes(bytes)) => give(sink, &answer_to(alloc, &bytes)),
+        Ok(AllRead::Bytes(bytes)) => give(sink, &answer_to(alloc, bytes)),
         Ok(AllRead::TooLong) => give(sink, &too_long(alloc)),
         Ok(AllRead::ReadFault) => Status::Read,
         Err(WantMemory) => Status::Memory,

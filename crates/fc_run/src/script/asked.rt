@@ -1,5 +1,7 @@
 // Lines whose requests are read.
 ghost use Rattle.std.specs.Prelude.{IfOk};
+ghost use Rattle.serde_json.specs.View.{view};
+ghost use Rattle.fc_spec.specs.Script.{asks};
 ghost use Rattle.fc_base.specs.Answers.{Answers};
 ghost use Rattle.fc_run.specs.Counts.{IsLineOf};
 ghost use Rattle.fc_run.specs.Fitting.{IsAskedOf};
@@ -13,6 +15,7 @@ use crate::fault::Fault;
 use crate::request::{Request, read_request};
 use fc_base::{Name, Refusal, Schema};
 use fc_docs::Block;
+use serde_json::Value;
 use std::alloc::Global;
 
 /// A line after the schema.
@@ -25,7 +28,24 @@ pub(crate) enum Line {
     /// The end of a phase.
     Sync,
     /// A session's search, and what it asks.
-    Search(Name, Request),
+    Search(Name, Box<Request>),
+}
+
+// A session's search, with its request read.
+fn search_of(
+    alloc: Global,
+    schema: &Schema,
+    session: &str,
+    request: &Value,
+) -> Result<Line, Refusal<Fault>>
+    ensures answer { (means : Meaning) → IsMeaning schema.now means → Answers line_view refused_view result
+        (asked_line means schema.now (asks session.now (view request.now))) }
+    ensures valid { IfOk result (λ line. IsLineOf schema.now (line_view line)) }
+    ensures fits { IfOk result (IsAskedOf schema.now) }
+{
+    let session = Name::new(alloc, session)?;
+    let request = read_request(alloc, schema, request)?;
+    Ok(Line::Search(session, Box::new(alloc, request)?))
 }
 
 /// What a line says, with its request read, where that is built.
@@ -40,13 +60,10 @@ pub(crate) fn asked_line(
     ensures valid { IfOk result (λ line. IsLineOf schema.now (line_view line)) }
     ensures fits { IfOk result (IsAskedOf schema.now) }
 {
-    Ok(match said {
-        Said::Add(shard, block) => Line::Add(shard, block),
-        Said::Commit(shard) => Line::Commit(shard),
-        Said::Sync => Line::Sync,
-        Said::Search(session, request) => Line::Search(
-            Name::new(alloc, session)?,
-            read_request(alloc, schema, request)?,
-        ),
-    })
+    match said {
+        Said::Add(shard, block) => Ok(Line::Add(shard, block)),
+        Said::Commit(shard) => Ok(Line::Commit(shard)),
+        Said::Sync => Ok(Line::Sync),
+        Said::Search(session, request) => search_of(alloc, schema, session, request),
+    }
 }

@@ -1,6 +1,3 @@
-use Rattle.std.proofs.Common.{IfOk, subst}
-use Rattle.fc_run.specs.Built.{outcome, AreMeanings, Meanings}
-use Rattle.fc_run.specs.Outcome.{IsAnswer}
 use Rattle.fc_run.proofs.Leaving.{left_of_all, left_of_many, left_by_usage, left_by_read, left_by_memory}
 use Rattle.fc_run.proofs.top.run.Goals as goal
 
@@ -19,17 +16,17 @@ returns-then-words-ne1-clause-counts g c =
 pub returns-in-Ok-Bytes-clause-leaves : goal.returns-in-Ok-Bytes-clause-leaves
 returns-in-Ok-Bytes-clause-leaves g c =
     (left_of_all c.query_texts_have_one_meaning.ensures c.give.result c.answer_to.result c.in-Ok-Bytes.bytes.items (g.S.Source.left c.args.source.now) (g.K.Sink.written c.args.sink.now) (g.K.Sink.written c.give.new.sink) (rw c.in-Ok-Bytes.field-0-is at c.in-Ok-Bytes.ensures.whole)
-    (subst (λ bs. (m : Meanings) → AreMeanings m → IfOk c.answer_to.result (IsAnswer (outcome m bs))) c.deref.ensures.value c.answer_to.ensures) c.give.ensures.ends).leaves
+    c.answer_to.ensures c.give.ensures.ends).leaves
 
 pub returns-in-Ok-Bytes-clause-single_index : goal.returns-in-Ok-Bytes-clause-single_index
 returns-in-Ok-Bytes-clause-single_index g c =
     (left_of_all c.query_texts_have_one_meaning.ensures c.give.result c.answer_to.result c.in-Ok-Bytes.bytes.items (g.S.Source.left c.args.source.now) (g.K.Sink.written c.args.sink.now) (g.K.Sink.written c.give.new.sink) (rw c.in-Ok-Bytes.field-0-is at c.in-Ok-Bytes.ensures.whole)
-    (subst (λ bs. (m : Meanings) → AreMeanings m → IfOk c.answer_to.result (IsAnswer (outcome m bs))) c.deref.ensures.value c.answer_to.ensures) c.give.ensures.ends).single_index
+    c.answer_to.ensures c.give.ensures.ends).single_index
 
 pub returns-in-Ok-Bytes-clause-counts : goal.returns-in-Ok-Bytes-clause-counts
 returns-in-Ok-Bytes-clause-counts g c =
     (left_of_all c.query_texts_have_one_meaning.ensures c.give.result c.answer_to.result c.in-Ok-Bytes.bytes.items (g.S.Source.left c.args.source.now) (g.K.Sink.written c.args.sink.now) (g.K.Sink.written c.give.new.sink) (rw c.in-Ok-Bytes.field-0-is at c.in-Ok-Bytes.ensures.whole)
-    (subst (λ bs. (m : Meanings) → AreMeanings m → IfOk c.answer_to.result (IsAnswer (outcome m bs))) c.deref.ensures.value c.answer_to.ensures) c.give.ensures.ends).counts
+    c.answer_to.ensures c.give.ensures.ends).counts
 
 pub returns-in-Ok-TooLong-clause-leaves : goal.returns-in-Ok-TooLong-clause-leaves
 returns-in-Ok-TooLong-clause-leaves g c =

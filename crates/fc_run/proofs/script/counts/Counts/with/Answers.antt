@@ -66,7 +66,7 @@ returns-else-syncs-ge-SYNC_LIMIT c = λ limits lines are.
 
 pub returns-then-not-branch : goal.returns-then-not-branch
 returns-then-not-branch c = λ limits lines are.
-    rw c.in-Search.is (search_fits limits c.args.schema.now lines c.args.self are c.in-Search.session (Ok (request_view c.in-Search.field-1)) false (sym c.if-not-branch.true ∙ c.in_ok-add_session-in-Search.ensures.few), tt)
+    rw c.in-Search.is (search_fits limits c.args.schema.now lines c.args.self are c.in-Search.session (Ok (request_view c.in-Search.field-1.value)) false (sym c.if-not-branch.true ∙ c.in_ok-add_session-in-Search.ensures.few), tt)
 
 pub returns-else-not-branch : goal.returns-else-not-branch
 returns-else-not-branch c = λ limits lines are.
@@ -74,6 +74,6 @@ returns-else-not-branch c = λ limits lines are.
     let few = sym yes ∙ c.in_ok-add_session-in-Search.ensures.few in
     let now = c.in_ok-add_session-in-Search.ensures.sessions yes in
     rw c.in-Search.is (
-      search_fits limits c.args.schema.now lines c.args.self are c.in-Search.session (Ok (request_view c.in-Search.field-1)) true few,
-      with_search limits c.args.schema.now lines c.args.self are c.in-Search.session (Ok (request_view c.in-Search.field-1)) _ now (rw now (grind (arith, nat_tests))),
+      search_fits limits c.args.schema.now lines c.args.self are c.in-Search.session (Ok (request_view c.in-Search.field-1.value)) true few,
+      with_search limits c.args.schema.now lines c.args.self are c.in-Search.session (Ok (request_view c.in-Search.field-1.value)) _ now (rw now (grind (arith, nat_tests))),
     )
