@@ -1,10 +1,10 @@
 -- The batches of a shard are made from the lines up to their commits.
-use Rattle.std.proofs.Common.{◌≡◌, ℕ, zero, suc, ◌+◌, ◌<◌, ◌≤◌, List, [], ◌∷◌, ◌++◌, map, take, Bool, true, false, cond, ◌==◌, count_by, Option, None, Some, refl, sym, ◌∙◌, ap, arith, append-nil}
+use Rattle.std.proofs.Common.{◌≡◌, ℕ, zero, suc, ◌+◌, ◌<◌, ◌≤◌, List, [], ◌∷◌, ◌++◌, map, take, true, false, cond, ◌==◌, count_by, Option, None, refl, sym, ◌∙◌, ap, arith, append-nil}
 use Rattle.std.specs.List.{cons_option, range_with_len}
 use Rattle.std.proofs.lemmas.Bool.{eq-eqb, ne_eqb}
 use Rattle.std.proofs.lemmas.List.FromFn.{take-map-range_with_len, map-range_with_len_more}
 use Rattle.std.proofs.lemmas.List.Sums.{sum_by-append}
-use Rattle.fc_spec.specs.Document.{Block, Batch}
+use Rattle.fc_spec.specs.Document.{Block}
 use Rattle.fc_spec.specs.Lists.{numbers_below}
 use Rattle.fc_spec.specs.Script.{Line, commits_shard, added_to, batch_of, stream}
 use Rattle.fc_run.proofs.NumberedLines.{counted, counted_more, walk, walked, walked_all, walked_more, walk-append, one_more, filter_map_numbered}

@@ -1,5 +1,5 @@
 -- What a search asks of an index, and what a commit asks of it.
-use Rattle.std.proofs.Common.{◌≡◌, ℕ, ◌+◌, ◌<◌, ◌≤◌, List, [], ◌∷◌, ◌++◌, length, map, All, Bool, Option, None, Some, IfSome, sym, ap, subst, arith, length-append}
+use Rattle.std.proofs.Common.{◌≡◌, ◌+◌, ◌<◌, ◌≤◌, List, [], ◌∷◌, ◌++◌, length, All, Option, None, Some, IfSome, sym, ap, subst, arith, length-append}
 use Rattle.std.proofs.lemmas.List.{length-map}
 use Rattle.std.proofs.lemmas.List.Concat.{flat_map-append}
 use Rattle.std.proofs.lemmas.List.Elements.{All-cons, All-nil, All-head, All-tail, All-weaker}
@@ -13,7 +13,7 @@ use Rattle.fc_query.specs.QueryView.{query_view}
 use Rattle.fc_domain.specs.FieldsFit.{FitsFields}
 use Rattle.fc_domain.proofs.SchemaFits.{fields_fit, texts_held}
 use Rattle.fc_run.specs.Fitting.{AreDifferentIn, Fits, IsValidRequest}
-use Rattle.fc_run.specs.Running.{Indexed, blocks_in, shard_view, HasKinds, IsIndexOf}
+use Rattle.fc_run.specs.Running.{blocks_in, shard_view, HasKinds, IsIndexOf}
 use Rattle.fc_run.specs.declared.request.Facet.{Facet}
 use Rattle.fc_run.specs.declared.request.Request.{Request}
 use Rattle.fc_run.specs.declared.shard.Shard.{Shard}

@@ -1,13 +1,11 @@
 -- What a run leaves, from the answer to its script and from how writing it ended.
-use Rattle.std.proofs.Common.{◌≡◌, ℕ, ◌<◌, nat_lt, List, [], ◌++◌, length, Bool, true, false, Option, None, Some, Ok, Err, Result, IfOk, IfSome, inl, inr, subst, refl, sym, ◌∙◌, ap, arith, append-nil, length-append}
+use Rattle.std.proofs.Common.{◌≡◌, ℕ, ◌<◌, List, [], ◌++◌, length, false, Option, None, Some, Ok, Err, Result, IfOk, IfSome, inl, inr, subst, refl, sym, ◌∙◌, ap, arith, append-nil, length-append}
 use Rattle.std.specs.Prelude.{nat_le}
 use Rattle.std.proofs.lemmas.Bool.{lt-leb, le-ltb}
 use Rattle.std.specs.Io.KnownBytes.{Appends}
-use Rattle.serde_json.specs.Data.{Data}
 use Rattle.fc_spec.specs.Val.{Text}
 use Rattle.fc_spec.specs.Outputs.{IsOutputBy}
 use Rattle.fc_spec.specs.QueryReadingLaw.{HasOneReading}
-use Rattle.fc_spec.specs.Script as script
 use Rattle.fc_spec.specs.ScriptFault.{ScriptFault, too_long}
 use Rattle.fc_spec.specs.ScriptReading.{numbered_lines, script_limit, script_of, script_of_lines}
 use Rattle.fc_spec.specs.ScriptTotals.{script_limits}

@@ -1,5 +1,5 @@
 -- Query texts have meanings, and no others.
-use Rattle.std.proofs.Common.{◌≡◌, ℕ, List, refl, ap}
+use Rattle.std.proofs.Common.{◌≡◌, refl, ap}
 use Rattle.fc_spec.specs.QueryReadingLaw.{HasOneReading}
 use Rattle.fc_run.specs.Built.{AreMeanings, Meanings, outcome}
 use Rattle.fc_run.specs.Outcome.{HasOneOutcome}

@@ -1,23 +1,22 @@
 -- What the lines of a script write, one after another, is an output of the script.
-use Rattle.std.proofs.Common.{◌≡◌, ℕ, ◌<◌, ◌≤◌, List, [], ◌∷◌, ◌++◌, length, map, take, Bool, true, false, cond, ◌==◌, count_by, Option, None, Some, Result, Ok, Err, All, slice_index, refl, sym, ◌∙◌, ap, subst, arith, append-nil}
+use Rattle.std.proofs.Common.{◌≡◌, ℕ, ◌<◌, ◌≤◌, List, [], ◌∷◌, ◌++◌, length, map, true, cond, ◌==◌, Option, None, Some, Result, Ok, Err, All, slice_index, refl, sym, ◌∙◌, ap, subst, arith, append-nil}
 use Rattle.std.specs.List.{cons_option}
 use Rattle.std.proofs.lemmas.Bool.{eq-eqb}
 use Rattle.std.proofs.lemmas.List.Elements.{All-head, All-tail}
 use Rattle.std.proofs.lemmas.List.FromFn.{length-map-range_with_len}
 use Rattle.fc_spec.specs.Val.{Text}
 use Rattle.fc_spec.specs.Lists.{joined, numbers_below}
-use Rattle.fc_spec.specs.Document.{Block, Batch}
 use Rattle.fc_spec.specs.Request.{Request}
 use Rattle.fc_spec.specs.RequestFault.{RequestFault}
 use Rattle.fc_spec.specs.Schema.{Schema}
 use Rattle.fc_spec.specs.Script.{add, commit, sync, asks, is_sync, commits_shard, added_to, batch_of, stream, generation, world}
-use Rattle.fc_spec.specs.Phases.{Search, search_at, searches}
-use Rattle.fc_spec.specs.Lines.{reply_line, error_line}
+use Rattle.fc_spec.specs.Phases.{search_at}
+use Rattle.fc_spec.specs.Lines.{reply_line}
 use Rattle.fc_spec.specs.Outputs.{Seen, Replies, AreLinesOf, IsOutputBy}
 use Rattle.fc_run.specs.Built.{AskedScript}
 use Rattle.fc_run.specs.Counts.{IsLineOf}
 use Rattle.fc_run.specs.ReadSoFar.{AskedLine}
-use Rattle.fc_run.specs.Running.{Indexed, nothing, indexed_after, line_text, lines_text}
+use Rattle.fc_run.specs.Running.{Indexed, nothing, indexed_after, lines_text}
 use Rattle.fc_run.proofs.NumberedLines.{counted, counted_more, moved, one_more, walk, filter_map_numbered}
 use Rattle.fc_run.proofs.BatchesSoFar.{commits_in, stream_front, stream_commit, waiting_commit, stream_other, waiting_other}
 use Rattle.fc_run.proofs.LegalNumbers.{phase_behind, AreUpTo, up_to_more, up_to_push, legal_here}

@@ -287,6 +287,12 @@ fn written_out(alloc: Global, line: &str, adds: u32) -> Result<String, Fail> {
     })
 }
 
+fn push_line(lines: &mut String, line: &str) -> Result<(), Fail> {
+    lines.push_str(line)?;
+    lines.push('\n')?;
+    Ok(())
+}
+
 #[test]
 fn runs(rt: HostRuntime) -> Result<(), Fail> {
     let alloc = rt.alloc();
@@ -298,12 +304,11 @@ fn runs(rt: HostRuntime) -> Result<(), Fail> {
         if !line.is_empty() {
             adds = adds.wrapping_add(u32::from(line.starts_with('+')));
             let text = written_out(alloc, line, adds)?;
-            let list = match line.as_bytes()[0] {
-                b'=' | b'*' => &mut wanted,
-                _ => &mut script,
-            };
-            list.push_str(text.as_str())?;
-            list.push('\n')?;
+            if line.starts_with('=') || line.starts_with('*') {
+                push_line(&mut wanted, text.as_str())?;
+            } else {
+                push_line(&mut script, text.as_str())?;
+            }
         } else if !script.is_empty() {
             let (status, written) = outcome(alloc, script.as_bytes())?;
             let is_refused = wanted.starts_with("{\"error");
