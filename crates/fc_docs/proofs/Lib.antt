@@ -2,6 +2,7 @@ pub mod AbsoluteSums
 pub mod DifferentValues
 pub mod Entries
 pub mod FieldLists
+pub mod FieldPlaces
 pub mod Items
 pub mod MemberFields
 pub mod MemberValues

@@ -20,4 +20,4 @@ absolute_sum d field = absolute_row (values_of d field)
 
 -- the same of the values that are kept
 abbrev pub absolute_kept : FieldValues → ℕ → ℕ
-absolute_kept m field = absolute_row (values_at m field)
+absolute_kept es field = absolute_row (values_at es field)

@@ -1,4 +1,5 @@
 // Documents.
+mod field_values;
 mod sums;
 #[cfg(test)]
 mod tests;
@@ -6,15 +7,12 @@ mod tests;
 ghost use Rattle.std.specs.Prelude.{◌≡◌, ℕ, ◌+◌, ◌-◌, ◌<◌, ◌≤◌, [], All, OnErr, OnOk, length, map, nat_le, replicate, slice_index, slice_set, sum_by, if◌then◌else◌};
 ghost use Rattle.std.specs.Bool.{OnTrue};
 ghost use Rattle.std.specs.List.{list_all, range_with_len};
-ghost use Rattle.std.specs.BTreeMap.{IsOrdered, values};
-ghost use Rattle.std.specs.Ordering.{nat_cmp};
 ghost use Rattle.fc_base.specs.View.{val_view};
 ghost use Rattle.fc_spec.specs.Document.{values_of};
 ghost use Rattle.fc_docs.specs.Sums.{absolute_sum};
 
 use fc_base::{FieldId, Val, WantMemory};
 use std::alloc::Global;
-use std::collections::BTreeMap;
 use std::marker::Model;
 
 /// The values of each field of a schema, seen as the list, by the field's number, of the lists of
@@ -22,19 +20,19 @@ use std::marker::Model;
 #[derive(Debug, Drop)]
 pub struct Document {
     fields: u16,
-    values: BTreeMap<FieldId, Vec<Val>>,
+    values: Vec<(FieldId, Vec<Val>)>,
 }
 
 impl Model for Document {
     ghost use Rattle.std.specs.Prelude.{List};
     ghost use Rattle.fc_spec.specs.Val.{Val};
-    ghost use Rattle.fc_docs.specs.Fields.{EndBelow, document_of};
+    ghost use Rattle.fc_docs.specs.Fields.{AreValuesOf, document_of};
 
     ghost Value = { List (List Val) };
 
-    ghost view = { λ document. document_of document.fields document.values };
+    ghost view = { λ document. document_of document.fields document.values.items };
 
-    ghost invariant = { λ document. EndBelow document.fields document.values };
+    ghost invariant = { λ document. AreValuesOf document.fields document.values.items };
 }
 
 impl Document {
@@ -44,7 +42,7 @@ impl Document {
     {
         Document {
             fields,
-            values: BTreeMap::new(alloc),
+            values: Vec::new(alloc),
         }
     }
 
@@ -52,10 +50,7 @@ impl Document {
     pub fn values(&self, field: FieldId) -> &[Val]
         ensures { map val_view result.now ≡ values_of self.now field.0 }
     {
-        match self.values.get(&field) {
-            Some(values) => values.as_slice(),
-            None => &[],
-        }
+        field_values::values_in(&self.values, field)
     }
 
     /// Makes these the values in a field.
@@ -65,8 +60,7 @@ impl Document {
             (self.new ≡ slice_set self.old field.0 (map val_view values.items)) }
         ensures err { OnErr result (self.new ≡ self.old) }
     {
-        self.values.insert(field, values)?;
-        Ok(())
+        field_values::set_values(&mut self.values, field, values)
     }
 
     /// What is left of the room when each value takes one place, where there is enough.
@@ -95,13 +89,12 @@ impl Document {
     }
 }
 
-fn room_after(fields: &BTreeMap<FieldId, Vec<Val>>, room: u64) -> Option<u64>
-    ensures room { result ≡ (let count = sum_by (λ values. length values.items) (values fields.now) in
+fn room_after(fields: &[(FieldId, Vec<Val>)], room: u64) -> Option<u64>
+    ensures { result ≡ (let count = sum_by (λ entry. length entry.1.items) fields.now in
         if nat_le count room then Some (room - count) else None) }
-    ensures ordered { IsOrdered (λ a b. nat_cmp a.0 b.0) fields.now }
 {
     let mut left = room;
-    for values in fields.values() {
+    for (_, values) in fields {
         left = left.checked_sub(values.len() as u64)?;
     }
     Some(left)

@@ -3,17 +3,18 @@ ghost use Rattle.std.specs.Prelude.{◌≡◌, ℕ, ◌+◌, ◌≤◌, All, Dec
 ghost use Rattle.std.specs.Bool.{OnTrue};
 ghost use Rattle.fc_spec.specs.ScriptTotals.{total_limit};
 ghost use Rattle.fc_base.specs.View.{val_view};
+ghost use Rattle.fc_docs.specs.Fields.{Ascend};
 ghost use Rattle.fc_docs.specs.Sums.{absolute_kept, absolute_row, absolute_value};
 
 use fc_base::{FieldId, Val};
-use std::collections::BTreeMap;
 
 // The most that a sum may be.
 const SUM_LIMIT: u64 = 9_223_372_036_854_775_807;
 
 // Adds the absolute values of each field's integers to the field's sum, and says whether every sum
 // stayed within the limit.
-pub(super) fn add_to_sums(fields: &BTreeMap<FieldId, Vec<Val>>, sums: &mut [u64]) -> bool
+pub(super) fn add_to_sums(fields: &[(FieldId, Vec<Val>)], sums: &mut [u64]) -> bool
+    requires ascending { Ascend 0 fields.now }
     requires within { All (λ sum. sum ≤ total_limit) sums.old }
     requires room { (field : ℕ) → length sums.old ≤ field → absolute_kept fields.now field ≡ 0 }
     ensures fits { Decides result ((field : ℕ) →

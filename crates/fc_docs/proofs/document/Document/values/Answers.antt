@@ -1,13 +1,13 @@
-use Rattle.std.proofs.Common.{refl}
+use Rattle.std.proofs.Common.{ap, sym, ◌∙◌}
+use Rattle.fc_spec.specs.Document.{values_of}
+use Rattle.fc_docs.specs.Fields.{values_at}
 use Rattle.fc_docs.proofs.FieldLists.{values_of-document_of}
 use Rattle.fc_docs.proofs.document.Document.values.Goals as goal
 
-pub returns-in-Some : goal.returns-in-Some
-returns-in-Some c =
-    let at = values_of-document_of c.self.inside.fields c.self.inside.values c.args.field.0 c.self.invariant in
-    rw (← c.self.view_is, at, ← c.in-Some.ensures.value, c.as_slice.ensures.value) refl
-
-pub returns-in-None : goal.returns-in-None
-returns-in-None c =
-    let at = values_of-document_of c.self.inside.fields c.self.inside.values c.args.field.0 c.self.invariant in
-    rw (← c.self.view_is, at, ← c.in-None.ensures.value) refl
+pub returns : goal.returns
+returns c =
+    let kept = c.self.inside.values.items in
+    c.values_in.ensures
+    ∙ ap (λ es. values_at es c.args.field.0) c.deref.ensures.value
+    ∙ sym (values_of-document_of c.self.inside.fields kept c.args.field.0 c.self.invariant.ends)
+    ∙ ap (λ d. values_of d c.args.field.0) c.self.view_is
