@@ -15,7 +15,8 @@ use Rattle.fc_spec.specs.Totals.{documents_of, documents_in, document_total}
 use Rattle.fc_segment.specs.Segmented.{Segmented}
 use Rattle.fc_run.specs.Fitting.{AreDifferentIn}
 use Rattle.fc_run.specs.Found.{asked_values, Finds}
-use Rattle.fc_run.specs.PlainReply.{Facet, AreDifferent, asked_counts, root_documents}
+use Rattle.fc_run.specs.PlainReply.{AreDifferent, asked_counts, root_documents}
+use Rattle.fc_script.specs.Requests.{Facet}
 use Rattle.fc_run.specs.Tally.{key_cmp, tally_view, Counts, HasRoom}
 use Rattle.fc_run.specs.declared.search.found.Found.{Found}
 use Rattle.fc_run.proofs.TallyCounts.{HasRoom-start, tally_view-counted}

@@ -12,8 +12,8 @@ use Rattle.fc_spec.specs.Totals.{documents_in}
 use Rattle.fc_run.specs.Found.{asked_values}
 use Rattle.fc_run.specs.PlainReply.{root_documents, values_at}
 use Rattle.fc_run.specs.Tally.{picked_values}
-use Rattle.fc_run.specs.View.{facet_view}
-use Rattle.fc_run.specs.declared.request.Facet.{Facet}
+use Rattle.fc_script.specs.View.{facet_view}
+use Rattle.fc_script.specs.declared.request.facet.Facet.{Facet}
 
 -- what a set picks out of a column are the values of the documents that it picks
 picked_values-column : (field : ℕ) (docs : List Bool) (ds : List Document) → picked_values docs (column_of field ds) ≡ values_at field (items_where_true docs ds)

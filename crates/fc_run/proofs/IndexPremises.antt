@@ -12,10 +12,11 @@ use Rattle.fc_spec.specs.ValidQueries.{IsValidQuery}
 use Rattle.fc_query.specs.QueryView.{query_view}
 use Rattle.fc_domain.specs.FieldsFit.{FitsFields}
 use Rattle.fc_domain.proofs.SchemaFits.{fields_fit, texts_held}
-use Rattle.fc_run.specs.Fitting.{AreDifferentIn, Fits, IsValidRequest}
+use Rattle.fc_run.specs.Fitting.{AreDifferentIn, Fits}
+use Rattle.fc_script.specs.ValidRequests.{IsValidRequest}
 use Rattle.fc_run.specs.Running.{blocks_in, shard_view, HasKinds, IsIndexOf}
-use Rattle.fc_run.specs.declared.request.Facet.{Facet}
-use Rattle.fc_run.specs.declared.request.Request.{Request}
+use Rattle.fc_script.specs.declared.request.facet.Facet.{Facet}
+use Rattle.fc_script.specs.declared.request.Request.{Request}
 use Rattle.fc_run.specs.declared.shard.Shard.{Shard}
 use Rattle.fc_run.proofs.GoodBlocks.{blocks_different}
 

@@ -13,8 +13,8 @@ use Rattle.fc_spec.specs.Walks.{◌>>=◌, unless}
 use Rattle.fc_base.specs.declared.error.WantMemory.{WantMemory}
 use Rattle.fc_io.specs.AllRead.{TakesSome}
 use Rattle.fc_io.specs.WriteEnd.{AppendsFront}
-use Rattle.fc_run.specs.Refusals.{FirstFault}
-use Rattle.fc_run.specs.Built.{AreMeanings, AskedScript, Meanings, judged, outcome, unbuilt_in}
+use Rattle.fc_script.specs.Refusals.{FirstFault}
+use Rattle.fc_script.specs.Built.{AreMeanings, AskedScript, Meanings, judged, outcome, unbuilt_in}
 use Rattle.fc_run.specs.Outcome.{by_single_index, Ends, HasOutcome, IsAnswer, IsCountedOutput, IsWhole, Leaves, OnDone, too_many}
 use Rattle.fc_run.specs.declared.answer.Answer.{Answer}
 use Rattle.fc_run.specs.declared.answer.Answer.TheVariants.{Lines, Fault}

@@ -19,8 +19,9 @@ use Rattle.fc_spec.specs.Values.{value_places, entries_in}
 use Rattle.fc_spec.specs.Printed.{terms_keys}
 use Rattle.fc_spec.specs.SortingLaw.{PagesAreCuts}
 use Rattle.fc_spec.specs.WithoutLimits.{IsExactWithoutLimits}
-use Rattle.fc_run.specs.Requests.{one_facet}
-use Rattle.fc_run.specs.PlainReply.{built_request, root_documents, documents_with, value_counts, counted_row, counted_reply, IsPlainOnOneShard}
+use Rattle.fc_script.specs.Requests.{one_facet}
+use Rattle.fc_run.specs.PlainReply.{root_documents, documents_with, value_counts, counted_row, counted_reply, IsPlainOnOneShard}
+use Rattle.fc_script.specs.Requests.{built_request}
 use Rattle.fc_run.proofs.PlainPlaces.{documents_at, documents_at-places, flat_map-documents_at, documents_at-filter, filter_true}
 use Rattle.fc_run.proofs.PlainKeys.{every_value, terms_keys_are}
 

@@ -13,11 +13,11 @@ use Rattle.fc_spec.specs.Totals.{document_total, value_count}
 use Rattle.fc_spec.specs.ValidScripts.{IsWithin}
 use Rattle.fc_spec.specs.Walks.{◌>>=◌, unless}
 use Rattle.fc_base.specs.declared.error.WantMemory.{WantMemory}
-use Rattle.fc_run.specs.Counts.{IsLineOf}
+use Rattle.fc_script.specs.Counts.{IsLineOf}
 use Rattle.fc_run.specs.Outcome.{by_single_index, ArePrinted}
 use Rattle.fc_run.specs.Running.{nothing, lines_text}
-use Rattle.fc_run.specs.ScriptView.{script_view}
-use Rattle.fc_run.specs.declared.script.read.Script.{Script}
+use Rattle.fc_script.specs.ScriptView.{script_view}
+use Rattle.fc_script.specs.declared.read.Script.{Script}
 use Rattle.fc_run.proofs.ScriptOrder.{all_lines}
 use Rattle.fc_run.proofs.RunningText.{same_lines}
 

@@ -1,7 +1,7 @@
 -- Query texts have meanings, and no others.
 use Rattle.std.proofs.Common.{◌≡◌, refl, ap}
 use Rattle.fc_spec.specs.QueryReadingLaw.{HasOneReading}
-use Rattle.fc_run.specs.Built.{AreMeanings, Meanings, outcome}
+use Rattle.fc_script.specs.Built.{AreMeanings, Meanings, outcome}
 use Rattle.fc_run.specs.Outcome.{HasOneOutcome}
 
 abbrev pub meanings : HasOneReading → Meanings

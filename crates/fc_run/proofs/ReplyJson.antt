@@ -11,8 +11,8 @@ use Rattle.fc_spec.specs.Reply.{bucket, no_facets, many}
 use Rattle.fc_spec.specs.Json.{natural_data, bucket_data, listed_items, put_row}
 use Rattle.fc_run.specs.PlainReply.{counted_row, reply_with}
 use Rattle.fc_run.specs.Term.{term_view}
-use Rattle.fc_run.specs.View.{facet_view}
-use Rattle.fc_run.specs.declared.request.Facet.{Facet}
+use Rattle.fc_script.specs.View.{facet_view}
+use Rattle.fc_script.specs.declared.request.facet.Facet.{Facet}
 use Rattle.fc_run.specs.declared.search.term.Term.{Term}
 
 -- the bucket of an entry

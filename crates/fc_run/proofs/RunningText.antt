@@ -12,14 +12,14 @@ use Rattle.fc_spec.specs.ScriptTotals.{added}
 use Rattle.fc_spec.specs.Shape.{no_limits, outermost_exclusions}
 use Rattle.fc_spec.specs.WithoutLimits.{IsSingleWithoutLimits}
 use Rattle.fc_run.specs.Outcome.{by_single_index}
-use Rattle.fc_run.specs.PlainReply.{Facet, nodes_of}
-use Rattle.fc_run.specs.ReadSoFar.{AskedLine}
+use Rattle.fc_script.specs.Requests.{Facet, nodes_of}
+use Rattle.fc_script.specs.ReadSoFar.{AskedLine}
 use Rattle.fc_run.specs.Running.{Indexed, indexed_after, blocks_in, line_text, lines_text}
-use Rattle.fc_run.specs.ScriptView.{line_view}
-use Rattle.fc_run.specs.View.{facet_view, request_view}
-use Rattle.fc_run.specs.declared.request.Request.{Request}
-use Rattle.fc_run.specs.declared.script.asked.Line.{Line}
-use Rattle.fc_run.specs.declared.script.asked.Line.TheVariants as line
+use Rattle.fc_script.specs.ScriptView.{line_view}
+use Rattle.fc_script.specs.View.{facet_view, request_view}
+use Rattle.fc_script.specs.declared.request.Request.{Request}
+use Rattle.fc_script.specs.declared.line.asked.Line.{Line}
+use Rattle.fc_script.specs.declared.line.asked.Line.TheVariants as line
 
 -- ---- blocks
 

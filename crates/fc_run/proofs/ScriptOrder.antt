@@ -13,9 +13,9 @@ use Rattle.fc_spec.specs.Script.{add, commit, sync, asks, is_sync, commits_shard
 use Rattle.fc_spec.specs.Phases.{search_at}
 use Rattle.fc_spec.specs.Lines.{reply_line}
 use Rattle.fc_spec.specs.Outputs.{Seen, Replies, AreLinesOf, IsOutputBy}
-use Rattle.fc_run.specs.Built.{AskedScript}
-use Rattle.fc_run.specs.Counts.{IsLineOf}
-use Rattle.fc_run.specs.ReadSoFar.{AskedLine}
+use Rattle.fc_script.specs.Built.{AskedScript}
+use Rattle.fc_script.specs.Counts.{IsLineOf}
+use Rattle.fc_script.specs.ReadSoFar.{AskedLine}
 use Rattle.fc_run.specs.Running.{Indexed, nothing, indexed_after, lines_text}
 use Rattle.fc_run.proofs.NumberedLines.{counted, counted_more, moved, one_more, walk, filter_map_numbered}
 use Rattle.fc_run.proofs.BatchesSoFar.{commits_in, stream_front, stream_commit, waiting_commit, stream_other, waiting_other}

@@ -1,26 +1,11 @@
--- What is known of requests that were read, and what a search asks of segments.
+-- What a search asks of segments.
 use Rattle.std.specs.Prelude.{ℕ, ◌<◌, List, Bool, length, All, IfSome}
 use Rattle.fc_spec.specs.Document.{Block}
-use Rattle.fc_spec.specs.Schema.{Schema}
 use Rattle.fc_spec.specs.Totals.{documents_in}
-use Rattle.fc_spec.specs.ValidQueries.{IsValidQuery}
 use Rattle.fc_query.specs.QueryView.{query_view}
 use Rattle.fc_domain.specs.FieldsFit.{FitsFields}
 use Rattle.fc_run.specs.PlainReply.{HaveDifferentValues}
-use Rattle.fc_run.specs.declared.request.Request.{Request}
-use Rattle.fc_run.specs.declared.script.asked.Line.{Line}
-use Rattle.fc_run.specs.declared.script.asked.Line.TheVariants as line
-
--- its query and its filters are valid, and its facet's field is there
-pub record IsValidRequest (s : Schema) (r : Request) : Type 0 where
-  pub query : IsValidQuery s (query_view r.query)
-  pub filters : All (λ f. IsValidQuery s (query_view f.query)) r.filters.items
-  pub facet : IfSome r.facet (λ f. f.field.0 < length s.fields)
-
--- the request of a search is valid
-abbrev pub IsAskedOf : Schema → Line → Type 0
-IsAskedOf s (line.Search session r) = IsValidRequest s r.value
-IsAskedOf s _ = Unit {0}
+use Rattle.fc_script.specs.declared.request.Request.{Request}
 
 -- for each field whether it holds texts: the query and the filters fit, and the facet's field is there
 pub record Fits (texts : List Bool) (r : Request) : Type 0 where

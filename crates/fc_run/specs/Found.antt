@@ -2,7 +2,8 @@
 use Rattle.std.specs.Prelude.{◌≡◌, ◌+◌, List, [], length, Option, None, Some}
 use Rattle.fc_spec.specs.Val.{Val}
 use Rattle.fc_spec.specs.Document.{Document}
-use Rattle.fc_run.specs.PlainReply.{Facet, values_at}
+use Rattle.fc_run.specs.PlainReply.{values_at}
+use Rattle.fc_script.specs.Requests.{Facet}
 use Rattle.fc_run.specs.Tally.{Counts}
 use Rattle.fc_run.specs.declared.search.found.Found.{Found}
 

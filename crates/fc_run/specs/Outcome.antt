@@ -13,8 +13,8 @@ use Rattle.fc_spec.specs.Shape.{outermost_exclusions}
 use Rattle.fc_spec.specs.ScriptFault.{too_long}
 use Rattle.fc_base.specs.declared.error.WantMemory.{WantMemory}
 use Rattle.fc_io.specs.WriteEnd.{AppendsFront}
-use Rattle.fc_run.specs.Refusals.{FirstFault, faulty, refused_line}
-use Rattle.fc_run.specs.Built.{AskedScript, AreMeanings, Meanings, outcome}
+use Rattle.fc_script.specs.Refusals.{FirstFault, faulty, refused_line}
+use Rattle.fc_script.specs.Built.{AskedScript, AreMeanings, Meanings, outcome}
 use Rattle.fc_run.specs.declared.answer.Answer.{Answer}
 use Rattle.fc_run.specs.declared.answer.Answer.TheVariants.{Lines, Fault}
 use Rattle.fc_run.specs.declared.status.Status.{Status}

@@ -1,27 +1,15 @@
 -- The reply to a request that is built, over one shard, by counting documents.
 use Rattle.std.specs.Prelude.{◌≡◌, ℕ, List, [], ◌∷◌, length, map, count_by, ◌≤◌, All, ◌==◌, Option, None, Some, if◌then◌else◌}
 use Rattle.std.specs.List.{filter, flat_map}
-use Rattle.fc_spec.specs.Val.{Text, Val, same_val, has_val, distinct}
+use Rattle.fc_spec.specs.Val.{Val, same_val, has_val, distinct}
 use Rattle.fc_spec.specs.Base.{meets_base}
 use Rattle.fc_spec.specs.Document.{Document, Block, values_of}
 use Rattle.fc_spec.specs.Query.{Query}
-use Rattle.fc_spec.specs.Request.{Filter, Nodes, no_nodes, Request}
+use Rattle.fc_spec.specs.Request.{Filter, Request}
 use Rattle.fc_spec.specs.Totals.{documents_in}
 use Rattle.fc_spec.specs.Reply.{listed, Bucket, bucket, Facets, no_facets, many, Row, no_parts, part}
 use Rattle.fc_spec.specs.Distributed.{distributed}
-use Rattle.fc_run.specs.Requests.{one_facet}
-
--- a facet's name and its field
-abbrev pub Facet : Type 0
-Facet = Text × ℕ
-
-abbrev pub nodes_of : Option Facet → Nodes
-nodes_of None = no_nodes
-nodes_of (Some f) = one_facet f.0 f.1
-
--- a request that is built
-abbrev pub built_request : Query → List Filter → Option Facet → Request
-built_request q filters facet = record { query = q; filters = filters; nodes = nodes_of facet }
+use Rattle.fc_script.specs.Requests.{Facet, built_request}
 
 -- the documents of the root domain
 abbrev pub root_documents : Request → List Block → List Document

@@ -11,7 +11,7 @@ use Rattle.fc_spec.specs.Outputs.{Replies}
 use Rattle.fc_spec.specs.Totals.{document_total}
 use Rattle.fc_spec.specs.ValidBlocks.{IsBlockOf, holds_texts}
 use Rattle.fc_docs.specs.View.{block_view}
-use Rattle.fc_run.specs.ReadSoFar.{AskedLine}
+use Rattle.fc_script.specs.ReadSoFar.{AskedLine}
 use Rattle.fc_run.specs.declared.shard.Shard.{Shard}
 
 -- ---- what a shard has indexed

@@ -2,18 +2,15 @@
 ghost use Rattle.std.specs.Prelude.{◌≡◌, All, Err, IfOk};
 ghost use Rattle.fc_spec.specs.ScriptTotals.{script_limits};
 ghost use Rattle.fc_spec.specs.ValidScripts.{IsWithin};
-ghost use Rattle.fc_run.specs.Built.{outcome, AreMeanings, Meanings};
-ghost use Rattle.fc_run.specs.Counts.{IsLineOf};
-ghost use Rattle.fc_run.specs.Fitting.{IsAskedOf};
+ghost use Rattle.fc_script.specs.Built.{outcome, AreMeanings, Meanings};
+ghost use Rattle.fc_script.specs.Counts.{IsLineOf};
+ghost use Rattle.fc_script.specs.ValidRequests.{IsAskedOf};
 ghost use Rattle.fc_run.specs.Outcome.{ArePrinted, IsAnswer, too_many};
-ghost use Rattle.fc_run.specs.ScriptView.{script_view};
+ghost use Rattle.fc_script.specs.ScriptView.{script_view};
 
-use crate::fault::{Fault, FirstFault};
-use crate::limits::SCRIPT_LIMITS;
-use crate::refusal::refused_line;
 use crate::running::lines_text;
-use crate::script::{Script, read_script};
 use fc_base::{Refusal, WantMemory};
+use fc_script::{Fault, FirstFault, SCRIPT_LIMITS, Script, read_script, refused_line};
 use fc_spec::{refined_paths_are_exact, without_limits};
 use std::alloc::Global;
 

@@ -7,17 +7,17 @@ ghost use Rattle.fc_spec.specs.ScriptTotals.{added};
 ghost use Rattle.fc_spec.specs.Totals.{document_total};
 ghost use Rattle.fc_spec.specs.ValidBlocks.{IsBlockOf};
 ghost use Rattle.fc_docs.specs.View.{block_view};
-ghost use Rattle.fc_run.specs.Fitting.{AreDifferentIn, Fits, IsAskedOf};
+ghost use Rattle.fc_run.specs.Fitting.{AreDifferentIn, Fits};
+ghost use Rattle.fc_script.specs.ValidRequests.{IsAskedOf};
 ghost use Rattle.fc_run.specs.Running.{indexed_after, line_text, lines_text, nothing, search_text, shard_view, with_block, with_commit, HasKinds, IsIndexOf};
-ghost use Rattle.fc_run.specs.ScriptView.{line_view};
-ghost use Rattle.fc_run.specs.View.{request_view};
+ghost use Rattle.fc_script.specs.ScriptView.{line_view};
+ghost use Rattle.fc_script.specs.View.{request_view};
 
-use crate::request::Request;
-use crate::script::Line;
 use crate::search::reply_line;
 use crate::shard::Shard;
 use fc_base::{Name, Schema, WantMemory};
 use fc_docs::Block;
+use fc_script::{Line, Request};
 use std::alloc::Global;
 
 // The one shard of a script, and what its searches have written, as far as the lines were run.
@@ -40,6 +40,7 @@ impl Running {
         }
     }
 
+    // With a block behind the others.
     fn add(self, block: Block) -> Result<Running, WantMemory>
         ensures shard { IfOk result (λ running. shard_view running.shard
             ≡ with_block (shard_view self.shard) (block_view block)) }
@@ -54,6 +55,7 @@ impl Running {
         })
     }
 
+    // With the blocks behind the last commit as one more segment.
     fn commit(self, alloc: Global, schema: &Schema) -> Result<Running, WantMemory>
         requires { IsIndexOf schema.now self.shard }
         ensures shard { IfOk result (λ running. shard_view running.shard

@@ -3,12 +3,12 @@ ghost use Rattle.std.specs.Prelude.{◌≡◌, [], map, IfOk};
 ghost use Rattle.fc_spec.specs.Base.{meets_base};
 ghost use Rattle.fc_spec.specs.Totals.{documents_in};
 ghost use Rattle.fc_run.specs.Fitting.{Fits};
-ghost use Rattle.fc_run.specs.View.{request_view};
+ghost use Rattle.fc_script.specs.View.{request_view};
 
-use crate::request::Request;
 use fc_base::WantMemory;
 use fc_docset::DocSet;
 use fc_domain::matches;
+use fc_script::Request;
 use fc_segment::Segment;
 use std::alloc::Global;
 

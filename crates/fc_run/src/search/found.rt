@@ -7,14 +7,14 @@ ghost use Rattle.fc_run.specs.Fitting.{AreDifferentIn, Fits};
 ghost use Rattle.fc_run.specs.Found.{asked_values, Finds};
 ghost use Rattle.fc_run.specs.PlainReply.{asked_counts, root_documents};
 ghost use Rattle.fc_run.specs.Tally.{Counts, HasRoom, tally_view};
-ghost use Rattle.fc_run.specs.View.{facet_view, request_view};
+ghost use Rattle.fc_script.specs.View.{facet_view, request_view};
 
 use super::columns::tally_column;
 use super::domain::root_domain;
 use super::tally::Tally;
-use crate::request::{Facet, Request};
 use fc_base::WantMemory;
 use fc_docset::DocSet;
+use fc_script::{Facet, Request};
 use fc_segment::Segment;
 use std::alloc::Global;
 use std::collections::BTreeMap;

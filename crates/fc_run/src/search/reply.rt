@@ -12,14 +12,13 @@ ghost use Rattle.fc_run.specs.Fitting.{AreDifferentIn, Fits};
 ghost use Rattle.fc_run.specs.PlainReply.{counted_row, reply_with, IsPlainOnOneShard};
 ghost use Rattle.fc_run.specs.Tally.{tally_view};
 ghost use Rattle.fc_run.specs.Term.{term_view};
-ghost use Rattle.fc_run.specs.View.{facet_view, request_view};
+ghost use Rattle.fc_script.specs.View.{facet_view, request_view};
 
 use super::found::find;
 use super::tally::Tally;
 use super::term::Term;
-use crate::request::{Facet, Request};
-use crate::text_line::text_line;
 use fc_base::{Name, WantMemory};
+use fc_script::{Facet, Request, text_line};
 use fc_segment::Segment;
 use fc_spec::{ranks_are_sorting, without_limits};
 use serde_json::{Value, json};
@@ -33,6 +32,7 @@ fn plain_replies()
     ranks_are_sorting();
 }
 
+// A value of a field.
 fn term_json(alloc: Global, term: Term<'_>) -> Result<Value, WantMemory>
     ensures { IfOk result (λ json. view json ≡ val_data (term_view term.entry)) }
 {
@@ -91,6 +91,7 @@ fn reply_json(
     }
 }
 
+// What the line of a search says.
 fn line_json(
     alloc: Global,
     facets: Value,

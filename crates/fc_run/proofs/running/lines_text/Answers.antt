@@ -3,9 +3,9 @@ use Rattle.std.specs.List.{filter_map}
 use Rattle.std.proofs.lemmas.List.Elements.{All-rest}
 use Rattle.fc_spec.specs.Distributed.{distributed}
 use Rattle.fc_spec.specs.ScriptTotals.{added}
-use Rattle.fc_run.specs.Fitting.{IsAskedOf}
+use Rattle.fc_script.specs.ValidRequests.{IsAskedOf}
 use Rattle.fc_run.specs.Running.{nothing, lines_text, shard_view}
-use Rattle.fc_run.specs.ScriptView.{line_view}
+use Rattle.fc_script.specs.ScriptView.{line_view}
 use Rattle.fc_run.proofs.IndexPremises.{index_now}
 use Rattle.fc_run.proofs.RunningText.{blocks_left, text_left}
 use Rattle.fc_run.proofs.running.lines_text.Goals as goal

@@ -2,9 +2,9 @@ use Rattle.std.proofs.Common.{◌≡◌, ◌++◌, map, All}
 use Rattle.std.specs.List.{filter_map}
 use Rattle.fc_spec.specs.Distributed.{distributed}
 use Rattle.fc_spec.specs.ScriptTotals.{added}
-use Rattle.fc_run.specs.Fitting.{IsAskedOf}
+use Rattle.fc_script.specs.ValidRequests.{IsAskedOf}
 use Rattle.fc_run.specs.Running.{nothing, lines_text, blocks_in, shard_view, HasKinds}
-use Rattle.fc_run.specs.ScriptView.{line_view}
+use Rattle.fc_script.specs.ScriptView.{line_view}
 use Rattle.fc_run.proofs.running.lines_text.Given as goal
 
 abbrev pub invariant-loop-line : goal.invariant-loop-line

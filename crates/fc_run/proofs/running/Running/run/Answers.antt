@@ -1,5 +1,5 @@
 use Rattle.std.proofs.Common.{subst}
-use Rattle.fc_run.specs.Fitting.{IsAskedOf}
+use Rattle.fc_script.specs.ValidRequests.{IsAskedOf}
 use Rattle.fc_run.proofs.IndexPremises.{committed_different, committed_few, segments_fit}
 use Rattle.fc_run.proofs.running.Running.run.Goals as goal
 

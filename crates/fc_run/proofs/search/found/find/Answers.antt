@@ -1,7 +1,7 @@
 use Rattle.std.proofs.Common.{refl, take_all, option_map}
 use Rattle.fc_run.specs.Found.{Finds}
 use Rattle.fc_run.specs.PlainReply.{root_documents}
-use Rattle.fc_run.specs.View.{facet_view, request_view}
+use Rattle.fc_script.specs.View.{facet_view, request_view}
 use Rattle.fc_run.proofs.FoundSegments.{blocks_of, searched_none, next_few, next_room, segment_next, segment_searched, root_different, counts_found}
 use Rattle.fc_run.proofs.search.found.find.Goals as goal
 

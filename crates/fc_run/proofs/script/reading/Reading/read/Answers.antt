@@ -1,5 +1,0 @@
-use Rattle.std.proofs.Common.{rules}
-use Rattle.fc_run.proofs.script.reading.Reading.read.Goals as goal
-
-pub returns-clause-answer : goal.returns-clause-answer
-returns-clause-answer c = λ means is. search (rules, c.with_text.ensures.answer means is)

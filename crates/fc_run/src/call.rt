@@ -1,0 +1,88 @@
+// From the bytes of a script to the bytes of its answer.
+ghost use Rattle.std.specs.Prelude.{◌≡◌, ◌↔◌, ◌≤◌, false, IfSome};
+ghost use Rattle.std.specs.Io.KnownBytes.{Appends, IsAtEnd};
+ghost use Rattle.fc_spec.specs.Val.{Text};
+ghost use Rattle.fc_spec.specs.Outputs.{IsOutputBy};
+ghost use Rattle.fc_io.specs.Faults.{Rose};
+ghost use Rattle.fc_run.specs.Outcome.{by_single_index, takes, Ends, HasOutcome, IfDone, IsCountedOutput, Leaves, OnDone, OnRead, OnUsage, OnWrite};
+ghost use Rattle.fc_run.specs.declared.status.Status.TheVariants.{Usage};
+
+use crate::answer::{Answer, answer_to, too_long};
+use crate::status::Status;
+use fc_base::WantMemory;
+use fc_io::{AllRead, Sink, Source, WriteEnd, read_all, write_all};
+use fc_script::SCRIPT_LIMIT;
+use fc_spec::query_texts_have_one_meaning;
+use std::alloc::Global;
+
+// Writes the answer, where there is one.
+fn give<K: Sink>(sink: &mut K, answer: &Result<Answer, WantMemory>) -> Status
+    ensures ends { Ends result answer.now (K.written sink.old) (K.written sink.new) }
+    ensures rose { OnWrite result (Rose (K.faults sink.old) (K.faults sink.new)) }
+    ensures never_falls { K.faults sink.old ≤ K.faults sink.new }
+{
+    let (text, status) = match answer {
+        Ok(Answer::Lines(text)) => (text, Status::Done),
+        Ok(Answer::Fault(text)) => (text, Status::Script),
+        Err(WantMemory) => return Status::Memory,
+    };
+    match write_all(sink, text) {
+        WriteEnd::Whole => status,
+        WriteEnd::WriteFault => Status::Write,
+    }
+}
+
+/// Reads a script from `source` and writes its answer to `sink`: one line for each search, in script order, or the
+/// one line of the script's fault. `words` are those of the command; the first is the program's name.
+///
+/// Today exactly the lists of one word are taken. A script is taken where it has no fault, its schema has one shard,
+/// and the request of each search is an object of `query`, `filter`, `limit` and `facet`, each of which may be
+/// absent: `limit` is 0, and `facet` is empty or has one terms facet of every value in index order. Other bytes are
+/// refused at their first line that is at fault or not built, as not JSON or not built; or with line 0, as too long
+/// or, where no line says anything, not built. Then no reply is written.
+///
+/// The clauses on bytes hold where the source tells the bytes that it has left, and the sink those that were
+/// written.
+pub fn run<S: Source, K: Sink>(
+    alloc: Global,
+    words: &[String],
+    source: &mut S,
+    sink: &mut K,
+) -> Status
+    ensures usage { (result ≡ Usage) ↔ (takes words.now ≡ false) }
+    ensures unread { OnUsage result (S.left source.new ≡ S.left source.old) }
+    ensures uncounted { OnUsage result (S.faults source.new ≡ S.faults source.old) }
+    ensures unwritten { OnUsage result (K.written sink.new ≡ K.written sink.old) }
+    ensures read { OnRead result (Rose (S.faults source.old) (S.faults source.new)) }
+    ensures read_unwritten { OnRead result (K.written sink.new ≡ K.written sink.old) }
+    ensures end { IfDone result (IsAtEnd (S.left source.new)) }
+    ensures write { OnWrite result (Rose (K.faults sink.old) (K.faults sink.new)) }
+    ensures source_never_falls { S.faults source.old ≤ S.faults source.new }
+    ensures sink_never_falls { K.faults sink.old ≤ K.faults sink.new }
+
+    ensures leaves { IfSome (S.left source.old) (λ bytes. (t : Text)
+        × Appends (K.written sink.old) (K.written sink.new) t
+        × HasOutcome bytes (λ spelled. Leaves result spelled t)) }
+
+    ensures single_index { IfSome (S.left source.old) (λ bytes. (t : Text)
+        × Appends (K.written sink.old) (K.written sink.new) t
+        × HasOutcome bytes (λ spelled. OnDone result spelled (λ S. IsOutputBy by_single_index S t))) }
+
+    ensures counts { IfSome (S.left source.old) (λ bytes. (t : Text)
+        × Appends (K.written sink.old) (K.written sink.new) t
+        × HasOutcome bytes (λ spelled. OnDone result spelled (λ S. IsCountedOutput S t))) }
+{
+    query_texts_have_one_meaning();
+    if words.len() != 1 {
+        return Status::Usage;
+    }
+    match read_all(alloc, source, SCRIPT_LIMIT) {
+        Ok(AllRead::Bytes(bytes)) => give(sink, &answer_to(alloc, bytes)),
+        Ok(AllRead::TooLong) => give(sink, &too_long(alloc)),
+        Ok(AllRead::ReadFault) => Status::Read,
+        Err(WantMemory) => Status::Memory,
+    }
+}
+
+#[cfg(test)]
+mod tests;

@@ -1,0 +1,51 @@
+-- An object's number of members and its facets, beside the entries of its map.
+use Rattle.std.proofs.Common.{◌≡◌, ℕ, ◌<◌, ◌≤◌, List, [], ◌∷◌, length, ◌==◌, Some, None, String, Global, string_bytes, refl, ◌∙◌, ap, arith}
+use Rattle.std.specs.List.{slice_get}
+use Rattle.serde_json.specs.Data.{Data, null, boolean, number, string, array, object}
+use Rattle.serde_json.specs.Find.{as_object}
+use Rattle.serde_json.specs.View.{view, members_view}
+use Rattle.serde_json.specs.declared.value.Value.{Value}
+use Rattle.fc_spec.specs.Schema.{Schema}
+use Rattle.fc_spec.specs.SchemaReading.{member_count}
+use Rattle.fc_script.specs.Requests.{has_members, facet_of, facets_of}
+
+abbrev Entry : Type 0
+Entry = String Global × Value
+
+-- a map's entries are the members that it shows
+count-members_view : (es : List Entry) → member_count (members_view es) ≡ length es
+count-members_view [] = refl
+count-members_view (e ∷ es) = omega (arith, count-members_view es)
+
+seen_as : (d : Data) (es : List Entry) → Some (members_view es) ≡ as_object d → d ≡ object (members_view es)
+seen_as (object ms) es is = cc
+seen_as null es is = cc
+seen_as (boolean b) es is = cc
+seen_as (number x) es is = cc
+seen_as (string s) es is = cc
+seen_as (array ds) es is = cc
+
+pub has_members-entries : (d : Data) (es : List Entry) (n : ℕ) → Some (members_view es) ≡ as_object d → has_members n d ≡ (length es == n)
+has_members-entries d es n is = ap (has_members n) (seen_as d es is) ∙ ap (λ k. k == n) (count-members_view es)
+
+-- ---- the facets of an object
+
+facets-object : (s : Schema) (es : List Entry) → 1 < length es → facets_of s (object (members_view es)) ≡ None
+facets-object s [] many = absurd (omega arith)
+facets-object s (e ∷ []) many = absurd (omega arith)
+facets-object s (e ∷ f ∷ es) many = refl
+
+facet-object : (s : Schema) (es : List Entry) (e : Entry) → length es ≤ 1 → slice_get es 0 ≡ Some e → facets_of s (object (members_view es)) ≡ facet_of s (string_bytes e.0) (view e.1)
+facet-object s [] e few first = cc
+facet-object s (f ∷ []) e few first =
+    let same : f ≡ e = cc in
+    ap (λ x. facet_of s (string_bytes x.0) (view x.1)) same
+facet-object s (f ∷ g ∷ es) e few first = absurd (omega arith)
+
+-- more than one
+pub facets-many : (s : Schema) (d : Data) (es : List Entry) → Some (members_view es) ≡ as_object d → 1 < length es → facets_of s d ≡ None
+facets-many s d es is many = ap (facets_of s) (seen_as d es is) ∙ facets-object s es many
+
+-- the only one
+pub facets-sole : (s : Schema) (d : Data) (es : List Entry) (e : Entry) → Some (members_view es) ≡ as_object d → length es ≤ 1 → slice_get es 0 ≡ Some e → facets_of s d ≡ facet_of s (string_bytes e.0) (view e.1)
+facets-sole s d es e is few first = ap (facets_of s) (seen_as d es is) ∙ facet-object s es e few first

@@ -1,0 +1,7 @@
+use Rattle.std.proofs.Common.{◌≡◌, ◌+◌, length, drop}
+use Rattle.std.specs.List.{sum_by}
+use Rattle.fc_script.proofs.counts.room.room_after.Given as goal
+
+abbrev pub invariant-loop-document : goal.invariant-loop-document
+invariant-loop-document l =
+    l.left + sum_by (λ d. sum_by (λ values. length values) d) l.documents ≡ l.room + sum_by (λ d. sum_by (λ values. length values) d) (drop l.document-index l.documents)

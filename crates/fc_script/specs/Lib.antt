@@ -1,0 +1,14 @@
+pub mod Refusals
+pub mod Requests
+pub mod ValidRequests
+pub mod Built
+pub mod View
+pub mod Left
+pub mod ScriptView
+pub mod Ids
+pub mod DocumentCounts
+pub mod Commits
+pub mod Sessions
+pub mod Counts
+pub mod ReadSoFar
+pub mod ReadView

@@ -1,0 +1,86 @@
+-- A script as far as it has been read, and what the lines behind make of it.
+use Rattle.std.specs.Prelude.{ℕ, List, [], ◌∷◌, ◌++◌, length, nat_le, ◌==◌, Result, Ok, Err}
+use Rattle.serde_json.specs.Data.{Data}
+use Rattle.fc_spec.specs.Val.{Text}
+use Rattle.fc_spec.specs.Schema.{Schema}
+use Rattle.fc_spec.specs.Request.{Request}
+use Rattle.fc_spec.specs.RequestFault.{RequestFault}
+use Rattle.fc_spec.specs.Script.{Line, add, commit, sync, asks}
+use Rattle.fc_spec.specs.ScriptFault.{no_schema, too_long}
+use Rattle.fc_spec.specs.ScriptReading.{Numbered, numbered_lines, check_last, schema_on, script_limit, value_on}
+use Rattle.fc_spec.specs.LineReading.{line_said}
+use Rattle.fc_spec.specs.ScriptTotals.{Limits}
+use Rattle.fc_spec.specs.Walks.{◌>>=◌, unless, with_fault}
+use Rattle.fc_script.specs.Refusals.{Refused, not_built, refused, FirstFault}
+use Rattle.fc_script.specs.Requests.{Meaning, request_of}
+use Rattle.fc_script.specs.Built.{AskedScript, Meanings}
+
+abbrev pub AskedLine : Type 0
+AskedLine = Line (Result Request RequestFault)
+
+-- with the limits that it is held to
+pub record ReadSoFar : Type 0 where
+  pub limits : Limits
+  pub schema : Schema
+  pub lines : List AskedLine
+
+-- a line with its request read, where that is built
+abbrev pub asked_line : Meaning → Schema → Line Data → Result AskedLine Refused
+asked_line means s (add shard b) = Ok (add shard b)
+asked_line means s (commit shard) = Ok (commit shard)
+asked_line means s sync = Ok sync
+asked_line means s (asks session d) = do
+  r ← request_of means s d
+  Ok (asks session (Ok r))
+
+-- with a line behind the others, where what it counts is within its limit
+abbrev pub with_asked : ReadSoFar → AskedLine → Result ReadSoFar Refused
+with_asked r l = do
+  _ ← with_fault refused (check_last r.limits r.schema (r.lines ++ l ∷ []) l)
+  Ok (record r { lines = r.lines ++ l ∷ [] })
+
+-- with a line of the script
+abbrev pub with_text : Meaning → ReadSoFar → Text → Result ReadSoFar Refused
+with_text means r t = do
+  d ← with_fault refused (value_on t)
+  said ← with_fault refused (line_said r.schema d)
+  l ← asked_line means r.schema said
+  with_asked r l
+
+-- the refusal of a line as the script's
+abbrev pub at_line : {A : Type 0} → (n : ℕ) → Result A Refused → Result A FirstFault
+at_line n r = with_fault (λ e. record { line = n; fault = e }) r
+
+abbrev pub with_numbered : Meaning → ReadSoFar → Numbered → Result ReadSoFar FirstFault
+with_numbered means r l = at_line l.0 (with_text means r l.1)
+
+-- the script with the lines that are left
+abbrev pub with_rest : Meaning → ReadSoFar → List Numbered → Result AskedScript FirstFault
+with_rest means r [] = Ok (record { schema = r.schema; lines = r.lines })
+with_rest means r (l ∷ ls) = do
+  now ← with_numbered means r l
+  with_rest means now ls
+
+-- a schema of one shard
+abbrev pub one_shard : Schema → Result Schema Refused
+one_shard s = do
+  _ ← unless (s.shards == 1) not_built
+  Ok s
+
+abbrev pub schema_read : Text → Result Schema Refused
+schema_read t = do
+  s ← with_fault refused (schema_on t)
+  one_shard s
+
+-- the script of lines
+abbrev pub read_from : Limits → Meanings → List Numbered → Result AskedScript FirstFault
+read_from limits m [] = Err (record { line = 0; fault = refused no_schema })
+read_from limits m (l ∷ ls) = do
+  s ← at_line l.0 (schema_read l.1)
+  with_rest (m s) (record { limits = limits; schema = s; lines = [] }) ls
+
+-- the script of bytes
+abbrev pub read_in : Limits → Meanings → List ℕ → Result AskedScript FirstFault
+read_in limits m bytes = do
+  _ ← unless (nat_le (length bytes) script_limit) (record { line = 0; fault = refused too_long })
+  read_from limits m (numbered_lines bytes)

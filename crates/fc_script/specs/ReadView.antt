@@ -1,0 +1,16 @@
+-- What a script that is being read stands for.
+use Rattle.std.specs.Prelude.{map, All}
+use Rattle.fc_script.specs.Counts.{IsLineOf}
+use Rattle.fc_script.specs.ValidRequests.{IsAskedOf}
+use Rattle.fc_script.specs.ReadSoFar.{ReadSoFar}
+use Rattle.fc_script.specs.ScriptView.{line_view}
+use Rattle.fc_script.specs.View.{limits_view}
+use Rattle.fc_script.specs.declared.reading.Reading.{Reading}
+
+abbrev pub reading_view : Reading → ReadSoFar
+reading_view r = record { limits = limits_view r.limits; schema = r.schema; lines = map line_view r.lines.items }
+
+-- each of its lines is of its schema, and so is what each search asks
+pub record IsRead (r : Reading) : Type 0 where
+  pub valid : All (IsLineOf r.schema) (map line_view r.lines.items)
+  pub asked : All (IsAskedOf r.schema) r.lines.items

@@ -1,0 +1,65 @@
+-- What the types of a script that is read stand for in the definitions.
+use Rattle.std.specs.Prelude.{◌≡◌, suc, List, map, not, Ok}
+use Rattle.std.specs.List.{filter, enumerate_from}
+use Rattle.serde_json.specs.Data.{Data}
+use Rattle.serde_json.specs.View.{view}
+use Rattle.fc_spec.specs.ScriptFault as fault
+use Rattle.fc_spec.specs.ScriptReading.{Numbered, is_silent}
+use Rattle.fc_spec.specs.Script.{Line, add, commit, sync, asks}
+use Rattle.fc_docs.specs.View.{block_view, fault_view}
+use Rattle.fc_script.specs.Left.{Left}
+use Rattle.fc_script.specs.Built.{AskedScript}
+use Rattle.fc_script.specs.ReadSoFar.{AskedLine}
+use Rattle.fc_script.specs.Refusals.{refused}
+use Rattle.fc_script.specs.View.{refused_view, request_view}
+use Rattle.fc_script.specs.declared.fault.Fault.{Fault}
+use Rattle.fc_base.specs.declared.error.Refusal.{Refusal}
+use Rattle.fc_base.specs.declared.error.Refusal.TheVariants as refusal
+use Rattle.fc_script.specs.declared.line.fault.LineFault.{LineFault}
+use Rattle.fc_script.specs.declared.line.fault.LineFault.TheVariants as kind
+use Rattle.fc_script.specs.declared.read.Script.{Script}
+use Rattle.fc_script.specs.declared.line.said.Said.{Said}
+use Rattle.fc_script.specs.declared.line.said.Said.TheVariants as said
+use Rattle.fc_script.specs.declared.line.asked.Line as code
+use Rattle.fc_script.specs.declared.line.asked.Line.TheVariants as line
+
+abbrev pub line_fault_view : LineFault → fault.LineFault
+line_fault_view kind.NotJson = fault.not_json
+line_fault_view kind.NoSchema = fault.no_schema
+line_fault_view kind.UnknownLine = fault.unknown_line
+line_fault_view kind.BadSchema = fault.bad_schema
+line_fault_view kind.BadShard = fault.bad_shard
+line_fault_view (kind.BadDocument d) = fault.bad_document (fault_view d)
+line_fault_view kind.DuplicateId = fault.duplicate_id
+line_fault_view kind.FieldTotal = fault.field_total
+line_fault_view kind.TooManyDocuments = fault.too_many_documents
+line_fault_view kind.TooManySessions = fault.too_many_sessions
+line_fault_view kind.LongLine = fault.long_line
+line_fault_view kind.TooLong = fault.too_long
+line_fault_view kind.TooManyCommits = fault.too_many_commits
+line_fault_view kind.TooManySyncs = fault.too_many_syncs
+
+-- want of memory stays, and a fault is seen as what it is refused for
+abbrev pub IsRefusedBy : Refusal LineFault → Refusal Fault → Type 0
+IsRefusedBy refusal.Memory r = r ≡ refusal.Memory
+IsRefusedBy (refusal.Fault f) r = (g : Fault) × (r ≡ refusal.Fault g) × (refused_view g ≡ refused (line_fault_view f))
+
+abbrev pub said_view : Said → Line Data
+said_view (said.Add shard block) = add shard (block_view block)
+said_view (said.Commit shard) = commit shard
+said_view said.Sync = sync
+said_view (said.Search session request) = asks session.now (view request.now)
+
+-- with its request read
+abbrev pub line_view : code.Line → AskedLine
+line_view (line.Add shard block) = add shard (block_view block)
+line_view (line.Commit shard) = commit shard
+line_view line.Sync = sync
+line_view (line.Search session request) = asks session (Ok (request_view request.value))
+
+-- the lines that are left and say something, each with its number
+abbrev pub lines_left : Left → List Numbered
+lines_left left = filter (λ l. not (is_silent l.1)) (enumerate_from (suc left.number) left.lines)
+
+abbrev pub script_view : Script → AskedScript
+script_view s = record { schema = s.schema; lines = map line_view s.lines.items }

@@ -1,0 +1,25 @@
+//! Reading scripts: from the bytes of a script to its schema, its lines and their requests, or to its first fault.
+#![tactic(auto)]
+
+mod counts;
+mod fault;
+mod json_line;
+mod limits;
+mod line;
+mod lines;
+mod looking;
+mod members;
+mod read;
+mod reading;
+mod refusal;
+mod request;
+#[cfg(test)]
+mod tests;
+
+pub use fault::{Fault, FirstFault};
+pub use json_line::text_line;
+pub use limits::{Limits, SCRIPT_LIMIT, SCRIPT_LIMITS};
+pub use line::Line;
+pub use read::{Script, read_script};
+pub use refusal::refused_line;
+pub use request::{Facet, Request};

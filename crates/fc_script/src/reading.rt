@@ -1,0 +1,117 @@
+// A script as far as it has been read.
+ghost use Rattle.std.specs.Prelude.{◌≡◌, [], map, All, IfOk};
+ghost use Rattle.fc_spec.specs.ValidScripts.{IsWithin};
+ghost use Rattle.fc_base.specs.Answers.{Answers};
+ghost use Rattle.fc_script.specs.Counts.{AreCounts, IsLineOf};
+ghost use Rattle.fc_script.specs.ValidRequests.{IsAskedOf};
+ghost use Rattle.fc_script.specs.ReadSoFar.{with_asked, with_numbered as with_numbered_line, with_text as with_text_line};
+ghost use Rattle.fc_script.specs.Requests.{IsMeaning, Meaning};
+ghost use Rattle.fc_script.specs.ScriptView.{line_view};
+ghost use Rattle.fc_script.specs.View.{fault_view, limits_view, refused_view};
+
+use crate::counts::Counts;
+use crate::fault::{Fault, FirstFault, at_line};
+use crate::limits::Limits;
+use crate::line::{Line, asked_line, line_said, refused_by};
+use crate::lines::value_on;
+use fc_base::{Refusal, Schema, WantMemory};
+use std::alloc::Global;
+
+/// The schema and the lines so far, held to the limits.
+#[derive(Drop)]
+pub(crate) struct Reading {
+    limits: Limits,
+    schema: Schema,
+    lines: Vec<Line>,
+    counts: Counts,
+    ghost held: { AreCounts (limits_view limits) schema (map line_view lines.items) counts },
+}
+
+impl Reading {
+    ghost use Rattle.fc_script.specs.ReadView.{reading_view, IsRead};
+
+    /// The schema alone.
+    pub(crate) fn new(alloc: Global, limits: Limits, schema: Schema) -> Result<Reading, WantMemory>
+        ensures view { IfOk result (λ r. reading_view r ≡ record { limits = limits_view limits; schema = schema; lines = [] }) }
+        ensures read { IfOk result IsRead }
+    {
+        let counts = Counts::new(alloc, &schema, limits)?;
+        Ok(Reading {
+            limits,
+            schema,
+            lines: Vec::new(alloc),
+            counts,
+        })
+    }
+
+    // With a line behind the others.
+    fn with_line(self, alloc: Global, line: Line) -> Result<Reading, Refusal<Fault>>
+        requires valid { IsLineOf self.schema (line_view line) }
+        requires asked { IsAskedOf self.schema line }
+        ensures answer { Answers reading_view refused_view result (with_asked (reading_view self) (line_view line)) }
+        ensures limits { IfOk result (λ r. (reading_view r).limits ≡ (reading_view self).limits) }
+        ensures schema { IfOk result (λ r. (reading_view r).schema ≡ (reading_view self).schema) }
+        ensures read { IsRead self → IfOk result IsRead }
+    {
+        let Reading {
+            limits,
+            schema,
+            mut lines,
+            counts,
+        } = self;
+        let counts = counts
+            .with(alloc, &schema, &line)
+            .map_err(|refusal| refused_by(refusal))?;
+        lines.push(line)?;
+        Ok(Reading {
+            limits,
+            schema,
+            lines,
+            counts,
+        })
+    }
+
+    // With a line of the script.
+    fn with_text(self, alloc: Global, text: &[u8]) -> Result<Reading, Refusal<Fault>>
+        ensures answer { (means : Meaning) → IsMeaning self.schema means
+            → Answers reading_view refused_view result (with_text_line means (reading_view self) text.now) }
+        ensures limits { IfOk result (λ r. (reading_view r).limits ≡ (reading_view self).limits) }
+        ensures schema { IfOk result (λ r. (reading_view r).schema ≡ (reading_view self).schema) }
+        ensures read { IsRead self → IfOk result IsRead }
+    {
+        let json = value_on(alloc, text).map_err(|refusal| refused_by(refusal))?;
+        let said = line_said(alloc, &self.schema, &json).map_err(|refusal| refused_by(refusal))?;
+        let line = asked_line(alloc, &self.schema, said)?;
+        self.with_line(alloc, line)
+    }
+
+    /// With the line of this number.
+    pub(crate) fn read(
+        self,
+        alloc: Global,
+        number: u32,
+        text: &[u8],
+    ) -> Result<Reading, Refusal<FirstFault>>
+        ensures answer { (means : Meaning) → IsMeaning self.schema means
+            → Answers reading_view fault_view result (with_numbered_line means (reading_view self) (number, text.now)) }
+        ensures limits { IfOk result (λ r. (reading_view r).limits ≡ (reading_view self).limits) }
+        ensures schema { IfOk result (λ r. (reading_view r).schema ≡ (reading_view self).schema) }
+        ensures read { IsRead self → IfOk result IsRead }
+    {
+        self.with_text(alloc, text)
+            .map_err(|refusal| at_line(number, refusal))
+    }
+
+    /// The schema and the lines.
+    pub(crate) fn into_parts(self) -> (Schema, Vec<Line>)
+        requires { IsRead self }
+        ensures schema { result.0 ≡ (reading_view self).schema }
+        ensures lines { map line_view result.1.items ≡ (reading_view self).lines }
+        ensures within { IsWithin (reading_view self).limits (record { schema = result.0; lines = map line_view result.1.items }) }
+        ensures valid { All (IsLineOf result.0) (map line_view result.1.items) }
+        ensures asked { All (IsAskedOf result.0) result.1.items }
+    {
+        let Reading { schema, lines, .. } = self;
+        (schema, lines)
+    }
+}

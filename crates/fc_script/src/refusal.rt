@@ -1,0 +1,57 @@
+// The line of a refused script.
+ghost use Rattle.std.specs.Prelude.{◌≡◌, codes, IfOk};
+ghost use Rattle.serde_json.specs.Data.{string, object, no_members, put};
+ghost use Rattle.serde_json.specs.View.{view};
+ghost use Rattle.fc_spec.specs.Json.{natural_data};
+ghost use Rattle.fc_script.specs.Refusals.{refused_line as line_of_fault};
+ghost use Rattle.fc_script.specs.View.{fault_view, refused_view, refused_name, refused_number};
+
+use crate::fault::{Fault, FirstFault};
+use crate::json_line::text_line;
+use fc_base::WantMemory;
+use serde_json::{Value, json};
+use std::alloc::Global;
+
+impl Fault {
+    /// The name that the line of the refusal shows.
+    pub fn name(self) -> &'static str
+        ensures { result.now ≡ refused_name (refused_view self) }
+    {
+        match self {
+            Fault::NotBuilt => "not-built",
+            Fault::NotJson => "not-json",
+            Fault::TooLong => "too-long",
+        }
+    }
+
+    // The number that the line of the refusal shows.
+    fn number(self) -> u64
+        ensures { result ≡ refused_number (refused_view self) }
+    {
+        match self {
+            Fault::NotBuilt => 0,
+            Fault::NotJson => 1,
+            Fault::TooLong => 12,
+        }
+    }
+}
+
+// What the line of a refused script says.
+fn refusal_json(alloc: Global, refusal: FirstFault) -> Result<Value, WantMemory>
+    ensures { IfOk result (λ json. view json
+        ≡ object (put (codes "error") (string (refused_name (refused_view refusal.fault)))
+        (put (codes "line") (natural_data refusal.line)
+        (put (codes "number") (natural_data (refused_number (refused_view refusal.fault))) no_members)))) }
+{
+    let name = refusal.fault.name();
+    let number = refusal.fault.number();
+    Ok(json!(in alloc; {"error": name, "line": refusal.line, "number": number})?)
+}
+
+/// The one line of a refused script.
+pub fn refused_line(alloc: Global, refusal: FirstFault) -> Result<Vec<u8>, WantMemory>
+    ensures { IfOk result (λ line. line.items ≡ line_of_fault (fault_view refusal)) }
+{
+    let json = refusal_json(alloc, refusal)?;
+    text_line(alloc, &json)
+}

@@ -1,0 +1,62 @@
+// The filters of a request.
+ghost use Rattle.std.specs.Prelude.{map, All, IfOk, option_map};
+ghost use Rattle.serde_json.specs.View.{view, items_view};
+ghost use Rattle.fc_spec.specs.ValidQueries.{IsValidQuery};
+ghost use Rattle.fc_base.specs.Answers.{Answers};
+ghost use Rattle.fc_query.specs.FilterView.{filter_view};
+ghost use Rattle.fc_query.specs.QueryView.{query_view};
+ghost use Rattle.fc_script.specs.Requests as form;
+ghost use Rattle.fc_script.specs.Requests.{IsMeaning, Meaning};
+ghost use Rattle.fc_script.specs.View.{refused_view};
+
+use crate::fault::Fault;
+use fc_base::{Refusal, Schema};
+use fc_query::{Filter, read_filter};
+use fc_spec::query_texts_have_one_meaning;
+use serde_json::Value;
+use std::alloc::Global;
+
+// A filter, with its tags.
+fn filter_of(alloc: Global, schema: &Schema, json: &Value) -> Result<Filter, Refusal<Fault>>
+    ensures answer { (means : Meaning) → IsMeaning schema.now means → Answers filter_view refused_view result
+        (form.filter_of means (view json.now)) }
+    ensures valid { IfOk result (λ filter. IsValidQuery schema.now (query_view filter.query)) }
+{
+    query_texts_have_one_meaning();
+    match read_filter(alloc, schema, json) {
+        Ok(filter) => Ok(filter),
+        Err(Refusal::Memory) => Err(Refusal::Memory),
+        Err(Refusal::Fault(_)) => Err(Refusal::Fault(Fault::NotBuilt)),
+    }
+}
+
+// Filters of a list.
+fn filters_of(alloc: Global, schema: &Schema, list: &[Value]) -> Result<Vec<Filter>, Refusal<Fault>>
+    ensures answer { (means : Meaning) → IsMeaning schema.now means → Answers (λ filters. map filter_view filters.items) refused_view result
+        (form.filters_of means (items_view list.now)) }
+    ensures valid { IfOk result (λ filters. All (λ filter. IsValidQuery schema.now (query_view filter.query)) filters.items) }
+{
+    let mut filters = Vec::new(alloc);
+    for json in list {
+        let filter = filter_of(alloc, schema, json)?;
+        filters.push(filter)?;
+    }
+    Ok(filters)
+}
+
+/// A filter or a list of filters; none where none is named.
+pub(crate) fn filters_in(
+    alloc: Global,
+    schema: &Schema,
+    json: Option<&Value>,
+) -> Result<Vec<Filter>, Refusal<Fault>>
+    ensures answer { (means : Meaning) → IsMeaning schema.now means → Answers (λ filters. map filter_view filters.items) refused_view result
+        (form.filters_in means (option_map (λ json. view json.now) json.entry)) }
+    ensures valid { IfOk result (λ filters. All (λ filter. IsValidQuery schema.now (query_view filter.query)) filters.items) }
+{
+    match json {
+        None => Ok(Vec::new(alloc)),
+        Some(Value::Array(list)) => filters_of(alloc, schema, list),
+        Some(json) => Ok(vec![in alloc; filter_of(alloc, schema, json)?]?),
+    }
+}
