@@ -47,7 +47,7 @@ wanted_beyond R (facet f inner rest) e n H X way h =
     λ i. here i ++ later i
 
 pub nothing_lacks_beyond : NothingLacksBeyond
-nothing_lacks_beyond r n e sent h = ap (untold (told_in sent)) (wanted_beyond (over_held (told_in sent)) r.nodes e 0 _ [] [] h)
+nothing_lacks_beyond r n e sent h = ap (untold (told_in r.nodes sent)) (wanted_beyond (over_held (told_in r.nodes sent)) r.nodes e 0 _ [] [] h)
 
 -- ---- the shards of what is wanted
 

@@ -191,7 +191,7 @@ bucket_stats_put j kind ss D key = ap (stats_over ss) (bucket_renumbered (to_sha
 
 rows_alike : (r : Request) (V W : World) (i j : ℕ) (nodes : Nodes) (X Y : List Place) → SameAt i j V W → Alike i j X Y → answer_rows r W j nodes Y ≡ answer_rows r V i nodes X
 rows_alike r V W i j no_nodes X Y same alike = refl
-rows_alike r V W i j (statistic name s rest) X Y same alike = ap (row no_partials) (rows_alike r V W i j rest X Y same alike)
+rows_alike r V W i j (statistic name s rest) X Y same alike = rows_alike r V W i j rest X Y same alike
 rows_alike r V W i j (facet f inner rest) X Y same alike =
     let D = answer_domain r V i f X in
     let over : answer_domain r W j f Y ≡ put j D = domain_alike r V W i j f.change X Y same alike in
