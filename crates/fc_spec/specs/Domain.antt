@@ -34,6 +34,10 @@ moved W (children q) Y = children_of W q Y
 abbrev pub filtered : List Query → List Place → List Place
 filtered filters Z = filter (λ p. list_all (λ q. matches q p.document) filters) Z
 
--- what the change makes of the domain X: exclusion first, then the block step, then the domain's filters
+-- what the change makes of X: where it excludes tags the base B stands in the place of X; then the block step, then the change's own filters
+abbrev pub changed : World → (base : List Place) → DomainChange → List Place → List Place
+changed W B change X = filtered change.filters (moved W change.block (if is_empty change.exclude then X else B))
+
+-- the domain of a facet in the bucket X: an exclusion begins with the base without the excluded tags
 abbrev pub domain : Request → World → DomainChange → List Place → List Place
-domain r W change X = filtered change.filters (moved W change.block (if is_empty change.exclude then X else base r W change.exclude))
+domain r W change X = changed W (base r W change.exclude) change X

@@ -42,7 +42,7 @@ pub record NodeOf : Type 0 where
 -- a bucket is the way to it
 abbrev pub over_held : List Told → Reading Way NodeOf
 over_held A = record {
-  domain_on = λ n change H way. record { way = way; node = n };
+  domain_on = λ n f H way. record { way = way; node = n };
   bucket_at = λ kind Y key. Y.way ++ record { node = Y.node; key = key } ∷ [];
   count_on = count_held A;
   statistic_on = value_held A;
