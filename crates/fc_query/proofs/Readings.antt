@@ -8,7 +8,7 @@ use Rattle.fc_spec.specs.QueryTrees.{Group}
 use Rattle.fc_spec.specs.QueryMeaning.{tree_query}
 use Rattle.fc_spec.specs.QueryTexts.{IsReadingOf}
 use Rattle.fc_spec.specs.ValidQueries.{IsValidQuery}
-use Rattle.fc_spec.proofs.TreeReading.{tree_of}
+use Rattle.fc_spec.specs.TreeReading.{tree_of}
 use Rattle.fc_spec.proofs.TextReadings.{tree_is, no_tree}
 use Rattle.fc_spec.proofs.TreesOfTokens.{tree_spells}
 use Rattle.fc_base.specs.Answers.{Answers, AnswersBy}

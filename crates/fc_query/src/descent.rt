@@ -1,7 +1,7 @@
 // Reading a tree from a row of tokens.
 ghost use Rattle.std.specs.Prelude.{◌≡◌, ◌≤◌, None, Some, option_map, map};
 ghost use Rattle.fc_spec.specs.QueryTrees as definition;
-ghost use Rattle.fc_spec.proofs.TreeReading as reading;
+ghost use Rattle.fc_spec.specs.TreeReading as reading;
 ghost use Rattle.fc_query.specs.Takes.{Gives};
 ghost use Rattle.fc_query.specs.TreeView.{behind_operator, is_end_of, atom_view, clause_view, group_view, row_of};
 ghost use Rattle.fc_query.specs.View.{operator_view, sign_view, value_view};

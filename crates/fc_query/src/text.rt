@@ -1,6 +1,6 @@
 // Query texts.
 ghost use Rattle.std.specs.Prelude.{IfOk};
-ghost use Rattle.fc_spec.proofs.TreeReading as reading;
+ghost use Rattle.fc_spec.specs.TreeReading as reading;
 ghost use Rattle.fc_spec.specs.QueryMeaning as meaning;
 ghost use Rattle.fc_spec.specs.QueryTexts.{IsReadingOf};
 ghost use Rattle.fc_spec.specs.ValidQueries.{IsValidQuery};

@@ -74,6 +74,7 @@ pub mod QueryTrees
 pub mod QueryForms
 pub mod QuerySpellingLaw
 pub mod QueryMeaning
+pub mod TreeReading
 pub mod QueryTexts
 pub mod QueryReadingLaw
 pub mod FilterReading
