@@ -3,7 +3,7 @@ use Rattle.std.specs.Prelude.{ℕ, List, [], length, drop, codes, Bool, not, ◌
 use Rattle.std.specs.List.{list_all, slice_split, starts_with, position_or_len, before_first, after_first}
 use Rattle.serde_json.specs.Data.{Data, string}
 use Rattle.fc_spec.specs.Val.{Text}
-use Rattle.fc_spec.specs.LineReading.{sole_member}
+use Rattle.fc_spec.specs.JsonObjects.{sole_member}
 use Rattle.fc_spec.specs.Lists.{is_empty}
 use Rattle.fc_spec.specs.Schema.{Schema}
 use Rattle.fc_spec.specs.SchemaReading.{is_name_byte}

@@ -50,6 +50,7 @@ pub mod ShardAlone
 pub mod Merging
 pub mod RoundsEnd
 pub mod ScriptLines
+pub mod JsonObjects
 pub mod SchemaReading
 pub mod Walks
 pub mod IntegerTexts
