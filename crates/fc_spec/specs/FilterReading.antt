@@ -64,7 +64,7 @@ filter_with tags (Ok q) = Ok (record { tags = tags; query = q })
 filter_with tags (Err e) = Err (query e)
 
 -- what tags and a query text mean for a schema, or the fault; one of the tags comes before those of the query text
-unfoldable pub filter_by : Schema → Result (List Text × Text) FilterFault → Result Filter FilterFault
+abbrev pub filter_by : Schema → Result (List Text × Text) FilterFault → Result Filter FilterFault
 filter_by s parts = do
   p ← parts
   filter_with p.0 (query_of s p.1)
