@@ -166,7 +166,7 @@ fn is_end(tokens: &[Token]) -> bool
     matches!(tokens, [] | [Token::Closing, ..])
 }
 
-// A group in which at most `depth` parentheses are open at once.
+/// A group in which at most `depth` parentheses are open at once.
 #[cycle(descent)]
 pub(crate) fn group<'a>(
     alloc: Global,
