@@ -1,5 +1,6 @@
 pub mod FieldsByName
 pub mod GatheredFields
+pub mod JsonObjects
 pub mod Members
 pub mod NamesDiffer
 pub mod OrFault

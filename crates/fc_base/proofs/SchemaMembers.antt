@@ -1,5 +1,5 @@
 -- The two members of a schema.
-use Rattle.std.proofs.Common.{◌≡◌, ℕ, ◌+◌, List, [], ◌∷◌, length, true, false, ◌==◌, Some, None, option_and_then, String, Global, refl, ap, ◌∙◌, add-one, arith}
+use Rattle.std.proofs.Common.{◌≡◌, ℕ, List, length, true, false, ◌==◌, Some, None, option_and_then, String, Global, refl, arith}
 use Rattle.std.proofs.lemmas.Bool.Decides.{nat_tests}
 use Rattle.std.specs.Prelude.{codes}
 use Rattle.serde_json.specs.Data.{Data, null, boolean, number, string, array, object, Members}
@@ -7,17 +7,15 @@ use Rattle.serde_json.specs.Find.{get, as_object}
 use Rattle.serde_json.specs.View.{members_view}
 use Rattle.serde_json.specs.declared.value.Value.{Value}
 use Rattle.fc_spec.specs.Schema.{Field}
-use Rattle.fc_spec.specs.SchemaReading.{shards_of, fields_of, with_id, member_count, schema_of}
-
-member_count-members_view : (es : List (String Global × Value)) → member_count (members_view es) ≡ length es
-member_count-members_view [] = refl
-member_count-members_view (e ∷ es) = ap (λ n. n + 1) (member_count-members_view es) ∙ add-one (length es)
+use Rattle.fc_spec.specs.JsonObjects.{member_count}
+use Rattle.fc_spec.specs.SchemaReading.{shards_of, fields_of, with_id, schema_of}
+use Rattle.fc_base.proofs.JsonObjects.{count-members_view}
 
 pub not_two_members : (es : List (String Global × Value)) (n : ℕ) → n ≡ length es → (n ≡ 2 → ⊥) → (member_count (members_view es) == 2) ≡ false
-not_two_members es n is other = rw (member_count-members_view es, ← is) (grind (arith, nat_tests))
+not_two_members es n is other = rw (count-members_view es, ← is) (grind (arith, nat_tests))
 
 pub two_members : (es : List (String Global × Value)) (n : ℕ) → n ≡ length es → n ≡ 2 → (member_count (members_view es) == 2) ≡ true
-two_members es n is two = rw (member_count-members_view es, ← is, two) refl
+two_members es n is two = rw (count-members_view es, ← is, two) refl
 
 pub not_two : (d : Data) (ms : Members) → Some ms ≡ as_object d → (member_count ms == 2) ≡ false → schema_of d ≡ None
 not_two d ms is count = rw (← is, count) refl

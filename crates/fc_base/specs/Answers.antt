@@ -17,9 +17,3 @@ or_fault defined = ok_or defined tt
 -- The one fault that there is.
 abbrev pub one_fault : {F : Type 0} → F → Unit {0}
 one_fault fault = tt
-
--- The answer is one that the definition allows, or its fault, or want of memory.
-abbrev pub AnswersBy : {A V F G : Type 0} → (A → V) → (F → G) → Result A (Refusal F) → (Result V G → Type 0) → Type 0
-AnswersBy view fault_view (Ok value) allows = allows (Ok (view value))
-AnswersBy view fault_view (Err Memory) allows = Unit {0}
-AnswersBy view fault_view (Err (Fault fault)) allows = allows (Err (fault_view fault))

@@ -16,6 +16,7 @@ pub enum FieldType {
     Longs,
 }
 
+/// A field of a schema: its name and its type.
 #[derive(Debug, Drop)]
 pub(crate) struct Field {
     pub(crate) name: Name,

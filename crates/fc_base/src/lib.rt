@@ -4,6 +4,7 @@
 mod error;
 mod field;
 mod integer;
+pub mod json;
 mod name;
 mod schema;
 mod value;

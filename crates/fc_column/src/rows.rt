@@ -27,6 +27,7 @@ impl<T> Model for Rows<T> {
 }
 
 impl<T: Drop> Rows<T> {
+    /// No row yet.
     pub fn new(alloc: Global) -> Result<Rows<T>, WantMemory>
         ensures { IfOk result (λ made. made ≡ record { rows = []; next = [] }) }
     {

@@ -9,6 +9,7 @@ pub fn word_count(len: u32) -> usize
     len.div_ceil(64) as usize
 }
 
+/// Whether the bit of a position is 1.
 pub fn has_bit(words: &[u64], at: u32) -> bool
     requires { at / 64 < length words.now }
     ensures { result ≡ has_bit words.now at }
@@ -16,6 +17,7 @@ pub fn has_bit(words: &[u64], at: u32) -> bool
     words[(at / 64) as usize] >> (at % 64) & 1 == 1
 }
 
+/// Makes the bit of a position 1.
 pub fn set_bit(words: &mut [u64], at: u32)
     requires { at / 64 < length words.old }
     ensures { (k : ℕ) → has_bit words.new k ≡ (has_bit words.old k || (k == at)) }
@@ -35,6 +37,7 @@ pub fn clear_from(words: &mut [u64], len: u32)
     }
 }
 
+/// Keeps the bits that are 1 in both.
 pub fn and_words(words: &mut [u64], others: &[u64])
     requires { length words.old ≡ length others.now }
     ensures { (k : ℕ) → has_bit words.new k ≡ (has_bit words.old k && has_bit others.now k) }
@@ -44,6 +47,7 @@ pub fn and_words(words: &mut [u64], others: &[u64])
     }
 }
 
+/// Adds the bits that are 1 in the others.
 pub fn or_words(words: &mut [u64], others: &[u64])
     requires { length words.old ≡ length others.now }
     ensures { (k : ℕ) → has_bit words.new k ≡ (has_bit words.old k || has_bit others.now k) }
@@ -53,6 +57,7 @@ pub fn or_words(words: &mut [u64], others: &[u64])
     }
 }
 
+/// Clears the bits that are 1 in the others.
 pub fn and_not_words(words: &mut [u64], others: &[u64])
     requires { length words.old ≡ length others.now }
     ensures { (k : ℕ) → has_bit words.new k ≡ (has_bit words.old k && not (has_bit others.now k)) }

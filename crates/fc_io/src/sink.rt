@@ -11,6 +11,7 @@ pub enum Put {
     Failed,
 }
 
+/// What takes bytes, piece by piece.
 pub trait Sink {
     /// The bytes that were written, where the sink tells them.
     ghost written: { Self → Option (List ℕ) };

@@ -12,6 +12,7 @@ pub enum Got {
     Failed,
 }
 
+/// What gives bytes, piece by piece.
 pub trait Source {
     /// The bytes that are left, where the source tells them.
     ghost left: { Self → Option (List ℕ) };

@@ -5,7 +5,7 @@ use Rattle.fc_spec.specs.QueryTokens.{Sign, Operator, value, sign, operator, ope
 use Rattle.fc_spec.specs.QueryTrees.{Atom, Group, no_more, clause, sign_tokens, atom_tokens, group_tokens}
 use Rattle.fc_spec.specs.QueryForms.{IsGroup, nesting}
 use Rattle.fc_spec.proofs.Present.{weaker}
-use Rattle.fc_spec.proofs.TreeReading.{Row, Reader, operator_at, clause_at, with_clause, clauses_at, group_at, group_within, deeper_than}
+use Rattle.fc_spec.specs.TreeReading.{Row, Reader, operator_at, clause_at, with_clause, clauses_at, group_at, group_within, deeper_than}
 use Rattle.fc_spec.proofs.ReadIsSpelled.{ReadsGroups, IsClauseOf, IsGroupOf, clause_of, read_is_spelled}
 use Rattle.fc_spec.proofs.SpelledIsRead.{some_tokens}
 use Rattle.fc_query.specs.TreeView.{Part, linked, behind_operator, is_end_of}

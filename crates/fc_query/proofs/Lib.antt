@@ -10,4 +10,3 @@ pub mod ClausesSoFar
 pub mod Validity
 pub mod Readings
 pub mod Fronting
-pub mod SoleMembers

@@ -1,17 +1,16 @@
 -- What a text means, from its tokens and their tree.
-use Rattle.std.proofs.Common.{◌≡◌, ap, sym, inl, inr, List, Some, Result, Ok, Err, IfOk}
+use Rattle.std.proofs.Common.{◌≡◌, refl, ap, sym, List, Some, Result, Ok, Err, IfOk}
 use Rattle.fc_spec.specs.Val.{Text}
 use Rattle.fc_spec.specs.Schema as schema
 use Rattle.fc_spec.specs.QueryTokens.{Token}
 use Rattle.fc_spec.specs.QueryRow.{tokens_of}
 use Rattle.fc_spec.specs.QueryTrees.{Group}
 use Rattle.fc_spec.specs.QueryMeaning.{tree_query}
-use Rattle.fc_spec.specs.QueryTexts.{IsReadingOf}
+use Rattle.fc_spec.specs.QueryTexts.{query_of}
 use Rattle.fc_spec.specs.ValidQueries.{IsValidQuery}
-use Rattle.fc_spec.proofs.TreeReading.{tree_of}
-use Rattle.fc_spec.proofs.TextReadings.{tree_is, no_tree}
+use Rattle.fc_spec.specs.TreeReading.{tree_of}
 use Rattle.fc_spec.proofs.TreesOfTokens.{tree_spells}
-use Rattle.fc_base.specs.Answers.{Answers, AnswersBy}
+use Rattle.fc_base.specs.Answers.{Answers}
 use Rattle.fc_base.specs.declared.error.Refusal.{Refusal}
 use Rattle.fc_base.specs.declared.error.Refusal.TheVariants.{Memory, Fault}
 use Rattle.fc_query.specs.declared.fault.QueryFault.{QueryFault}
@@ -20,15 +19,22 @@ use Rattle.fc_query.specs.QueryView.{query_fault_view, query_view}
 use Rattle.fc_query.specs.Takes.{Stops}
 use Rattle.fc_query.proofs.Validity.{tree_valid}
 
-pub without_tree : (s : schema.Schema) (t : Text) (ts : List Token) (stop : Refusal QueryFault) → tokens_of t ≡ Some ts → Stops stop (tree_of ts) → AnswersBy query_view query_fault_view (Err stop) (IsReadingOf s t)
-without_tree s t ts Memory e h = tt
-without_tree s t ts (Fault f) e h = inr (no_tree t ts e h.0, ap (λ x. Err (query_fault_view x)) h.1)
+-- the answer for a text without tokens
+pub without_row : (s : schema.Schema) (t : Text) (stop : Refusal QueryFault) → Stops stop (tokens_of t) → Answers query_view query_fault_view (Err stop) (query_of s t)
+unfolding query_of
+without_row s t Memory h = tt
+without_row s t (Fault f) h = rw (h.0) (ap (λ x. Err (query_fault_view x)) (sym h.1))
 
-pub with_tree : (s : schema.Schema) (t : Text) (ts : List Token) (g : Group) (r : Result Query (Refusal QueryFault)) → tokens_of t ≡ Some ts → tree_of ts ≡ Some g
-    → Answers query_view query_fault_view r (tree_query s g) → AnswersBy query_view query_fault_view r (IsReadingOf s t)
-with_tree s t ts g (Ok q) e h k = inl (g, tree_is t ts g e h, sym k)
-with_tree s t ts g (Err Memory) e h k = tt
-with_tree s t ts g (Err (Fault f)) e h k = inl (g, tree_is t ts g e h, sym k)
+-- the answer for a text whose tokens have no tree
+pub without_tree : (s : schema.Schema) (t : Text) (ts : List Token) (stop : Refusal QueryFault) → tokens_of t ≡ Some ts → Stops stop (tree_of ts) → Answers query_view query_fault_view (Err stop) (query_of s t)
+unfolding query_of
+without_tree s t ts Memory e h = tt
+without_tree s t ts (Fault f) e h = rw (e, h.0) (ap (λ x. Err (query_fault_view x)) (sym h.1))
+
+-- what a text means whose tokens have a tree
+pub with_tree : (s : schema.Schema) (t : Text) (ts : List Token) (g : Group) → tokens_of t ≡ Some ts → tree_of ts ≡ Some g → query_of s t ≡ tree_query s g
+unfolding query_of
+with_tree s t ts g e h = rw (e, h) refl
 
 pub is_valid : (s : schema.Schema) (ts : List Token) (g : Group) (r : Result Query (Refusal QueryFault)) → tree_of ts ≡ Some g → Answers query_view query_fault_view r (tree_query s g)
     → IfOk r (λ q. IsValidQuery s (query_view q))

@@ -53,12 +53,14 @@ fn first_of(text: &str) -> Option<(Character, &str)>
 }
 
 impl<'a> Cursor<'a> {
+    /// A cursor before the first character of the text.
     pub(crate) fn new(text: &'a str) -> Cursor<'a>
         ensures { result ≡ definition.characters (chars text.now) }
     {
         Cursor { left: text }
     }
 
+    /// The first character that is left.
     pub(crate) fn peek(&self) -> Option<Character>
         ensures { option_map character_view result ≡ slice_get self.now 0 }
     {
@@ -66,7 +68,7 @@ impl<'a> Cursor<'a> {
         Some(first)
     }
 
-    // Leaves the first character, where there is one.
+    /// Leaves the first character, where there is one.
     pub(crate) fn advance(&mut self)
         ensures { self.new ≡ drop 1 self.old }
     {
@@ -75,7 +77,7 @@ impl<'a> Cursor<'a> {
         }
     }
 
-    // Whether this character, as it stands, is the first.
+    /// Whether this character, as it stands, is the first.
     pub(crate) fn is_at(&self, c: char) -> bool
         ensures { result ≡ definition.begins (definition.is_char c) self.now }
     {
@@ -85,7 +87,7 @@ impl<'a> Cursor<'a> {
         }
     }
 
-    // Takes this character, as it stands, where it is the first.
+    /// Takes this character, as it stands, where it is the first.
     pub(crate) fn take(&mut self, c: char) -> bool
         ensures { TakesPast result (definition.past c self.old) self.old self.new }
     {
@@ -98,6 +100,7 @@ impl<'a> Cursor<'a> {
         }
     }
 
+    /// Leaves the white space in front.
     pub(crate) fn skip_white(&mut self)
         ensures { self.new ≡ definition.behind definition.is_blank self.old }
     {
@@ -109,7 +112,7 @@ impl<'a> Cursor<'a> {
         }
     }
 
-    // Takes white space, where some is in front.
+    /// Takes white space, where some is in front.
     pub(crate) fn take_white(&mut self) -> bool
         ensures { TakesPast result (definition.past_white self.old) self.old self.new }
     {

@@ -43,6 +43,7 @@ fn ends_an_end(c: char) -> bool
 }
 
 impl Character {
+    /// The character itself, without a backslash.
     pub(crate) fn code(self) -> char
         ensures { result ≡ definition.code (character_view self) }
     {
@@ -51,12 +52,14 @@ impl Character {
         }
     }
 
+    /// Whether it stands as it is, not behind a backslash.
     pub(crate) fn is_bare(self) -> bool
         ensures { result ≡ definition.is_bare (character_view self) }
     {
         matches!(self, Character::Bare(_))
     }
 
+    /// Whether it is this character and stands as it is.
     pub(crate) fn is_char(self, c: char) -> bool
         ensures { result ≡ definition.is_char c (character_view self) }
     {
@@ -66,6 +69,7 @@ impl Character {
         }
     }
 
+    /// Whether it is white space and stands as it is.
     pub(crate) fn is_blank(self) -> bool
         ensures { result ≡ definition.is_blank (character_view self) }
     {
@@ -75,6 +79,7 @@ impl Character {
         }
     }
 
+    /// Whether it is a character of words: no white space and no special one, or behind a backslash.
     pub(crate) fn is_ordinary(self) -> bool
         ensures { result ≡ definition.is_ordinary (character_view self) }
     {
@@ -84,7 +89,7 @@ impl Character {
         }
     }
 
-    // Directly behind a colon `-` begins a word too.
+    /// Whether a word begins with it; directly behind a colon `-` begins one too.
     pub(crate) fn begins_word(self, behind_colon: bool) -> bool
         ensures { result ≡ begins_word behind_colon (character_view self) }
     {
@@ -101,7 +106,7 @@ pub(crate) enum Part {
 }
 
 impl Part {
-    // Whether the character goes on it.
+    /// Whether the character goes on it.
     pub(crate) fn has(self, character: Character) -> bool
         ensures { result ≡ part_test self (character_view character) }
     {

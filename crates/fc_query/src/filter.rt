@@ -3,9 +3,9 @@ ghost use Rattle.std.specs.Prelude.{◌≡◌, ◌==◌, IfOk, map, option_map};
 ghost use Rattle.std.specs.List.{list_all, slice_split};
 ghost use Rattle.serde_json.specs.View.{view};
 ghost use Rattle.fc_spec.specs.FilterReading as reading;
-ghost use Rattle.fc_spec.specs.LineReading.{sole_member};
+ghost use Rattle.fc_spec.specs.JsonObjects as objects;
 ghost use Rattle.fc_spec.specs.ValidQueries.{IsValidQuery};
-ghost use Rattle.fc_base.specs.Answers.{AnswersBy};
+ghost use Rattle.fc_base.specs.Answers.{Answers};
 ghost use Rattle.fc_query.specs.FilterView.{filter_fault_view, filter_view, Tagged};
 ghost use Rattle.fc_query.specs.QueryView.{query_view};
 
@@ -13,6 +13,7 @@ ghost use Rattle.fc_query.specs.QueryView.{query_view};
 mod tests;
 
 use crate::{FilterFault, Query, QueryFault, parse};
+use fc_base::json::sole_member;
 use fc_base::{Name, Refusal, Schema, WantMemory};
 use serde_json::Value;
 use std::alloc::{AllocError, Global};
@@ -97,18 +98,6 @@ fn cut_at_brace(text: &str) -> Option<(&str, &str)>
     text.split_once('}')
 }
 
-// The only member of an object.
-fn sole_entry(value: &Value) -> Option<(&str, &Value)>
-    ensures { option_map (λ entry. (entry.0.now, view entry.1.now)) result ≡ sole_member (view value.now) }
-{
-    let members = value.as_object()?;
-    if members.len() != 1 {
-        return None;
-    }
-    let (name, inside) = members.first_key_value()?;
-    Some((name.as_str(), inside))
-}
-
 // These tags before a query text.
 fn with_query(
     alloc: Global,
@@ -116,8 +105,8 @@ fn with_query(
     tags: Vec<Name>,
     text: &str,
 ) -> Result<Filter, Refusal<FilterFault>>
-    ensures answer { AnswersBy filter_view filter_fault_view result
-        (reading.IsFilterBy schema.now (Ok (tags.items, text.now))) }
+    ensures answer { Answers filter_view filter_fault_view result
+        (reading.filter_by schema.now (Ok (tags.items, text.now))) }
     ensures valid { IfOk result (λ filter. IsValidQuery schema.now (query_view filter.query)) }
 {
     match parse(alloc, schema, text) {
@@ -134,8 +123,8 @@ fn tagged(
     list: &str,
     text: &str,
 ) -> Result<Filter, Refusal<FilterFault>>
-    ensures answer { AnswersBy filter_view filter_fault_view result
-        (reading.IsFilterBy schema.now (reading.tagged list.now text.now)) }
+    ensures answer { Answers filter_view filter_fault_view result
+        (reading.filter_by schema.now (reading.tagged list.now text.now)) }
     ensures valid { IfOk result (λ filter. IsValidQuery schema.now (query_view filter.query)) }
 {
     let tags = tags_of(alloc, list)?;
@@ -145,8 +134,8 @@ fn tagged(
 // Behind `{!tag=`.
 #[tactic(auto, unfolding(fc_spec::specs::FilterReading::local_tags))]
 fn local_filter(alloc: Global, schema: &Schema, text: &str) -> Result<Filter, Refusal<FilterFault>>
-    ensures answer { AnswersBy filter_view filter_fault_view result
-        (reading.IsFilterBy schema.now (reading.local_tags text.now)) }
+    ensures answer { Answers filter_view filter_fault_view result
+        (reading.filter_by schema.now (reading.local_tags text.now)) }
     ensures valid { IfOk result (λ filter. IsValidQuery schema.now (query_view filter.query)) }
 {
     match cut_at_brace(text) {
@@ -157,8 +146,8 @@ fn local_filter(alloc: Global, schema: &Schema, text: &str) -> Result<Filter, Re
 
 #[tactic(auto, unfolding(fc_spec::specs::FilterReading::text_filter))]
 fn text_filter(alloc: Global, schema: &Schema, text: &str) -> Result<Filter, Refusal<FilterFault>>
-    ensures answer { AnswersBy filter_view filter_fault_view result
-        (reading.IsFilterBy schema.now (reading.text_filter text.now)) }
+    ensures answer { Answers filter_view filter_fault_view result
+        (reading.filter_by schema.now (reading.text_filter text.now)) }
     ensures valid { IfOk result (λ filter. IsValidQuery schema.now (query_view filter.query)) }
 {
     match past_front(text, "{!tag=") {
@@ -174,8 +163,8 @@ fn member_filter(
     key: &str,
     text: &str,
 ) -> Result<Filter, Refusal<FilterFault>>
-    ensures answer { AnswersBy filter_view filter_fault_view result
-        (reading.IsFilterBy schema.now (reading.member_filter key.now text.now)) }
+    ensures answer { Answers filter_view filter_fault_view result
+        (reading.filter_by schema.now (reading.member_filter key.now text.now)) }
     ensures valid { IfOk result (λ filter. IsValidQuery schema.now (query_view filter.query)) }
 {
     match past_front(key, "#") {
@@ -190,11 +179,11 @@ fn object_filter(
     schema: &Schema,
     json: &Value,
 ) -> Result<Filter, Refusal<FilterFault>>
-    ensures answer { AnswersBy filter_view filter_fault_view result
-        (reading.IsFilterBy schema.now (reading.object_filter (sole_member (view json.now)))) }
+    ensures answer { Answers filter_view filter_fault_view result
+        (reading.filter_by schema.now (reading.object_filter (objects.sole_member (view json.now)))) }
     ensures valid { IfOk result (λ filter. IsValidQuery schema.now (query_view filter.query)) }
 {
-    let Some((key, value)) = sole_entry(json) else {
+    let Some((key, value)) = sole_member(json) else {
         return Err(Refusal::Fault(FilterFault::Shape));
     };
     match value.as_str() {
@@ -212,8 +201,8 @@ pub fn read_filter(
     schema: &Schema,
     json: &Value,
 ) -> Result<Filter, Refusal<FilterFault>>
-    ensures answer { AnswersBy filter_view filter_fault_view result
-        (reading.IsFilterOf schema.now (view json.now)) }
+    ensures answer { Answers filter_view filter_fault_view result
+        (reading.filter_of schema.now (view json.now)) }
     ensures valid { IfOk result (λ filter. IsValidQuery schema.now (query_view filter.query)) }
 {
     match json.as_str() {

@@ -1,10 +1,10 @@
 // Query texts.
 ghost use Rattle.std.specs.Prelude.{IfOk};
-ghost use Rattle.fc_spec.proofs.TreeReading as reading;
+ghost use Rattle.fc_spec.specs.TreeReading as reading;
 ghost use Rattle.fc_spec.specs.QueryMeaning as meaning;
-ghost use Rattle.fc_spec.specs.QueryTexts.{IsReadingOf};
+ghost use Rattle.fc_spec.specs.QueryTexts.{query_of};
 ghost use Rattle.fc_spec.specs.ValidQueries.{IsValidQuery};
-ghost use Rattle.fc_base.specs.Answers.{Answers, AnswersBy};
+ghost use Rattle.fc_base.specs.Answers.{Answers};
 ghost use Rattle.fc_query.specs.QueryView.{query_fault_view, query_view};
 ghost use Rattle.fc_query.specs.Takes.{Gives};
 ghost use Rattle.fc_query.specs.TreeView.{group_view, row_of};
@@ -56,8 +56,7 @@ fn tree_query(
 /// syntax, then AND and OR in one group, then a name that is no field's, then a value that is none of
 /// its field's. What is read is valid for the schema. (Guide: Standard Query Parser)
 pub fn parse(alloc: Global, schema: &Schema, text: &str) -> Result<Query, Refusal<QueryFault>>
-    ensures answer { AnswersBy query_view query_fault_view result
-        (IsReadingOf schema.now text.now) }
+    ensures answer { Answers query_view query_fault_view result (query_of schema.now text.now) }
     ensures valid { IfOk result (λ query. IsValidQuery schema.now (query_view query)) }
 {
     let tokens = tokens(alloc, text)?;

@@ -3,7 +3,7 @@ ghost use Rattle.std.specs.Prelude.{◌≡◌};
 ghost use Rattle.fc_spec.specs.QueryRow.{is_colon};
 ghost use Rattle.fc_query.specs.View.{token_view};
 
-/// An end that is not there is a star.
+/// A range, as it is written: its two ends, and whether it has them. An end that is absent is a star.
 #[derive(Debug, Drop)]
 pub(crate) struct Range {
     pub(crate) low: Option<String>,
@@ -12,6 +12,7 @@ pub(crate) struct Range {
     pub(crate) has_high: bool,
 }
 
+/// A value, as it is written.
 #[derive(Debug, Drop)]
 pub(crate) enum Value {
     Word(String),
@@ -20,6 +21,7 @@ pub(crate) enum Value {
     Star,
 }
 
+/// A sign in front of a clause.
 #[derive(Clone, Copy, Debug, PartialEq, Eq)]
 pub(crate) enum Sign {
     Plus,
@@ -28,12 +30,14 @@ pub(crate) enum Sign {
     Negation,
 }
 
+/// An operator between clauses.
 #[derive(Clone, Copy, Debug, PartialEq, Eq)]
 pub(crate) enum Operator {
     And,
     Or,
 }
 
+/// A token of a query text.
 #[derive(Debug, Drop)]
 pub(crate) enum Token {
     Value(Value),
@@ -45,6 +49,7 @@ pub(crate) enum Token {
 }
 
 impl Token {
+    /// Whether it is a colon.
     pub(crate) fn is_colon(&self) -> bool
         ensures { result ≡ is_colon (token_view self.now) }
     {

@@ -65,7 +65,7 @@ every_under-insert v w (x ∷ xs) h e = go (val_cmp w x) (every_under-insert v w
     go Equal ih = e
     go Greater ih = (e.0, ih)
 
-ascending-insert : (w : Val) (ws : List Val) → IsAscending ws → IsAscending (insert_val w ws)
+pub ascending-insert : (w : Val) (ws : List Val) → IsAscending ws → IsAscending (insert_val w ws)
 ascending-insert w [] a = (tt, tt)
 ascending-insert w (x ∷ xs) a = go (val_cmp w x) refl (ascending-insert w xs a.1)
   where

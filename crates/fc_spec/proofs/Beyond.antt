@@ -38,7 +38,7 @@ pub wanted_beyond : {B D : Type 0} (R : Reading B D) (nodes : Nodes) (e n : ℕ)
 wanted_beyond R no_nodes e n H X way h = refl
 wanted_beyond R (statistic name s rest) e n H X way h = wanted_beyond R rest e (suc n) H X way h
 wanted_beyond R (facet f inner rest) e n H X way h =
-    let Y = R.domain_on n f.change H X in
+    let Y = R.domain_on n f H X in
     let first : own_depth f.kind + terms_depth inner ≤ e = (let m : max (own_depth f.kind + terms_depth inner) (terms_depth rest) ≤ e = h in omega arith) in
     let second : terms_depth rest ≤ e = (let m : max (own_depth f.kind + terms_depth inner) (terms_depth rest) ≤ e = h in omega arith) in
     let here = nothing_wanted (R.count_on H X == 0) f _ (nothing_at R f.kind inner e n H Y way _ first (λ d less. flat_map_nothing (λ k. wanted R d inner 0 (carried R f.kind inner H Y k) (R.bucket_at f.kind Y k) (way ++ step_to n k)) (printed_keys R f.kind inner H Y)
@@ -47,7 +47,7 @@ wanted_beyond R (facet f inner rest) e n H X way h =
     λ i. here i ++ later i
 
 pub nothing_lacks_beyond : NothingLacksBeyond
-nothing_lacks_beyond r n e sent h = ap (untold (told_in sent)) (wanted_beyond (over_held (told_in sent)) r.nodes e 0 _ [] [] h)
+nothing_lacks_beyond r n e sent h = ap (untold (told_in r.nodes sent)) (wanted_beyond (over_held (told_in r.nodes sent)) r.nodes e 0 _ [] [] h)
 
 -- ---- the shards of what is wanted
 
@@ -83,7 +83,7 @@ pub wanted_among : {B D : Type 0} (R : Reading B D) (nodes : Nodes) (e n : ℕ) 
 wanted_among R no_nodes e n H X way l m = absurd m
 wanted_among R (statistic name s rest) e n H X way l m = wanted_among R rest e (suc n) H X way l m
 wanted_among R (facet f inner rest) e n H X way l m =
-    let Y = R.domain_on n f.change H X in
+    let Y = R.domain_on n f H X in
     let under = λ (d : ℕ). flat_map (λ k. wanted R d inner 0 (carried R f.kind inner H Y k) (R.bucket_at f.kind Y k) (way ++ step_to n k)) (printed_keys R f.kind inner H Y) in
     elim (member_append (facet_wanted (R.count_on H X == 0) f (wanted_at R f.kind inner e n H Y way under)) (wanted R e rest (suc n) H X way) l m) [
       | inl a ↦ at_among R f.kind inner e n H Y way under l

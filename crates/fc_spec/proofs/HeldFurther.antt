@@ -4,22 +4,19 @@ use Rattle.std.specs.List.{AllByRecursion}
 use Rattle.std.specs.Option.{option_and_then}
 use Rattle.std.proofs.lemmas.Bool.{false≢true, eq-eqb}
 use Rattle.fc_spec.specs.World.{World}
-use Rattle.fc_spec.specs.Request.{Request}
+use Rattle.fc_spec.specs.Request.{Facet, Nodes, Request}
 use Rattle.fc_spec.specs.Buckets.{Key}
 use Rattle.fc_spec.specs.KeyOrder.{same_key}
 use Rattle.fc_spec.specs.Message.{Way, Want, way_of, Ask, first, more}
-use Rattle.fc_spec.specs.Answer.{answer, answer_wants, way_spot}
-use Rattle.fc_spec.specs.Held.{Bucket, Told, find_key, row_at, descend, behind, held_in, held, or_else, told_by, told_wants}
+use Rattle.fc_spec.specs.Answer.{answer, answer_wants, Spot, spot_at, spot_in, way_spot, facet_at, nodes_in, nodes_at}
+use Rattle.fc_spec.specs.Base.{root_domain}
+use Rattle.fc_spec.specs.Held.{Bucket, Told, bucket_in, descend, behind, held_in, held, or_else, told_by, told_wants}
 use Rattle.fc_spec.specs.Rounds.{Sent, told_in}
 use Rattle.fc_spec.specs.Merging.{IsAnswer}
 use Rattle.fc_spec.proofs.Members.{Member}
 use Rattle.fc_spec.proofs.Keys.{same_key_itself}
 use Rattle.fc_spec.proofs.Ways.{none_not_some, descend-append, behind-append}
 use Rattle.fc_spec.proofs.HeldAnswers.{IsTold, answer_at}
-
--- the bucket under a key of a node
-abbrev pub below : ℕ → Key → Bucket → Option Bucket
-below n key b = find_key key (row_at n b.rows)
 
 -- a step of a way
 abbrev pub step_to : ℕ → Key → Way
@@ -33,15 +30,15 @@ or_else_second : {A : Type 0} (a b : Option A) → is_some b ≡ true → is_som
 or_else_second None b h = h
 or_else_second (Some x) b h = refl
 
-descend_step : (n : ℕ) (key : Key) (b : Bucket) → descend (step_to n key) b ≡ below n key b
-descend_step n key b = go (below n key b)
+descend_step : (n : ℕ) (key : Key) (b : Bucket) → descend (step_to n key) b ≡ bucket_in n key b
+descend_step n key b = go (bucket_in n key b)
   where
     go : (o : Option Bucket) → option_and_then (descend []) o ≡ o
     go None = refl
     go (Some c) = refl
 
 -- a message that has a bucket has those below it
-held_in_below : (t : Told) (way : Way) (n : ℕ) (key : Key) (b : Bucket) → held_in t way ≡ Some b → is_some (below n key b) ≡ true → is_some (held_in t (way ++ step_to n key)) ≡ true
+held_in_below : (t : Told) (way : Way) (n : ℕ) (key : Key) (b : Bucket) → held_in t way ≡ Some b → is_some (bucket_in n key b) ≡ true → is_some (held_in t (way ++ step_to n key)) ≡ true
 held_in_below t way n key b h k = go (behind t.way way) refl h
   where
     go : (o : Option Way) → behind t.way way ≡ o → option_and_then (λ rest. descend rest t.bucket) o ≡ Some b → is_some (held_in t (way ++ step_to n key)) ≡ true
@@ -51,7 +48,7 @@ held_in_below t way n key b h k = go (behind t.way way) refl h
         ∙ ap is_some (descend-append rest (step_to n key) t.bucket) ∙ ap (λ o. is_some (option_and_then (descend (step_to n key)) o)) f ∙ ap is_some (descend_step n key b) ∙ k
 
 -- where a bucket is held, so are those below it
-pub held_below : (A : List Told) (i : ℕ) (way : Way) (n : ℕ) (key : Key) (b : Bucket) → held A i way ≡ Some b → is_some (below n key b) ≡ true → is_some (held A i (way ++ step_to n key)) ≡ true
+pub held_below : (A : List Told) (i : ℕ) (way : Way) (n : ℕ) (key : Key) (b : Bucket) → held A i way ≡ Some b → is_some (bucket_in n key b) ≡ true → is_some (held A i (way ++ step_to n key)) ≡ true
 held_below [] i way n key b h k = absurd (none_not_some b h)
 held_below (t ∷ ts) i way n key b h k = go (t.shard == i) h (λ e. held_below ts i way n key b e k)
   where
@@ -82,19 +79,32 @@ pub all_append : {X : Type 0} (P : X → Type 0) (xs ys : List X) → AllByRecur
 all_append P [] ys a b = b
 all_append P (x ∷ xs) ys a b = (a.0, all_append P xs ys a.1 b)
 
-wants_told : (r : Request) (W : World) (i : ℕ) (ws : List Want) → AllByRecursion (IsTold r W) (told_wants i ws (answer_wants r W i ws))
-wants_told r W i [] = tt
-wants_told r W i (w ∷ ws) = (refl, wants_told r W i ws)
+spot_nodes : (r : Request) (W : World) (way : Way) (s : Spot) → nodes_at way s.nodes ≡ (spot_at r W way s).nodes
+spot_nodes r W [] s = refl
+spot_nodes r W (step ∷ way) s = ap (nodes_at way) (in_facet (facet_at step.node s.nodes)) ∙ spot_nodes r W way (spot_in r W step.key s.places (facet_at step.node s.nodes))
+  where
+    in_facet : (o : Option (Facet × Nodes)) → nodes_in o ≡ (spot_in r W step.key s.places o).nodes
+    in_facet None = refl
+    in_facet (Some f) = refl
 
-ask_told : (r : Request) (W : World) (i : ℕ) (ask : Ask) → AllByRecursion (IsTold r W) (told_by i ask (answer r W i ask))
+-- a bucket that is answered for a way is told with the nodes where the way leads
+want_told : (r : Request) (W : World) (i : ℕ) (way : Way)
+    → record (answer_at r W i (way_spot r W way)) { nodes = nodes_at way r.nodes } ≡ answer_at r W i (way_spot r W way)
+want_told r W i way = ap (λ ns. record (answer_at r W i (way_spot r W way)) { nodes = ns }) (spot_nodes r W way (record { nodes = r.nodes; places = root_domain r W }))
+
+wants_told : (r : Request) (W : World) (i : ℕ) (ws : List Want) → AllByRecursion (IsTold r W) (told_wants r.nodes i ws (answer_wants r W i ws))
+wants_told r W i [] = tt
+wants_told r W i (w ∷ ws) = (want_told r W i (way_of w), wants_told r W i ws)
+
+ask_told : (r : Request) (W : World) (i : ℕ) (ask : Ask) → AllByRecursion (IsTold r W) (told_by r.nodes i ask (answer r W i ask))
 ask_told r W i first = (refl, tt)
 ask_told r W i (more ws) = wants_told r W i ws
 
 -- what answers tell is told
-pub answers_told : (r : Request) (W : World) (sent : List Sent) → AllByRecursion (IsAnswer r W) sent → AllByRecursion (IsTold r W) (told_in sent)
+pub answers_told : (r : Request) (W : World) (sent : List Sent) → AllByRecursion (IsAnswer r W) sent → AllByRecursion (IsTold r W) (told_in r.nodes sent)
 answers_told r W [] a = tt
 answers_told r W (s ∷ ss) a =
-    all_append (IsTold r W) (told_by s.shard s.ask s.message) (told_in ss) (subst (λ m. AllByRecursion (IsTold r W) (told_by s.shard s.ask m)) (sym a.0) (ask_told r W s.shard s.ask)) (answers_told r W ss a.1)
+    all_append (IsTold r W) (told_by r.nodes s.shard s.ask s.message) (told_in r.nodes ss) (subst (λ m. AllByRecursion (IsTold r W) (told_by r.nodes s.shard s.ask m)) (sym a.0) (ask_told r W s.shard s.ask)) (answers_told r W ss a.1)
 
 behind_itself : (way : Way) → behind way way ≡ Some []
 behind_itself [] = refl
@@ -110,7 +120,7 @@ told_held t ts =
     or_else_first (cond (t.shard == t.shard) (held_in t t.way) None) (held ts t.shard t.way) (ap (λ b. is_some (cond b (held_in t t.way) None)) (eq-eqb t.shard t.shard refl) ∙ ap is_some (own_held t))
 
 -- an answer to wants holds each of them
-pub wants_held : (r : Request) (W : World) (i : ℕ) (ws : List Want) (w : Want) → Member w ws → is_some (held (told_wants i ws (answer_wants r W i ws)) i (way_of w)) ≡ true
+pub wants_held : (r : Request) (W : World) (i : ℕ) (ws : List Want) (w : Want) → Member w ws → is_some (held (told_wants r.nodes i ws (answer_wants r W i ws)) i (way_of w)) ≡ true
 wants_held r W i [] w m = absurd m
-wants_held r W i (v ∷ ws) w (inl e) = subst (λ u. is_some (held (told_wants i (v ∷ ws) (answer_wants r W i (v ∷ ws))) i (way_of u)) ≡ true) (sym e) (told_held (record { shard = i; way = way_of v; bucket = answer_at r W i (way_spot r W (way_of v)) }) (told_wants i ws (answer_wants r W i ws)))
-wants_held r W i (v ∷ ws) w (inr m) = or_else_second _ (held (told_wants i ws (answer_wants r W i ws)) i (way_of w)) (wants_held r W i ws w m)
+wants_held r W i (v ∷ ws) w (inl e) = subst (λ u. is_some (held (told_wants r.nodes i (v ∷ ws) (answer_wants r W i (v ∷ ws))) i (way_of u)) ≡ true) (sym e) (told_held (record { shard = i; way = way_of v; bucket = record (answer_at r W i (way_spot r W (way_of v))) { nodes = nodes_at (way_of v) r.nodes } }) (told_wants r.nodes i ws (answer_wants r W i ws)))
+wants_held r W i (v ∷ ws) w (inr m) = or_else_second _ (held (told_wants r.nodes i ws (answer_wants r W i ws)) i (way_of w)) (wants_held r W i ws w m)

@@ -4,7 +4,6 @@ use Rattle.std.specs.Prelude.{nat_lt}
 use Rattle.std.proofs.lemmas.Bool.{and_parts, and_from, eqb-true, eq-eqb, ltb-true}
 use Rattle.fc_spec.specs.Document.{Block}
 use Rattle.fc_spec.specs.World.{Place, same_block}
-use Rattle.fc_spec.specs.Domain.{same_place}
 use Rattle.fc_spec.proofs.Members.{same_tests}
 use Rattle.fc_spec.proofs.Renumbered.{Numbers, renumbered}
 
@@ -71,8 +70,3 @@ same_numbers n s t a b h k = same_tests _ _ forth back
 pub same_blocks_joining : (A : List Block) (x y : Place) → fits A x ≡ true → fits A y ≡ true → same_block (renumbered (joining A) x) (renumbered (joining A) y) ≡ same_block x y
 same_blocks_joining A x y h k =
     same_numbers (length A) x.shard y.shard x.block y.block (fits_parts A x.shard x.block x.position h).0 (fits_parts A y.shard y.block y.position k).0
-
--- and one place where they were
-pub same_places_joining : (A : List Block) (x y : Place) → fits A x ≡ true → fits A y ≡ true → same_place (renumbered (joining A) x) (renumbered (joining A) y) ≡ same_place x y
-same_places_joining A x y h k =
-    same_numbers (documents A) x.shard y.shard x.position y.position (fits_parts A x.shard x.block x.position h).1 (fits_parts A y.shard y.block y.position k).1

@@ -6,7 +6,7 @@ use Rattle.fc_spec.specs.Document.{Document, Block}
 use Rattle.fc_spec.specs.World.{World, places_from, shard_places, block_places}
 use Rattle.fc_spec.proofs.Members.{Every, every_append}
 use Rattle.fc_spec.proofs.Renumbered.{Renumbering}
-use Rattle.fc_spec.proofs.JoinedNumbers.{documents, joining, fits_first, fits, same_blocks_joining, same_places_joining}
+use Rattle.fc_spec.proofs.JoinedNumbers.{documents, joining, fits_first, fits, same_blocks_joining}
 use Rattle.fc_spec.proofs.JoinedPlaces.{places_joining}
 
 -- numbers within the blocks
@@ -52,5 +52,4 @@ joining_renumbers A B rest = record {
   known = fits A;
   all_known = every_append (fits A) (shard_places 0 0 0 A) (places_from 1 (B ∷ rest)) (first_fits A 0 0 A (omega arith) (omega arith)) (later_fits A 0 (B ∷ rest));
   same_blocks = same_blocks_joining A;
-  same_places = same_places_joining A;
 }

@@ -20,7 +20,7 @@ greater_comm (Some a) None = refl
 greater_comm (Some a) (Some b) = ap Some (omega (arith, ints, clamps))
 
 -- the least of three
-lesser_assoc : (a b c : Option ℤ) → lesser (lesser a b) c ≡ lesser a (lesser b c)
+pub lesser_assoc : (a b c : Option ℤ) → lesser (lesser a b) c ≡ lesser a (lesser b c)
 lesser_assoc None b c = refl
 lesser_assoc (Some a) None c = refl
 lesser_assoc (Some a) (Some b) None = refl

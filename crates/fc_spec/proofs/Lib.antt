@@ -54,7 +54,6 @@ pub mod RoundComplete
 pub mod SearchEnds
 pub mod OwnBlocks
 pub mod WordBits
-pub mod TreeReading
 pub mod Present
 pub mod ReadIsSpelled
 pub mod SpelledIsRead

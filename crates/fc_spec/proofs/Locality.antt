@@ -1,17 +1,17 @@
 -- Locality: the part of a domain on some shards is made from the part of the bucket around it there.
-use Rattle.std.proofs.Common.{◌≡◌, ℕ, List, [], ◌∷◌, Bool, true, false, cond, ◌||◌, ◌&&◌, refl, sym, ◌∙◌, ap}
+use Rattle.std.proofs.Common.{◌≡◌, ℕ, List, [], ◌∷◌, Bool, true, false, cond, ◌&&◌, refl, sym, ◌∙◌, ap}
 use Rattle.std.specs.List.{filter, list_any, list_all}
 use Rattle.std.proofs.lemmas.Bool.{false≢true, and_parts}
 use Rattle.fc_spec.specs.Lists.{is_empty}
 use Rattle.fc_spec.specs.Query.{Query}
 use Rattle.fc_spec.specs.Matching.{matches}
-use Rattle.fc_spec.specs.World.{World, Place, places, on_shards}
+use Rattle.fc_spec.specs.World.{World, Place, places, on_shards, same_block}
 use Rattle.fc_spec.specs.Request.{Request, BlockStep, stay, parents, children, DomainChange, Kind}
 use Rattle.fc_spec.specs.Base.{base}
-use Rattle.fc_spec.specs.Domain.{domain, moved, filtered, children_of, parents_of, same_place, is_parent_of}
+use Rattle.fc_spec.specs.Domain.{domain, moved, filtered, children_of, parents_of, is_parent_of}
 use Rattle.fc_spec.specs.Buckets.{Key, in_bucket, bucket_places}
 use Rattle.fc_spec.proofs.Members.{Every, same_tests, passing_member, any_by_member, filter_member, member_of_filter, filter_every, every_own_filter}
-use Rattle.fc_spec.proofs.Shards.{is_on, on_same_shard, parent_shard, own_or_child_shard, domain_on_shards}
+use Rattle.fc_spec.proofs.Shards.{is_on, on_same_shard, parent_shard, same_block_shard, domain_on_shards}
 
 -- the order of two filters does not matter
 pub filter-filter : {X : Type 0} (p q : X → Bool) (xs : List X) → filter p (filter q xs) ≡ filter q (filter p xs)
@@ -53,8 +53,8 @@ children_local W q H S =
 
 parents_local : (W : World) (q : Query) (H : List ℕ) (S : List Place) → on_shards H (parents_of W q (on_shards H S)) ≡ on_shards H (parents_of W q S)
 parents_local W q H S =
-    filter_alike (is_on H) (λ p. p.parent && matches q p.document && list_any (λ y. same_place p y || is_parent_of p y) (on_shards H S)) (λ p. p.parent && matches q p.document && list_any (λ y. same_place p y || is_parent_of p y) S) (places W) (λ p on.
-    ap (λ b. p.parent && matches q p.document && b) (found_in_part (is_on H) (λ y. same_place p y || is_parent_of p y) S (λ y h. on_same_shard H p y (sym (own_or_child_shard p y h)) on)))
+    filter_alike (is_on H) (λ p. p.parent && matches q p.document && list_any (same_block p) (on_shards H S)) (λ p. p.parent && matches q p.document && list_any (same_block p) S) (places W) (λ p on.
+    ap (λ b. p.parent && matches q p.document && b) (found_in_part (is_on H) (same_block p) S (λ y h. on_same_shard H p y (same_block_shard p y h) on)))
 
 pub moved_local : (W : World) (b : BlockStep) (H : List ℕ) (S : List Place) → on_shards H (moved W b (on_shards H S)) ≡ on_shards H (moved W b S)
 moved_local W stay H S = filter_twice (is_on H) S

@@ -66,4 +66,4 @@ told_merge r W A outermost all roots none =
     λ i. bucket None (count_agrees r W A (numbers_below (length W)) [] (root_domain r W) all state i) (facets i)
 
 pub answers_merge_into_reply : MergesIntoReply
-answers_merge_into_reply r W sent outermost answers roots none = told_merge r W (told_in sent) outermost (answers_told r W sent answers) roots none
+answers_merge_into_reply r W sent outermost answers roots none = told_merge r W (told_in r.nodes sent) outermost (answers_told r W sent answers) roots none

@@ -15,7 +15,7 @@ use Rattle.fc_spec.specs.Reading.{offered}
 use Rattle.fc_spec.specs.Message.{Way}
 use Rattle.fc_spec.specs.Statistics.{Stats}
 use Rattle.fc_spec.specs.Message.{Rows}
-use Rattle.fc_spec.specs.Answer.{not_empty, partials_of, answer_keys, answer_domain, facet_at, way_spot}
+use Rattle.fc_spec.specs.Answer.{not_empty, partials_of, answer_keys, answer_domain, facet_at, nodes_in, way_spot}
 use Rattle.fc_spec.specs.Held.{Told, find_key, held, listed_value, listed_values}
 use Rattle.fc_spec.specs.Merged.{values_held}
 use Rattle.fc_spec.proofs.Members.{Member, passing_member}
@@ -83,8 +83,8 @@ pub listed_is_held : (r : Request) (W : World) (A : List Told) (way : Way) (n i 
     → facet_at n (nodes_of r W way) ≡ Some (f, inner) → Member key (answer_keys f.kind inner (answer_domain r W i f (part i (places_at r W way))) i) → is_some (held A i (way ++ step_to n key)) ≡ true
 listed_is_held r W A way n i f inner key all h at m =
     held_below A i way n key (answer_at r W i (way_spot r W way)) (held_is r W A way i all h)
-    (ap (λ ps. is_some (find_key key ps)) (row_at-answer_rows r W i n (nodes_of r W way) (part i (places_at r W way)) ∙ ap (listed_for r W i (part i (places_at r W way))) at)
-    ∙ find_key-member _ _ (answer_keys f.kind inner (answer_domain r W i f (part i (places_at r W way))) i) key m)
+    (ap (λ ps. is_some (find_key (nodes_in (facet_at n (nodes_of r W way))) key ps)) (row_at-answer_rows r W i n (nodes_of r W way) (part i (places_at r W way)) ∙ ap (listed_for r W i (part i (places_at r W way))) at)
+    ∙ find_key-member _ _ _ (answer_keys f.kind inner (answer_domain r W i f (part i (places_at r W way))) i) key m)
 
 member_value : (v : Val) (vs : List Val) (rest : List Key) → has_val v vs ≡ true → Member (value v) (map value vs ++ rest)
 member_value v vs rest h = let r = passing_member (same_val v) vs h in go vs (subst (λ w. Member w vs) (sym (same_val_exact v r.0 r.2)) r.1)

@@ -6,10 +6,10 @@ use Rattle.std.proofs.lemmas.List.{map-append}
 use Rattle.fc_spec.specs.Document.{Document, Block}
 use Rattle.fc_spec.specs.Lists.{is_empty}
 use Rattle.fc_spec.specs.Matching.{matches}
-use Rattle.fc_spec.specs.World.{World, Place, places, places_from, shard_places, block_places, on_shards}
+use Rattle.fc_spec.specs.World.{World, Place, places, places_from, shard_places, block_places, on_shards, same_block}
 use Rattle.fc_spec.specs.Request.{Stat, Request, BlockStep, stay, parents, children, DomainChange, Kind, terms, range, query, Facet, Nodes, no_nodes, statistic, facet, stats_of}
 use Rattle.fc_spec.specs.Base.{base, meets_base, root_domain}
-use Rattle.fc_spec.specs.Domain.{domain, moved, filtered, same_place, is_parent_of}
+use Rattle.fc_spec.specs.Domain.{domain, moved, filtered, is_parent_of}
 use Rattle.fc_spec.specs.Buckets.{Key, value, missing, whole, in_bucket, bucket_places}
 use Rattle.fc_spec.specs.Statistics.{stats_over}
 use Rattle.fc_spec.specs.Printed.{asked, range_keys}
@@ -139,8 +139,8 @@ moved_put : (V W : World) (i j : ℕ) (b : BlockStep) (P : List Place) → SameA
 moved_put V W i j stay P same alike = alike ∙ ap (put j) (sym (filter_twice (is_on (i ∷ [])) P))
 moved_put V W i j (parents q) P same alike = filtered_alike V W i j _ _ same (λ p h.
     ap (λ b. p.parent && matches q p.document && b)
-    (list_any-map (renumbered (to_shard j)) (is_on (i ∷ [])) (λ y. same_place (renumbered (to_shard j) p) y || is_parent_of (renumbered (to_shard j) p) y) (λ y. same_place p y || is_parent_of p y) (part i P)
-    (λ y k m. (shards_put i j p y h k m && (p.position == y.position)) || (p.parent && not y.parent && (shards_put i j p y h k m && (p.block == y.block)))) (every_on_shards (i ∷ []) P)))
+    (list_any-map (renumbered (to_shard j)) (is_on (i ∷ [])) (same_block (renumbered (to_shard j) p)) (same_block p) (part i P)
+    (λ y k m. shards_put i j p y h k m && (p.block == y.block)) (every_on_shards (i ∷ []) P)))
 moved_put V W i j (children q) P same alike = filtered_alike V W i j _ _ same (λ p h.
     list_any-map (renumbered (to_shard j)) (is_on (i ∷ [])) (λ y. is_parent_of y (renumbered (to_shard j) p) && matches q y.document) (λ y. is_parent_of y p && matches q y.document) (part i P)
     (λ y k m. (y.parent && not p.parent && (shards_put i j y p k h m && (y.block == p.block))) && matches q y.document) (every_on_shards (i ∷ []) P))
@@ -191,7 +191,7 @@ bucket_stats_put j kind ss D key = ap (stats_over ss) (bucket_renumbered (to_sha
 
 rows_alike : (r : Request) (V W : World) (i j : ℕ) (nodes : Nodes) (X Y : List Place) → SameAt i j V W → Alike i j X Y → answer_rows r W j nodes Y ≡ answer_rows r V i nodes X
 rows_alike r V W i j no_nodes X Y same alike = refl
-rows_alike r V W i j (statistic name s rest) X Y same alike = ap (row no_partials) (rows_alike r V W i j rest X Y same alike)
+rows_alike r V W i j (statistic name s rest) X Y same alike = rows_alike r V W i j rest X Y same alike
 rows_alike r V W i j (facet f inner rest) X Y same alike =
     let D = answer_domain r V i f X in
     let over : answer_domain r W j f Y ≡ put j D = domain_alike r V W i j f.change X Y same alike in

@@ -6,7 +6,7 @@ use Rattle.fc_spec.specs.QueryTokens.{Value, word, quoted, range, star, Sign, Op
 use Rattle.fc_spec.specs.QueryTrees.{Atom, plain, nested, Group, name_tokens, sign_tokens, operator_tokens, atom_tokens, group_tokens}
 use Rattle.fc_spec.specs.QueryForms.{IsAtom, IsGroup, AreClauses, atom_nesting, nesting}
 use Rattle.fc_spec.proofs.Present.{bound, mapped, weaker}
-use Rattle.fc_spec.proofs.TreeReading.{Row, Reader, sign_at, operator_at, past_closing, nested_at, named_at, everything_at, behind_colon_at, value_at, atom_at, clause_at, with_clause, clauses_at, group_at, group_within}
+use Rattle.fc_spec.specs.TreeReading.{Row, Reader, sign_at, operator_at, past_closing, nested_at, named_at, everything_at, behind_colon_at, value_at, atom_at, clause_at, with_clause, clauses_at, group_at, group_within}
 
 -- the atom and what is left of the row
 pub record IsAtomOf (depth : ℕ) (in_field : Bool) (ts : Row) (a : Atom × Row) : Type 0 where

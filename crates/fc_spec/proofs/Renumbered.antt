@@ -2,7 +2,6 @@
 use Rattle.std.proofs.Common.{◌≡◌, ℕ, List, map, Bool, true, refl, ◌∙◌, ap}
 use Rattle.std.specs.List.{filter}
 use Rattle.fc_spec.specs.World.{World, Place, places, same_block}
-use Rattle.fc_spec.specs.Domain.{same_place}
 use Rattle.fc_spec.proofs.Members.{Every, every_from_members}
 use Rattle.fc_spec.proofs.MappedLists.{filter-map}
 
@@ -16,14 +15,13 @@ pub record Numbers : Type 0 where
 abbrev pub renumbered : Numbers → Place → Place
 renumbered n p = record { shard = n.shard p; position = n.position p; block = n.block p; parent = p.parent; document = p.document }
 
--- the places of V are those of W with other numbers, and are of one block, or one place, where those are
+-- the places of V are those of W with other numbers, and are of one block where those are
 pub record Renumbering (W V : World) : Type 0 where
   pub numbers : Numbers
   pub image : places V ≡ map (renumbered numbers) (places W)
   pub known : Place → Bool
   pub all_known : Every known (places W)
   pub same_blocks : (x y : Place) → known x ≡ true → known y ≡ true → same_block (renumbered numbers x) (renumbered numbers y) ≡ same_block x y
-  pub same_places : (x y : Place) → known x ≡ true → known y ≡ true → same_place (renumbered numbers x) (renumbered numbers y) ≡ same_place x y
 
 -- a filter of all places, by a test that gives the same before and after
 pub filter_places : {W V : World} (R : Renumbering W V) (t s : Place → Bool) → ((x : Place) → R.known x ≡ true → t (renumbered R.numbers x) ≡ s x)

@@ -1,14 +1,14 @@
 -- The domains of places with other numbers, where the numbers tell the same blocks and places apart.
-use Rattle.std.proofs.Common.{◌≡◌, List, map, Bool, true, false, cond, ◌&&◌, ◌||◌, not, refl, ◌∙◌, ap}
+use Rattle.std.proofs.Common.{◌≡◌, List, map, Bool, true, false, cond, ◌&&◌, not, refl, ◌∙◌, ap}
 use Rattle.std.specs.List.{list_all}
 use Rattle.fc_spec.specs.Val.{Text}
 use Rattle.fc_spec.specs.Lists.{is_empty}
 use Rattle.fc_spec.specs.Query.{Query}
 use Rattle.fc_spec.specs.Matching.{matches}
-use Rattle.fc_spec.specs.World.{World, Place, places}
+use Rattle.fc_spec.specs.World.{World, Place, places, same_block}
 use Rattle.fc_spec.specs.Request.{Request, BlockStep, stay, parents, children, DomainChange}
 use Rattle.fc_spec.specs.Base.{base, meets_base}
-use Rattle.fc_spec.specs.Domain.{domain, moved, filtered, children_of, parents_of, same_place, is_parent_of}
+use Rattle.fc_spec.specs.Domain.{domain, moved, filtered, children_of, parents_of, is_parent_of}
 use Rattle.fc_spec.proofs.Members.{Every, every_filter}
 use Rattle.fc_spec.proofs.MappedLists.{list_any-map}
 use Rattle.fc_spec.proofs.Renumbered.{Renumbering, renumbered, filter_places, filter_renumbered}
@@ -29,8 +29,8 @@ parents_renumbered : {W V : World} (R : Renumbering W V) (q : Query) (Y : List P
     → parents_of V q (map (renumbered R.numbers) Y) ≡ map (renumbered R.numbers) (parents_of W q Y)
 parents_renumbered R q Y known = filter_places R _ _ (λ p h.
     ap (λ b. p.parent && matches q p.document && b)
-    (list_any-map (renumbered R.numbers) R.known (λ y. same_place (renumbered R.numbers p) y || is_parent_of (renumbered R.numbers p) y) (λ y. same_place p y || is_parent_of p y) Y
-    (λ y k i. R.same_places p y h k i || (p.parent && not y.parent && R.same_blocks p y h k i)) known))
+    (list_any-map (renumbered R.numbers) R.known (same_block (renumbered R.numbers p)) (same_block p) Y
+    (λ y k. R.same_blocks p y h k) known))
 
 -- a block step of renumbered places
 moved_renumbered : {W V : World} (R : Renumbering W V) (b : BlockStep) (Y : List Place) → Every R.known Y

@@ -4,7 +4,7 @@ use Rattle.std.specs.List.{AllByRecursion, filter}
 use Rattle.std.proofs.lemmas.Bool.{eq-eqb, ne_eqb, cases_lt}
 use Rattle.fc_spec.specs.Lists.{is_empty, numbers_below}
 use Rattle.fc_spec.specs.World.{World}
-use Rattle.fc_spec.specs.Request.{Request}
+use Rattle.fc_spec.specs.Request.{Nodes, Request}
 use Rattle.fc_spec.specs.Base.{root_domain}
 use Rattle.fc_spec.specs.Shape.{outermost_exclusions}
 use Rattle.fc_spec.specs.Reading.{over_places}
@@ -24,15 +24,15 @@ use Rattle.fc_spec.proofs.WantedAgree.{wanted_agrees}
 use Rattle.fc_spec.proofs.Beyond.{wanted_among}
 
 -- what is told in more messages
-pub told_in-append : (xs ys : List Sent) → told_in (xs ++ ys) ≡ told_in xs ++ told_in ys
-told_in-append [] ys = refl
-told_in-append (x ∷ xs) ys = ap (λ t. told_by x.shard x.ask x.message ++ t) (told_in-append xs ys) ∙ sym (append_assoc (told_by x.shard x.ask x.message) (told_in xs) (told_in ys))
+pub told_in-append : (nodes : Nodes) (xs ys : List Sent) → told_in nodes (xs ++ ys) ≡ told_in nodes xs ++ told_in nodes ys
+told_in-append nodes [] ys = refl
+told_in-append nodes (x ∷ xs) ys = ap (λ t. told_by nodes x.shard x.ask x.message ++ t) (told_in-append nodes xs ys) ∙ sym (append_assoc (told_by nodes x.shard x.ask x.message) (told_in nodes xs) (told_in nodes ys))
 
 -- what is held of one of some messages is held of all
-held_of_one : (ss : List Sent) (s : Sent) (i : ℕ) (way : Way) → Member s ss → is_some (held (told_by s.shard s.ask s.message) i way) ≡ true → is_some (held (told_in ss) i way) ≡ true
-held_of_one [] s i way m h = absurd m
-held_of_one (x ∷ xs) s i way (inl e) h = held_among_more (told_by x.shard x.ask x.message) (told_in xs) i way (subst (λ y. is_some (held (told_by y.shard y.ask y.message) i way) ≡ true) e h)
-held_of_one (x ∷ xs) s i way (inr m) h = held_among_later (told_by x.shard x.ask x.message) (told_in xs) i way (held_of_one xs s i way m h)
+held_of_one : (nodes : Nodes) (ss : List Sent) (s : Sent) (i : ℕ) (way : Way) → Member s ss → is_some (held (told_by nodes s.shard s.ask s.message) i way) ≡ true → is_some (held (told_in nodes ss) i way) ≡ true
+held_of_one nodes [] s i way m h = absurd m
+held_of_one nodes (x ∷ xs) s i way (inl e) h = held_among_more (told_by nodes x.shard x.ask x.message) (told_in nodes xs) i way (subst (λ y. is_some (held (told_by nodes y.shard y.ask y.message) i way) ≡ true) e h)
+held_of_one nodes (x ∷ xs) s i way (inr m) h = held_among_later (told_by nodes x.shard x.ask x.message) (told_in nodes xs) i way (held_of_one nodes xs s i way m h)
 
 map_member : {X Y : Type 0} (f : X → Y) (xs : List X) (x : X) → Member x xs → Member (f x) (map f xs)
 map_member f [] x m = absurd m
@@ -44,10 +44,10 @@ a_member_is_there [] x m = absurd m
 a_member_is_there (y ∷ ys) x m = ap not (ne_eqb (suc (length ys)) 0 (λ e. omega arith))
 
 -- the round that asks for what lacks holds it
-pub later_round_holds : (r : Request) (W : World) (round : ℕ) (all : List Lack) (l : Lack) → Member l.shard (numbers_below (length W)) → Member l all → is_some (held (told_in (later_round r W round all)) l.shard (way_of l.want)) ≡ true
+pub later_round_holds : (r : Request) (W : World) (round : ℕ) (all : List Lack) (l : Lack) → Member l.shard (numbers_below (length W)) → Member l all → is_some (held (told_in r.nodes (later_round r W round all)) l.shard (way_of l.want)) ≡ true
 later_round_holds r W round all l at m =
     let mine = map_member (λ (k : Lack). k.want) (filter (λ k. k.shard == l.shard) all) l (member_of_filter (λ k. k.shard == l.shard) all l m (eq-eqb l.shard l.shard refl)) in
-    held_of_one (later_round r W round all) (sent_by r W round l.shard (more (wants_of l.shard all))) l.shard (way_of l.want)
+    held_of_one r.nodes (later_round r W round all) (sent_by r W round l.shard (more (wants_of l.shard all))) l.shard (way_of l.want)
     (map_member (λ i. sent_by r W round i (more (wants_of i all))) (filter (λ i. not (is_empty (wants_of i all))) (numbers_below (length W))) l.shard
     (member_of_filter (λ i. not (is_empty (wants_of i all))) (numbers_below (length W)) l.shard at (a_member_is_there (wants_of l.shard all) l.want mine)))
     (wants_held r W l.shard (wants_of l.shard all) l.want mine)
@@ -121,29 +121,29 @@ lacks_at_shards r n A e l m =
 
 pub rounds_complete : RoundsComplete
 rounds_complete r W sent extra e outermost answers further roots none holds =
-    by_those_below (λ d. lacks r (length W) (told_in (sent ++ extra)) d ≡ []) (e + 1) (λ d less below.
-    subst (λ T. lacks r (length W) T d ≡ []) (sym (told_in-append sent extra))
-    (told_complete r W (told_in sent) (told_in extra) e outermost (answers_told r W sent answers)
-    (all_append (IsTold r W) (told_in sent) (told_in extra) (answers_told r W sent answers) (answers_told r W extra further)) roots none
-    (λ l m. every_member (λ k. is_some (held (told_in extra) k.shard (way_of k.want))) lacking l (all_told (told_in extra) lacking holds) m)
-    d less (λ c h. subst (λ T. lacks r (length W) T c ≡ []) (told_in-append sent extra) (below c h))))
+    by_those_below (λ d. lacks r (length W) (told_in r.nodes (sent ++ extra)) d ≡ []) (e + 1) (λ d less below.
+    subst (λ T. lacks r (length W) T d ≡ []) (sym (told_in-append r.nodes sent extra))
+    (told_complete r W (told_in r.nodes sent) (told_in r.nodes extra) e outermost (answers_told r W sent answers)
+    (all_append (IsTold r W) (told_in r.nodes sent) (told_in r.nodes extra) (answers_told r W sent answers) (answers_told r W extra further)) roots none
+    (λ l m. every_member (λ k. is_some (held (told_in r.nodes extra) k.shard (way_of k.want))) lacking l (all_told (told_in r.nodes extra) lacking holds) m)
+    d less (λ c h. subst (λ T. lacks r (length W) T c ≡ []) (told_in-append r.nodes sent extra) (below c h))))
   where
     lacking : List Lack
-    lacking = lacks r (length W) (told_in sent) e
+    lacking = lacks r (length W) (told_in r.nodes sent) e
 
 pub rounds_answer : RoundsAnswer
 rounds_answer r W A e round = (
   later_round_answers r W round lacking,
-  none_untold (told_in (later_round r W round lacking)) lacking
-      (every_from_members (λ l. is_some (held (told_in (later_round r W round lacking)) l.shard (way_of l.want))) lacking (λ l m. later_round_holds r W round lacking l (lacks_at_shards r (length W) A e l m) m)),
+  none_untold (told_in r.nodes (later_round r W round lacking)) lacking
+      (every_from_members (λ l. is_some (held (told_in r.nodes (later_round r W round lacking)) l.shard (way_of l.want))) lacking (λ l m. later_round_holds r W round lacking l (lacks_at_shards r (length W) A e l m) m)),
 )
   where
     lacking : List Lack
     lacking = lacks r (length W) A e
 
 -- where answers lack nothing below a depth, the round that answers what lacks there completes it
-pub round_completes : (r : Request) (W : World) (sent : List Sent) (e round : ℕ) → outermost_exclusions r.nodes ≡ true → AllByRecursion (IsAnswer r W) sent → HasRoots (length W) (told_in sent)
-    → LacksNothingBelow r (length W) sent e → LacksNothingBelow r (length W) (sent ++ later_round r W round (lacks r (length W) (told_in sent) e)) (e + 1)
+pub round_completes : (r : Request) (W : World) (sent : List Sent) (e round : ℕ) → outermost_exclusions r.nodes ≡ true → AllByRecursion (IsAnswer r W) sent → HasRoots (length W) (told_in r.nodes sent)
+    → LacksNothingBelow r (length W) sent e → LacksNothingBelow r (length W) (sent ++ later_round r W round (lacks r (length W) (told_in r.nodes sent) e)) (e + 1)
 round_completes r W sent e round outermost answers roots none =
-    let round_answers = rounds_answer r W (told_in sent) e round in
-    rounds_complete r W sent (later_round r W round (lacks r (length W) (told_in sent) e)) e outermost answers round_answers.0 roots none round_answers.1
+    let round_answers = rounds_answer r W (told_in r.nodes sent) e round in
+    rounds_complete r W sent (later_round r W round (lacks r (length W) (told_in r.nodes sent) e)) e outermost answers round_answers.0 roots none round_answers.1

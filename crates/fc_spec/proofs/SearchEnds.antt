@@ -44,29 +44,29 @@ next_is r n A (suc k) e = go (is_empty (lacks r n A e)) refl (next_is r n A k (s
 
 -- what a search has in the end
 abbrev pub HasEnded : Request → World → List Sent → Type 0
-HasEnded r W sent = AllByRecursion (IsAnswer r W) sent × HasRoots (length W) (told_in sent) × LacksNothing r (length W) (told_in sent)
+HasEnded r W sent = AllByRecursion (IsAnswer r W) sent × HasRoots (length W) (told_in r.nodes sent) × LacksNothing r (length W) (told_in r.nodes sent)
 
 -- nothing lacks below the depth of the terms facets, so nothing at all
-nothing_at_all : (r : Request) (n : ℕ) (sent : List Sent) → LacksNothingBelow r n sent (terms_depth r.nodes) → LacksNothing r n (told_in sent)
+nothing_at_all : (r : Request) (n : ℕ) (sent : List Sent) → LacksNothingBelow r n sent (terms_depth r.nodes) → LacksNothing r n (told_in r.nodes sent)
 nothing_at_all r n sent none e = elim (cases_lt e (terms_depth r.nodes)) [ inl low ↦ none e low | inr high ↦ nothing_lacks_beyond r n e sent high ]
 
-ends_from : (r : Request) (W : World) (left done round : ℕ) (sent : List Sent) → outermost_exclusions r.nodes ≡ true → terms_depth r.nodes ≤ done + left → AllByRecursion (IsAnswer r W) sent → HasRoots (length W) (told_in sent)
+ends_from : (r : Request) (W : World) (left done round : ℕ) (sent : List Sent) → outermost_exclusions r.nodes ≡ true → terms_depth r.nodes ≤ done + left → AllByRecursion (IsAnswer r W) sent → HasRoots (length W) (told_in r.nodes sent)
     → LacksNothingBelow r (length W) sent done → HasEnded r W (rounds_from r W left round sent)
 ends_from r W zero done round sent outermost bound answers roots none = (answers, roots, nothing_at_all r (length W) sent (λ d less. none d (omega arith)))
-ends_from r W (suc left) done round sent outermost bound answers roots none = go (next_is r (length W) (told_in sent) (terms_depth r.nodes) 0) (λ s. ends_from r W left (done + 1) (suc round) s outermost (omega arith))
+ends_from r W (suc left) done round sent outermost bound answers roots none = go (next_is r (length W) (told_in r.nodes sent) (terms_depth r.nodes) 0) (λ s. ends_from r W left (done + 1) (suc round) s outermost (omega arith))
   where
     all : List Lack
-    all = next_lacks r (length W) (told_in sent) (terms_depth r.nodes) 0
+    all = next_lacks r (length W) (told_in r.nodes sent) (terms_depth r.nodes) 0
 
-    go : IsNext r (length W) (told_in sent) (terms_depth r.nodes) 0 all
-        → ((s : List Sent) → AllByRecursion (IsAnswer r W) s → HasRoots (length W) (told_in s) → LacksNothingBelow r (length W) s (done + 1) → HasEnded r W (rounds_from r W left (suc round) s))
+    go : IsNext r (length W) (told_in r.nodes sent) (terms_depth r.nodes) 0 all
+        → ((s : List Sent) → AllByRecursion (IsAnswer r W) s → HasRoots (length W) (told_in r.nodes s) → LacksNothingBelow r (length W) s (done + 1) → HasEnded r W (rounds_from r W left (suc round) s))
         → HasEnded r W (cond (is_empty all) sent (rounds_from r W left (suc round) (sent ++ later_round r W round all)))
     go (inl ended) ih = subst (λ b. HasEnded r W (cond b sent (rounds_from r W left (suc round) (sent ++ later_round r W round all)))) (sym (ap is_empty ended.0)) (answers, roots, nothing_at_all r (length W) sent (λ d less. ended.1 d (omega arith) (omega arith)))
     go (inr goes_on) ih =
         subst (λ b. HasEnded r W (cond b sent (rounds_from r W left (suc round) (sent ++ later_round r W round all)))) (sym goes_on.2)
         (ih (sent ++ later_round r W round all) (all_append (IsAnswer r W) sent (later_round r W round all) answers (later_round_answers r W round all))
-        (λ i h. subst (λ T. is_some (held T i []) ≡ true) (sym (told_in-append sent (later_round r W round all))) (held_among_more (told_in sent) (told_in (later_round r W round all)) i [] (roots i h)))
-        (λ d less. subst (λ a. lacks r (length W) (told_in (sent ++ later_round r W round a)) d ≡ []) (sym goes_on.1)
+        (λ i h. subst (λ T. is_some (held T i []) ≡ true) (sym (told_in-append r.nodes sent (later_round r W round all))) (held_among_more (told_in r.nodes sent) (told_in r.nodes (later_round r W round all)) i [] (roots i h)))
+        (λ d less. subst (λ a. lacks r (length W) (told_in r.nodes (sent ++ later_round r W round a)) d ≡ []) (sym goes_on.1)
         (round_completes r W sent goes_on.0 round outermost answers roots (λ c h. goes_on.3 c (omega arith) h) d (deeper d less (cases_lt goes_on.0 done)))))
       where
         deeper : (d : ℕ) → d < done + 1 → (goes_on.0 < done) ⊎ (done ≤ goes_on.0) → d < goes_on.0 + 1
@@ -78,10 +78,10 @@ first_answers r W [] = tt
 first_answers r W (i ∷ is) = (refl, first_answers r W is)
 
 -- each shard that is asked first tells of its root
-first_roots : (r : Request) (W : World) (is : List ℕ) (i : ℕ) → Member i is → is_some (held (told_in (map (λ j. sent_by r W 1 j first) is)) i []) ≡ true
+first_roots : (r : Request) (W : World) (is : List ℕ) (i : ℕ) → Member i is → is_some (held (told_in r.nodes (map (λ j. sent_by r W 1 j first) is)) i []) ≡ true
 first_roots r W [] i m = absurd m
-first_roots r W (j ∷ is) i (inl e) = subst (λ k. is_some (held (told_in (map (λ j. sent_by r W 1 j first) (j ∷ is))) k []) ≡ true) (sym e) (told_held (record { shard = j; way = []; bucket = answer_at r W j (way_spot r W []) }) (told_in (map (λ j. sent_by r W 1 j first) is)))
-first_roots r W (j ∷ is) i (inr m) = held_among_later (told_by j first (answer r W j first)) (told_in (map (λ j. sent_by r W 1 j first) is)) i [] (first_roots r W is i m)
+first_roots r W (j ∷ is) i (inl e) = subst (λ k. is_some (held (told_in r.nodes (map (λ j. sent_by r W 1 j first) (j ∷ is))) k []) ≡ true) (sym e) (told_held (record { shard = j; way = []; bucket = answer_at r W j (way_spot r W []) }) (told_in r.nodes (map (λ j. sent_by r W 1 j first) is)))
+first_roots r W (j ∷ is) i (inr m) = held_among_later (told_by r.nodes j first (answer r W j first)) (told_in r.nodes (map (λ j. sent_by r W 1 j first) is)) i [] (first_roots r W is i m)
 
 number_is_below : (n a i : ℕ) → a ≤ i → i < a + n → Member i (range_with_len a n)
 number_is_below zero a i low high = absurd (omega arith)
@@ -115,7 +115,7 @@ few_from r W zero round sent h all = more_rounds sent round (round + 0) (omega a
 few_from r W (suc left) round sent h all = go (is_empty next) (λ s. few_from r W left (suc round) s (omega arith))
   where
     next : List Lack
-    next = next_lacks r (length W) (told_in sent) (terms_depth r.nodes) 0
+    next = next_lacks r (length W) (told_in r.nodes sent) (terms_depth r.nodes) 0
 
     go : (b : Bool) → ((s : List Sent) → AllByRecursion (IsRoundBefore (suc round)) s → AllByRecursion (IsRoundBefore (suc round + left)) (rounds_from r W left (suc round) s))
         → AllByRecursion (IsRoundBefore (round + suc left)) (cond b sent (rounds_from r W left (suc round) (sent ++ later_round r W round next)))

@@ -1,14 +1,14 @@
 -- Where places stand: a domain stays on the shards of the bucket around it.
-use Rattle.std.proofs.Common.{◌≡◌, ℕ, List, Bool, true, cond, ◌&&◌, ◌||◌, ◌==◌, not, sym, subst, inl, inr}
+use Rattle.std.proofs.Common.{◌≡◌, ℕ, List, Bool, true, cond, ◌&&◌, ◌==◌, not, sym, subst}
 use Rattle.std.specs.List.{list_any}
-use Rattle.std.proofs.lemmas.Bool.{and_parts, or_cases, eqb-true}
+use Rattle.std.proofs.lemmas.Bool.{and_parts, eqb-true}
 use Rattle.fc_spec.specs.Lists.{is_empty}
 use Rattle.fc_spec.specs.Query.{Query}
 use Rattle.fc_spec.specs.Matching.{matches}
 use Rattle.fc_spec.specs.World.{World, Place, places, same_block, on_shards}
 use Rattle.fc_spec.specs.Request.{Request, BlockStep, stay, parents, children, DomainChange}
 use Rattle.fc_spec.specs.Base.{base}
-use Rattle.fc_spec.specs.Domain.{domain, moved, children_of, parents_of, same_place, is_parent_of}
+use Rattle.fc_spec.specs.Domain.{domain, moved, children_of, parents_of, is_parent_of}
 use Rattle.fc_spec.proofs.Members.{Every, every_from_members, every_member, filter_every, every_filter, every_own_filter, filter_member, passing_member}
 
 -- the place is on one of the shards
@@ -30,14 +30,11 @@ on_same_shard H y p e h = subst (λ s. list_any (λ i. i == s) H ≡ true) e h
 pub found_on_shards : (H : List ℕ) (t : Place → Bool) (p : Place) (Y : List Place) → ((y : Place) → t y ≡ true → y.shard ≡ p.shard) → Every (is_on H) Y → list_any t Y ≡ true → is_on H p ≡ true
 found_on_shards H t p Y local e h = let r = passing_member t Y h in on_same_shard H r.0 p (local r.0 r.2) (every_member (is_on H) Y r.0 e r.1)
 
-same_block_shard : (y p : Place) → same_block y p ≡ true → y.shard ≡ p.shard
+pub same_block_shard : (y p : Place) → same_block y p ≡ true → y.shard ≡ p.shard
 same_block_shard y p h = eqb-true y.shard p.shard (and_parts (y.shard == p.shard) (y.block == p.block) h).0
 
 pub parent_shard : (y p : Place) → is_parent_of y p ≡ true → y.shard ≡ p.shard
 parent_shard y p h = same_block_shard y p (and_parts (y.parent && not p.parent) (same_block y p) h).1
-
-same_place_shard : (p y : Place) → same_place p y ≡ true → y.shard ≡ p.shard
-same_place_shard p y h = sym (eqb-true p.shard y.shard (and_parts (p.shard == y.shard) (p.position == y.position) h).0)
 
 pub children_on_shards : (W : World) (q : Query) (H : List ℕ) (Y : List Place) → Every (is_on H) Y → Every (is_on H) (children_of W q Y)
 children_on_shards W q H Y e = every_from_members (is_on H) (children_of W q Y) (λ p m.
@@ -45,14 +42,11 @@ children_on_shards W q H Y e = every_from_members (is_on H) (children_of W q Y) 
     (λ y h. parent_shard y p (and_parts (is_parent_of y p) (matches q y.document) h).0) e
     (filter_member (λ p. list_any (λ y. is_parent_of y p && matches q y.document) Y) (places W) p m).1)
 
-pub own_or_child_shard : (p y : Place) → (same_place p y || is_parent_of p y) ≡ true → y.shard ≡ p.shard
-own_or_child_shard p y h = elim (or_cases (same_place p y) (is_parent_of p y) h) [ inl a ↦ same_place_shard p y a | inr b ↦ sym (parent_shard p y b) ]
-
 pub parents_on_shards : (W : World) (q : Query) (H : List ℕ) (Y : List Place) → Every (is_on H) Y → Every (is_on H) (parents_of W q Y)
 parents_on_shards W q H Y e = every_from_members (is_on H) (parents_of W q Y) (λ p m.
-    found_on_shards H (λ y. same_place p y || is_parent_of p y) p Y (own_or_child_shard p) e
-    (and_parts (p.parent && matches q p.document) (list_any (λ y. same_place p y || is_parent_of p y) Y)
-    (filter_member (λ p. p.parent && matches q p.document && list_any (λ y. same_place p y || is_parent_of p y) Y) (places W) p m).1).1)
+    found_on_shards H (same_block p) p Y (λ y h. sym (same_block_shard p y h)) e
+    (and_parts (p.parent && matches q p.document) (list_any (same_block p) Y)
+    (filter_member (λ p. p.parent && matches q p.document && list_any (same_block p) Y) (places W) p m).1).1)
 
 pub moved_on_shards : (W : World) (b : BlockStep) (H : List ℕ) (Y : List Place) → Every (is_on H) Y → Every (is_on H) (moved W b Y)
 moved_on_shards W stay H Y e = e

@@ -20,7 +20,6 @@ empty_renumbers = record {
   known = λ p. true;
   all_known = tt;
   same_blocks = λ x y h k. refl;
-  same_places = λ x y h k. refl;
 }
 
 -- shard after shard joined to the first

@@ -5,7 +5,7 @@ use Rattle.fc_spec.specs.Options.{◌>>=◌}
 use Rattle.fc_spec.specs.QueryTokens.{Value, Sign, Operator, value, sign, operator, opening, closing, colon}
 use Rattle.fc_spec.specs.QueryTrees.{Atom, plain, everything, nested, Group, no_more, clause, sign_tokens, operator_tokens, atom_tokens, group_tokens}
 use Rattle.fc_spec.specs.QueryForms.{IsAtom, IsGroup, AreClauses, atom_nesting, nesting}
-use Rattle.fc_spec.proofs.TreeReading.{Row, Reader, sign_at, operator_at, past_closing, nested_at, named_at, everything_at, behind_colon_at, value_at, atom_at, clause_at, with_clause, clauses_at, group_at, group_within}
+use Rattle.fc_spec.specs.TreeReading.{Row, Reader, sign_at, operator_at, past_closing, nested_at, named_at, everything_at, behind_colon_at, value_at, atom_at, clause_at, with_clause, clauses_at, group_at, group_within}
 
 -- nothing, or a closing parenthesis in front
 abbrev pub IsClosed : Row → Type 0

@@ -3,7 +3,7 @@ use Rattle.std.proofs.Common.{◌≡◌, ◌∙◌, ap, sym, subst, [], ◌∷�
 use Rattle.fc_spec.specs.QueryTrees.{Group, group_tokens}
 use Rattle.fc_spec.specs.QueryForms.{IsTree}
 use Rattle.fc_spec.specs.QuerySpellingLaw.{HasOneTree}
-use Rattle.fc_spec.proofs.TreeReading.{Row, group_within, whole_at, tree_of}
+use Rattle.fc_spec.specs.TreeReading.{Row, group_within, whole_at, tree_of}
 use Rattle.fc_spec.proofs.ReadIsSpelled.{IsGroupOf, read_is_spelled}
 use Rattle.fc_spec.proofs.SpelledIsRead.{spelled_is_read}
 

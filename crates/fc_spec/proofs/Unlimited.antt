@@ -98,7 +98,7 @@ chosen_all r W t inner H Y none on =
     no_bound false = refl
 
 -- to number a list changes nothing for what looks at its members alone
-map-enumerate : {X Y : Type 0} (f : X → Y) (n : ℕ) (xs : List X) → map (λ x. f x.1) (enumerate_from n xs) ≡ map f xs
+pub map-enumerate : {X Y : Type 0} (f : X → Y) (n : ℕ) (xs : List X) → map (λ x. f x.1) (enumerate_from n xs) ≡ map f xs
 map-enumerate f n [] = refl
 map-enumerate f n (x ∷ xs) = ap (λ ys. f x ∷ ys) (map-enumerate f (n + 1) xs)
 

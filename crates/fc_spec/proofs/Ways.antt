@@ -7,7 +7,7 @@ use Rattle.fc_spec.specs.Request.{Request}
 use Rattle.fc_spec.specs.KeyOrder.{same_key}
 use Rattle.fc_spec.specs.Message.{Way}
 use Rattle.fc_spec.specs.Answer.{Spot, spot_at, spot_in, facet_at}
-use Rattle.fc_spec.specs.Held.{Bucket, descend, behind, find_key, row_at}
+use Rattle.fc_spec.specs.Held.{Bucket, descend, behind, bucket_in}
 use Rattle.fc_spec.proofs.Keys.{same_key_exact}
 
 pub some_exact : {A : Type 0} (a b : A) → Some a ≡ Some b → a ≡ b
@@ -23,7 +23,7 @@ spot_at-append r W (step ∷ way) rest s = spot_at-append r W way rest (spot_in 
 
 pub descend-append : (way rest : Way) (b : Bucket) → descend (way ++ rest) b ≡ option_and_then (descend rest) (descend way b)
 descend-append [] rest b = refl
-descend-append (step ∷ way) rest b = go (find_key step.key (row_at step.node b.rows)) (λ c. descend-append way rest c)
+descend-append (step ∷ way) rest b = go (bucket_in step.node step.key b) (λ c. descend-append way rest c)
   where
     go : (o : Option Bucket) → ((c : Bucket) → descend (way ++ rest) c ≡ option_and_then (descend rest) (descend way c)) → option_and_then (descend (way ++ rest)) o ≡ option_and_then (descend rest) (option_and_then (descend way) o)
     go None ih = refl

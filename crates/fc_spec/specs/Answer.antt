@@ -31,10 +31,10 @@ partials_of stats rows (k ∷ ks) = partial k (stats k) (rows k) (partials_of st
 abbrev pub answer_domain : Request → World → ℕ → Facet → List Place → List Place
 answer_domain r W i f X = on_shards (i ∷ []) (domain r W f.change X)
 
--- what shard i lists for the nodes of a bucket, from its part X of the bucket
+-- what shard i lists for the facets of a bucket, from its part X of the bucket
 abbrev pub answer_rows : Request → World → ℕ → Nodes → List Place → Rows
 answer_rows r W i no_nodes X = no_rows
-answer_rows r W i (statistic name s rest) X = row no_partials (answer_rows r W i rest X)
+answer_rows r W i (statistic name s rest) X = answer_rows r W i rest X
 answer_rows r W i (facet f inner rest) X =
     row
     (partials_of (λ k. stats_over (stats_of inner) (bucket_places f.kind k (answer_domain r W i f X))) (λ k. answer_rows r W i inner (bucket_places f.kind k (answer_domain r W i f X)))
@@ -48,6 +48,16 @@ facet_at zero (statistic name s rest) = None
 facet_at zero (facet f inner rest) = Some (f, inner)
 facet_at (suc n) (statistic name s rest) = facet_at n rest
 facet_at (suc n) (facet f inner rest) = facet_at n rest
+
+-- the nodes nested in it; none in no facet
+abbrev pub nodes_in : Option (Facet × Nodes) → Nodes
+nodes_in None = no_nodes
+nodes_in (Some f) = f.1
+
+-- the nodes nested in the one where a way leads
+abbrev pub nodes_at : Way → Nodes → Nodes
+nodes_at [] nodes = nodes
+nodes_at (step ∷ way) nodes = nodes_at way (nodes_in (facet_at step.node nodes))
 
 -- a set of places, with the nodes of its bucket
 pub record Spot : Type 0 where

@@ -1,5 +1,5 @@
 -- Which places a bucket holds. Guide: JSON Facet API, "Types of Facets".
-use Rattle.std.specs.Prelude.{ℕ, List, Bool, true, false, ◌&&◌, Option, None, Some, nat_eq, nat_lt}
+use Rattle.std.specs.Prelude.{ℕ, ℤ, List, Bool, true, false, ◌&&◌, Option, None, Some, nat_eq, nat_lt}
 use Rattle.std.specs.List.{filter, list_any, starts_with}
 use Rattle.fc_spec.specs.Val.{Text, Val, text, long, has_val}
 use Rattle.fc_spec.specs.Document.{Document, values_of}
@@ -31,13 +31,18 @@ in_terms t (value v) vs = has_val v vs && has_prefix t.prefix v
 in_terms t missing vs = is_empty vs
 in_terms t _ vs = false
 
--- the value is in the bucket of a range facet
+-- the integer is in the bucket of a range facet
+abbrev pub holds_integer : Range → Key → ℤ → Bool
+holds_integer g (gap i) x = in_gap g i x
+holds_integer g before x = in_before g x
+holds_integer g between x = in_between g x
+holds_integer g after x = in_after g x
+holds_integer g _ x = false
+
+-- the value is; a text is in none
 abbrev pub in_range : Range → Key → Val → Bool
-in_range g (gap i) (long x) = in_gap g i x
-in_range g before (long x) = in_before g x
-in_range g between (long x) = in_between g x
-in_range g after (long x) = in_after g x
-in_range g _ _ = false
+in_range g key (text t) = false
+in_range g key (long x) = holds_integer g key x
 
 -- it is the key of a query facet's bucket
 abbrev pub is_whole : Key → Bool

@@ -34,7 +34,7 @@ dist_facets R no_nodes n m H X = no_facets
 dist_facets R (statistic name s rest) n m H X = statistic_part (R.count_on H X == 0) name (shown (R.statistic_on m s H X)) (dist_facets R rest (suc n) (suc m) H X)
 dist_facets R (facet f inner rest) n m H X =
     let more = dist_facets R rest (suc n) m H X in
-    facet_part (R.count_on H X == 0) f (dist_buckets R f inner (λ K P. dist_facets R inner 0 0 K P) H (R.domain_on n f.change H X) more) more
+    facet_part (R.count_on H X == 0) f (dist_buckets R f inner (λ K P. dist_facets R inner 0 0 K P) H (R.domain_on n f H X) more) more
 
 -- the reply whose root is the bucket X and carries the shards H
 abbrev pub reply_over : {B D : Type 0} → Reading B D → Nodes → List ℕ → B → Bucket

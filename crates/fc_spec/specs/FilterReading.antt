@@ -1,16 +1,17 @@
 -- Filters and their tags: a text, or an object of one member. Guide: Faceting, "Tagging and Excluding Filters".
-use Rattle.std.specs.Prelude.{◌≡◌, ℕ, List, [], length, drop, codes, Bool, not, ◌&&◌, ◌||◌, ◌==◌, nat_lt, Option, None, Some, option_map, unwrap_or, Result, Ok, Err, ok_or, MatchResult, if◌then◌else◌}
+use Rattle.std.specs.Prelude.{ℕ, List, [], length, drop, codes, Bool, not, ◌&&◌, ◌||◌, ◌==◌, nat_lt, Option, None, Some, option_map, unwrap_or, Result, Ok, Err, ok_or, if◌then◌else◌}
 use Rattle.std.specs.List.{list_all, slice_split, starts_with, position_or_len, before_first, after_first}
 use Rattle.serde_json.specs.Data.{Data, string}
 use Rattle.fc_spec.specs.Val.{Text}
-use Rattle.fc_spec.specs.LineReading.{sole_member}
+use Rattle.fc_spec.specs.JsonObjects.{sole_member}
 use Rattle.fc_spec.specs.Lists.{is_empty}
 use Rattle.fc_spec.specs.Schema.{Schema}
 use Rattle.fc_spec.specs.SchemaReading.{is_name_byte}
 use Rattle.fc_spec.specs.Query.{Query}
 use Rattle.fc_spec.specs.Request.{Filter}
 use Rattle.fc_spec.specs.QueryFault.{QueryFault, syntax, FilterFault, shape, query}
-use Rattle.fc_spec.specs.QueryTexts.{IsReadingOf}
+use Rattle.fc_spec.specs.QueryTexts.{query_of}
+use Rattle.fc_spec.specs.Walks.{◌>>=◌}
 
 -- an ASCII letter or digit, `_`, `-`, `.`
 abbrev pub is_tag_byte : ℕ → Bool
@@ -62,10 +63,12 @@ abbrev pub filter_with : List Text → Result Query QueryFault → Result Filter
 filter_with tags (Ok q) = Ok (record { tags = tags; query = q })
 filter_with tags (Err e) = Err (query e)
 
--- what tags and a query text mean for a schema, or the fault
-abbrev pub IsFilterBy : Schema → Result (List Text × Text) FilterFault → Result Filter FilterFault → Type 0
-IsFilterBy s parts r = MatchResult parts (λ p. (q : Result Query QueryFault) × IsReadingOf s p.1 q × (r ≡ filter_with p.0 q)) (λ e. r ≡ Err e)
+-- what tags and a query text mean for a schema, or the fault; one of the tags comes before those of the query text
+abbrev pub filter_by : Schema → Result (List Text × Text) FilterFault → Result Filter FilterFault
+filter_by s parts = do
+  p ← parts
+  filter_with p.0 (query_of s p.1)
 
 -- what a filter means for a schema, or its fault
-abbrev pub IsFilterOf : Schema → Data → Result Filter FilterFault → Type 0
-IsFilterOf s d r = IsFilterBy s (filter_parts d) r
+abbrev pub filter_of : Schema → Data → Result Filter FilterFault
+filter_of s d = filter_by s (filter_parts d)

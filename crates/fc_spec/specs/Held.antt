@@ -4,11 +4,14 @@ use Rattle.fc_spec.specs.Val.{Val}
 use Rattle.fc_spec.specs.Buckets.{Key, value}
 use Rattle.fc_spec.specs.KeyOrder.{same_key}
 use Rattle.fc_spec.specs.Statistics.{Stats}
+use Rattle.fc_spec.specs.Request.{Nodes, no_nodes, statistic, facet}
+use Rattle.fc_spec.specs.Answer.{facet_at, nodes_in, nodes_at}
 use Rattle.fc_spec.specs.Message.{Partials, no_partials, partial, Rows, no_rows, row, Way, Want, way_of, Ask, first, more}
 
--- a bucket that is held: its statistics, and its nodes' buckets
+-- a bucket that is held: its statistics, and the nodes nested in its own with their buckets
 pub record Bucket : Type 0 where
   pub stats : Stats
+  pub nodes : Nodes
   pub rows : Rows
 
 -- a top bucket of a message: the shard that told it, and the way to it
@@ -18,34 +21,50 @@ pub record Told : Type 0 where
   pub bucket : Bucket
 
 -- the top buckets that a message tells of: of a first ask the root's bucket; of wants each bucket, for its want
-abbrev pub told_root : ℕ → Partials → List Told
-told_root i no_partials = []
-told_root i (partial key stats rows rest) = record { shard = i; way = []; bucket = record { stats = stats; rows = rows } } ∷ []
+abbrev pub told_root : Nodes → ℕ → Partials → List Told
+told_root nodes i no_partials = []
+told_root nodes i (partial key stats rows rest) = record { shard = i; way = []; bucket = record { stats = stats; nodes = nodes; rows = rows } } ∷ []
 
-abbrev pub told_wants : ℕ → List Want → Partials → List Told
-told_wants i [] m = []
-told_wants i (w ∷ ws) no_partials = []
-told_wants i (w ∷ ws) (partial key stats rows rest) = record { shard = i; way = way_of w; bucket = record { stats = stats; rows = rows } } ∷ told_wants i ws rest
+abbrev pub told_wants : Nodes → ℕ → List Want → Partials → List Told
+told_wants nodes i [] m = []
+told_wants nodes i (w ∷ ws) no_partials = []
+told_wants nodes i (w ∷ ws) (partial key stats rows rest) =
+    record { shard = i; way = way_of w; bucket = record { stats = stats; nodes = nodes_at (way_of w) nodes; rows = rows } } ∷ told_wants nodes i ws rest
 
-abbrev pub told_by : ℕ → Ask → Partials → List Told
-told_by i first m = told_root i m
-told_by i (more wants) m = told_wants i wants m
+abbrev pub told_by : Nodes → ℕ → Ask → Partials → List Told
+told_by nodes i first m = told_root nodes i m
+told_by nodes i (more wants) m = told_wants nodes i wants m
 
--- the row of a number
-abbrev pub row_at : ℕ → Rows → Partials
-row_at n no_rows = no_partials
-row_at zero (row ps rest) = ps
-row_at (suc n) (row ps rest) = row_at n rest
+-- the first row, and those behind it
+abbrev pub first_row : Rows → Partials
+first_row no_rows = no_partials
+first_row (row ps rest) = ps
 
--- the bucket of a key among partial buckets
-abbrev pub find_key : Key → Partials → Option Bucket
-find_key key no_partials = None
-find_key key (partial k stats rows rest) = if same_key key k then Some (record { stats = stats; rows = rows }) else find_key key rest
+abbrev pub later_rows : Rows → Rows
+later_rows no_rows = no_rows
+later_rows (row ps rest) = rest
+
+-- the row of a node, by its number among nodes: there is one for each facet
+abbrev pub row_at : ℕ → Nodes → Rows → Partials
+row_at n no_nodes rows = no_partials
+row_at zero (statistic name s nodes) rows = no_partials
+row_at zero (facet f inner nodes) rows = first_row rows
+row_at (suc n) (statistic name s nodes) rows = row_at n nodes rows
+row_at (suc n) (facet f inner nodes) rows = row_at n nodes (later_rows rows)
+
+-- the bucket of a key among partial buckets, with the nodes nested in theirs
+abbrev pub find_key : Nodes → Key → Partials → Option Bucket
+find_key nodes key no_partials = None
+find_key nodes key (partial k stats rows rest) = if same_key key k then Some (record { stats = stats; nodes = nodes; rows = rows }) else find_key nodes key rest
+
+-- the bucket of a key of a node in a bucket
+abbrev pub bucket_in : ℕ → Key → Bucket → Option Bucket
+bucket_in n key b = find_key (nodes_in (facet_at n b.nodes)) key (row_at n b.nodes b.rows)
 
 -- the bucket where a way leads from a bucket on
 abbrev pub descend : Way → Bucket → Option Bucket
 descend [] b = Some b
-descend (step ∷ way) b = option_and_then (descend way) (find_key step.key (row_at step.node b.rows))
+descend (step ∷ way) b = option_and_then (descend way) (bucket_in step.node step.key b)
 
 -- what is left of a way behind the steps of another
 abbrev pub behind : Way → Way → Option Way

@@ -47,7 +47,7 @@ abbrev pub wanted : {B D : Type 0} → Reading B D → ℕ → Nodes → ℕ →
 wanted R e no_nodes n H X way = []
 wanted R e (statistic name s rest) n H X way = wanted R e rest (suc n) H X way
 wanted R e (facet f inner rest) n H X way =
-    let Y = R.domain_on n f.change H X in
+    let Y = R.domain_on n f H X in
     facet_wanted (R.count_on H X == 0) f (wanted_at R f.kind inner e n H Y way (λ d. flat_map (λ k. wanted R d inner 0 (carried R f.kind inner H Y k) (R.bucket_at f.kind Y k) (way ++ record { node = n; key = k } ∷ []))
     (printed_keys R f.kind inner H Y))) ++ wanted R e rest (suc n) H X way
 

@@ -50,6 +50,7 @@ pub mod ShardAlone
 pub mod Merging
 pub mod RoundsEnd
 pub mod ScriptLines
+pub mod JsonObjects
 pub mod SchemaReading
 pub mod Walks
 pub mod IntegerTexts
@@ -74,6 +75,7 @@ pub mod QueryTrees
 pub mod QueryForms
 pub mod QuerySpellingLaw
 pub mod QueryMeaning
+pub mod TreeReading
 pub mod QueryTexts
 pub mod QueryReadingLaw
 pub mod FilterReading

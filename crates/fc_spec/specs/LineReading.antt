@@ -1,25 +1,14 @@
 -- What a line after the schema says, by itself. Guide: Indexing with Update Handlers; JSON Request API.
-use Rattle.std.specs.Prelude.{ℕ, List, [], ◌∷◌, length, codes, Bool, true, ◌&&◌, nat_le, nat_lt, Option, None, Some, ok_or, Result, Ok, Err, if◌then◌else◌}
-use Rattle.std.specs.List.{list_any}
-use Rattle.serde_json.specs.Data.{Data, object, Members, no_members, member}
+use Rattle.std.specs.Prelude.{ℕ, [], ◌∷◌, length, codes, ◌&&◌, nat_le, nat_lt, Option, None, Some, ok_or, Result, Ok, Err, if◌then◌else◌}
+use Rattle.serde_json.specs.Data.{Data, Members}
 use Rattle.serde_json.specs.Find.{get_member, as_object, as_str}
 use Rattle.fc_spec.specs.Val.{Text, same_text}
 use Rattle.fc_spec.specs.Schema.{Schema}
-use Rattle.fc_spec.specs.SchemaReading.{natural_in}
+use Rattle.fc_spec.specs.JsonObjects.{natural_in, only_names, sole_member}
 use Rattle.fc_spec.specs.BlockReading.{block_of}
 use Rattle.fc_spec.specs.ScriptFault.{LineFault, unknown_line, bad_shard, bad_document}
 use Rattle.fc_spec.specs.Script.{Line, add, commit, sync, asks}
 use Rattle.fc_spec.specs.Walks.{◌>>=◌, unless, with_fault}
-
--- the name and the value of an object's only member
-abbrev pub sole_member : Data → Option (Text × Data)
-sole_member (object (member name d no_members)) = Some (name, d)
-sole_member _ = None
-
--- every member has one of these names
-abbrev pub only_names : List Text → Members → Bool
-only_names names no_members = true
-only_names names (member name d ms) = list_any (same_text name) names && only_names names ms
 
 -- a shard's number: a whole number from 0 below the number of shards
 abbrev pub shard_of : Schema → Data → Result ℕ LineFault

@@ -32,7 +32,7 @@ value_held A m s (i ∷ H) way = combined_value s.of (held_value m s (held A i w
 -- the values that a shard lists of the n-th node of a bucket
 abbrev pub values_held : ℕ → Option Bucket → List Val
 values_held n None = []
-values_held n (Some b) = listed_values (row_at n b.rows)
+values_held n (Some b) = listed_values (row_at n b.nodes b.rows)
 
 -- the domain of a node: the bucket around it, and the node's number
 pub record NodeOf : Type 0 where
@@ -42,7 +42,7 @@ pub record NodeOf : Type 0 where
 -- a bucket is the way to it
 abbrev pub over_held : List Told → Reading Way NodeOf
 over_held A = record {
-  domain_on = λ n change H way. record { way = way; node = n };
+  domain_on = λ n f H way. record { way = way; node = n };
   bucket_at = λ kind Y key. Y.way ++ record { node = Y.node; key = key } ∷ [];
   count_on = count_held A;
   statistic_on = value_held A;

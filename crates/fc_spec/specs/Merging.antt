@@ -26,4 +26,4 @@ LacksNothing r n A = (e : ℕ) → lacks r n A e ≡ []
 -- messages that are answers, in any order and any number, that tell of every shard's root and lack nothing, merge into the distributed reply
 abbrev pub MergesIntoReply : Type 0
 MergesIntoReply = (r : Request) (W : World) (sent : List Sent) → IsTrue (outermost_exclusions r.nodes) → AllByRecursion (IsAnswer r W) sent
-    → HasRoots (length W) (told_in sent) → LacksNothing r (length W) (told_in sent) → merged r (length W) (told_in sent) ≡ distributed r W
+    → HasRoots (length W) (told_in r.nodes sent) → LacksNothing r (length W) (told_in r.nodes sent) → merged r (length W) (told_in r.nodes sent) ≡ distributed r W

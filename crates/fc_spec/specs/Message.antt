@@ -3,7 +3,7 @@ use Rattle.std.specs.Prelude.{ℕ, List, [], ◌∷◌, ◌++◌}
 use Rattle.fc_spec.specs.Buckets.{Key}
 use Rattle.fc_spec.specs.Statistics.{Stats}
 
--- buckets, each with its key, its statistics and, for each node nested in its own, that node's buckets (none for a statistic)
+-- buckets, each with its key, its statistics and, for each facet nested in its own, that facet's buckets
 mutual
   pub data Partials : Type 0 where
     no_partials : Partials

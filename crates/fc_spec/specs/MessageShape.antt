@@ -7,8 +7,8 @@ use Rattle.fc_spec.specs.KeyOrder.{key_cmp, same_key}
 use Rattle.fc_spec.specs.Statistics.{StatValue, number, extreme, Stats}
 use Rattle.fc_spec.specs.Ranks.{bound_of}
 use Rattle.fc_spec.specs.Held.{listed_values}
-use Rattle.fc_spec.specs.Message.{Partials, no_partials, partial, Rows, no_rows, row, Way, Want, way_of, Ask, first, more}
-use Rattle.fc_spec.specs.Answer.{facet_at}
+use Rattle.fc_spec.specs.Message.{Partials, no_partials, partial, Rows, no_rows, row, Want, way_of, Ask, first, more}
+use Rattle.fc_spec.specs.Answer.{nodes_at}
 
 -- least and greatest values may be absent, the other statistics are numbers
 abbrev pub is_extreme : StatKind → Bool
@@ -36,7 +36,7 @@ abbrev pub key_ascends : Option Key → Key → Bool
 key_ascends None k = true
 key_ascends (Some earlier) k = is_lt (key_cmp earlier k)
 
--- no buckets of a statistic
+-- no bucket
 abbrev pub is_nothing : Partials → Bool
 is_nothing no_partials = true
 is_nothing _ = false
@@ -53,10 +53,10 @@ is_complete (range g) ps = true
 is_complete (query q) ps = not (is_nothing ps)
 
 abbrev mutual
-  -- a list of buckets for each of the nodes
+  -- a list of buckets for each of the facets
   pub rows_fit : Rows → Nodes → Bool
   rows_fit no_rows no_nodes = true
-  rows_fit (row ps rest) (statistic name s nodes) = is_nothing ps && rows_fit rest nodes
+  rows_fit rows (statistic name s nodes) = rows_fit rows nodes
   rows_fit (row ps rest) (facet f inner nodes) = is_complete f.kind ps && partials_fit ps f inner None && rows_fit rest nodes
   rows_fit _ _ = false
 
@@ -69,15 +69,6 @@ abbrev mutual
 -- a top bucket, read with its key and the nodes nested in its own
 abbrev pub top_fits : Key → Nodes → Key → Stats → Rows → Bool
 top_fits key nodes k stats rows = same_key key k && values_fit (stats_of nodes) stats.values && rows_fit rows nodes
-
--- the nodes nested in the one where a way leads
-abbrev pub nodes_in : Option (Facet × Nodes) → Nodes
-nodes_in None = no_nodes
-nodes_in (Some f) = f.1
-
-abbrev pub nodes_at : Way → Nodes → Nodes
-nodes_at [] nodes = nodes
-nodes_at (step ∷ way) nodes = nodes_at way (nodes_in (facet_at step.node nodes))
 
 -- one bucket for each want, of the wanted key, read with the wanted node
 abbrev pub wants_fit : Nodes → List Want → Partials → Bool

@@ -1,11 +1,11 @@
--- A query text has one meaning.
+-- What a query text means is what its trees say.
 use Rattle.std.specs.Prelude.{◌≡◌, Result}
 use Rattle.fc_spec.specs.Val.{Text}
 use Rattle.fc_spec.specs.Schema.{Schema}
 use Rattle.fc_spec.specs.Query.{Query}
 use Rattle.fc_spec.specs.QueryFault.{QueryFault}
-use Rattle.fc_spec.specs.QueryTexts.{IsReadingOf}
+use Rattle.fc_spec.specs.QueryTexts.{query_of, IsReadingOf}
 
--- for each schema a text has a query or a fault, and no other
+-- for each schema the query or fault of a text is the one that the trees of the text give, and they give no other
 abbrev pub HasOneReading : Type 0
-HasOneReading = (s : Schema) (t : Text) → (r : Result Query QueryFault) × IsReadingOf s t r × ((q : Result Query QueryFault) → IsReadingOf s t q → q ≡ r)
+HasOneReading = (s : Schema) (t : Text) → IsReadingOf s t (query_of s t) × ((q : Result Query QueryFault) → IsReadingOf s t q → q ≡ query_of s t)

@@ -1,5 +1,6 @@
 -- What a query text means for a schema, or its fault.
-use Rattle.std.specs.Prelude.{◌≡◌, Some, Result, Err, ◌⊎◌}
+use Rattle.std.specs.Prelude.{◌≡◌, Some, Result, Err, ok_or, ◌⊎◌}
+use Rattle.std.specs.Option.{option_and_then}
 use Rattle.fc_spec.specs.Val.{Text}
 use Rattle.fc_spec.specs.Schema.{Schema}
 use Rattle.fc_spec.specs.Query.{Query}
@@ -8,6 +9,16 @@ use Rattle.fc_spec.specs.QueryRow.{tokens_of}
 use Rattle.fc_spec.specs.QueryTrees.{Group, group_tokens}
 use Rattle.fc_spec.specs.QueryForms.{IsTree}
 use Rattle.fc_spec.specs.QueryMeaning.{tree_query}
+use Rattle.fc_spec.specs.TreeReading.{tree_of}
+use Rattle.fc_spec.specs.Walks.{◌>>=◌}
+
+-- the query of a text's tree, or that tree's fault; a text without a tree has a fault of syntax
+unfoldable pub query_of : Schema → Text → Result Query QueryFault
+query_of s t = do
+  g ← ok_or (option_and_then tree_of (tokens_of t)) syntax
+  tree_query s g
+
+-- ---- the same by what trees spell
 
 -- a well-formed tree spells the tokens of the text
 abbrev pub IsTreeOf : Text → Group → Type 0

@@ -3,7 +3,7 @@ use Rattle.std.specs.Prelude.{ℕ, List, [], ◌∷◌, map, length}
 use Rattle.std.specs.List.{enumerate_from}
 use Rattle.fc_spec.specs.Val.{Val}
 use Rattle.fc_spec.specs.World.{World, Place, on_shards}
-use Rattle.fc_spec.specs.Request.{Stat, Terms, Kind, DomainChange, Nodes, Request, stats_of}
+use Rattle.fc_spec.specs.Request.{Stat, Terms, Kind, Facet, Nodes, Request, stats_of}
 use Rattle.fc_spec.specs.Domain.{domain}
 use Rattle.fc_spec.specs.Buckets.{Key, bucket_places}
 use Rattle.fc_spec.specs.Statistics.{StatValue, Stats, value_over}
@@ -12,8 +12,8 @@ use Rattle.fc_spec.specs.Values.{entries_in}
 
 -- B holds a bucket, D the domain of a node. A list of shards names each once; nodes and statistics are numbered from 0 among those of their bucket
 pub record Reading (B D : Type 0) : Type 0 where
-  -- the domain of a node, by its number and its change: made from the bucket's part on the shards, and cut to the shards
-  pub domain_on : ℕ → DomainChange → List ℕ → B → D
+  -- the domain of a facet, by its number among the nodes: made from the bucket's part on the shards, and cut to the shards
+  pub domain_on : ℕ → Facet → List ℕ → B → D
   -- the bucket of a key in a domain
   pub bucket_at : Kind → D → Key → B
   -- the count of the bucket's part on the shards
@@ -34,7 +34,7 @@ offered t inner Y i = map (λ e. e.val) (below_rank t.sort (bound_of t.offset t.
 -- a bucket, and a domain, is a set of places
 abbrev pub over_places : Request → World → Reading (List Place) (List Place)
 over_places r W = record {
-  domain_on = λ n change H X. on_shards H (domain r W change (on_shards H X));
+  domain_on = λ n f H X. on_shards H (domain r W f.change (on_shards H X));
   bucket_at = λ kind Y key. bucket_places kind key Y;
   count_on = λ H X. length (on_shards H X);
   statistic_on = λ m s H X. value_over s (on_shards H X);

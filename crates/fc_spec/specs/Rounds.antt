@@ -3,7 +3,7 @@ use Rattle.std.specs.Prelude.{ℕ, zero, suc, List, [], ◌++◌, map, length, n
 use Rattle.std.specs.List.{filter, flat_map}
 use Rattle.fc_spec.specs.Lists.{is_empty, numbers_below}
 use Rattle.fc_spec.specs.World.{World}
-use Rattle.fc_spec.specs.Request.{Request}
+use Rattle.fc_spec.specs.Request.{Nodes, Request}
 use Rattle.fc_spec.specs.Message.{Partials, Want, Ask, first, more}
 use Rattle.fc_spec.specs.Answer.{answer}
 use Rattle.fc_spec.specs.Held.{Told, told_by}
@@ -17,8 +17,8 @@ pub record Sent : Type 0 where
   pub message : Partials
 
 -- the buckets that messages tell of
-abbrev pub told_in : List Sent → List Told
-told_in sent = flat_map (λ s. told_by s.shard s.ask s.message) sent
+abbrev pub told_in : Nodes → List Sent → List Told
+told_in nodes sent = flat_map (λ s. told_by nodes s.shard s.ask s.message) sent
 
 -- what lacks at the least depth from e on where something does, of so many depths
 abbrev pub next_lacks : Request → ℕ → List Told → (depths e : ℕ) → List Lack
@@ -45,7 +45,7 @@ later_round r W round all = map (λ i. sent_by r W round i (more (wants_of i all
 abbrev pub rounds_from : Request → World → (left round : ℕ) → List Sent → List Sent
 rounds_from r W zero round sent = sent
 rounds_from r W (suc left) round sent =
-    let all = next_lacks r (length W) (told_in sent) (terms_depth r.nodes) 0 in
+    let all = next_lacks r (length W) (told_in r.nodes sent) (terms_depth r.nodes) 0 in
     if is_empty all then sent else rounds_from r W left (suc round) (sent ++ later_round r W round all)
 
 -- the messages of a search, round after round: at most one round for each depth of terms facets behind the first

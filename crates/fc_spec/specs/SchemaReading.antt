@@ -2,9 +2,10 @@
 use Rattle.std.specs.Prelude.{ℕ, ◌+◌, ◌-◌, List, [], ◌∷◌, length, codes, slice_index, Bool, not, ◌&&◌, ◌||◌, ◌==◌, nat_le, Option, None, Some, option_and_then, option_map, if◌then◌else◌}
 use Rattle.std.specs.List.{list_all}
 use Rattle.serde_json.specs.Data.{Data, Members, no_members, member}
-use Rattle.serde_json.specs.Find.{get_member, as_number, as_str, as_object, as_u64}
+use Rattle.serde_json.specs.Find.{get_member, as_str, as_object}
 use Rattle.fc_spec.specs.Val.{Text, same_text}
 use Rattle.fc_spec.specs.Schema.{FieldType, string, strings, plong, plongs, Field, Schema}
+use Rattle.fc_spec.specs.JsonObjects.{member_count, natural_in}
 
 -- the byte is from one to another, both included
 abbrev pub is_byte_in : (low high : ℕ) → ℕ → Bool
@@ -56,17 +57,9 @@ without_id (f ∷ fs) = if same_text f.name (codes "id") then without_id fs else
 abbrev pub with_id : List Field → Option (List Field)
 with_id fs = if nat_le (length (without_id fs) + 1) 256 then Some (record { name = codes "id"; kind = string } ∷ without_id fs) else None
 
--- a whole number that is not negative
-abbrev pub natural_in : Data → Option ℕ
-natural_in d = option_and_then as_u64 (as_number d)
-
 -- a whole number from 1 to 64
 abbrev pub shards_of : Data → Option ℕ
 shards_of d = option_and_then (λ n. if nat_le 1 n && nat_le n 64 then Some n else None) (natural_in d)
-
-abbrev pub member_count : Members → ℕ
-member_count no_members = 0
-member_count (member k d ms) = member_count ms + 1
 
 -- an object of the two members `shards` and `fields`
 abbrev pub schema_of_members : Members → Option Schema

@@ -10,7 +10,8 @@ use Rattle.fc_spec.specs.ScriptFault.{LineFault, not_json, no_schema, bad_schema
 use Rattle.fc_spec.specs.ScriptLines.{lines_of, is_blank, json_of}
 use Rattle.fc_spec.specs.Script.{Line, add, commit, sync, asks, Script}
 use Rattle.fc_spec.specs.ScriptTotals.{Limits, script_limits, documents_added, ids_in, has_repeat, sums_fit, are_few, few_commits, few_sessions, few_syncs}
-use Rattle.fc_spec.specs.LineReading.{sole_member, line_said}
+use Rattle.fc_spec.specs.JsonObjects.{sole_member}
+use Rattle.fc_spec.specs.LineReading.{line_said}
 use Rattle.fc_spec.specs.Walks.{◌>>=◌, unless, with_fault}
 
 -- the bytes that a line may have, without its LF, and those that a script may have

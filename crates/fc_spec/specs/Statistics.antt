@@ -1,5 +1,5 @@
 -- Statistics of sets of places. Guide: JSON Facet API, "Stat Facet Functions".
-use Rattle.std.specs.Prelude.{ℕ, ℤ, pos, ◌+ℤ◌, List, [], ◌∷◌, map, length, Option, None, Some, unwrap_or, count_by}
+use Rattle.std.specs.Prelude.{ℕ, ℤ, pos, ◌+ℤ◌, List, [], ◌∷◌, map, length, Option, None, Some, count_by}
 use Rattle.std.specs.List.{flat_map, filter_map}
 use Rattle.std.specs.Int.{int_min, int_max}
 use Rattle.fc_spec.specs.Val.{Val, text, long}
@@ -77,9 +77,10 @@ abbrev pub shown : StatValue → Option ℤ
 shown (number n) = Some n
 shown (extreme o) = o
 
--- the number that a statistic adds to a sum
+-- the number that a statistic adds to a sum: none of a least or greatest value
 abbrev pub amount : StatValue → ℤ
-amount v = unwrap_or (shown v) (pos 0)
+amount (number n) = n
+amount (extreme o) = pos 0
 
 -- the statistic of two disjoint sets together, from those of each: the sum of both, or the lesser or greater of what is there
 abbrev pub combined_value : StatKind → StatValue → StatValue → StatValue

@@ -73,7 +73,7 @@ pub fn query_trees_have_one_spelling()
     ensures { HasOneTree }
 {}
 
-/// For each schema a query text has one query or fault.
+/// The query or the fault of a text is the one that its trees give, and they give no other.
 pub fn query_texts_have_one_meaning()
     ensures { HasOneReading }
 {}

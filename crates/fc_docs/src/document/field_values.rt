@@ -5,7 +5,7 @@ ghost use Rattle.fc_docs.specs.Fields.{Ascend, SetsOnly, StandsAt, WouldGoAt, va
 
 use fc_base::{FieldId, Val, WantMemory};
 
-// The values in a field.
+/// The values in a field.
 pub(super) fn values_in(fields: &[(FieldId, Vec<Val>)], field: FieldId) -> &[Val]
     requires { Ascend 0 fields.now }
     ensures { map val_view result.now ≡ values_at fields.now field.0 }
@@ -16,7 +16,7 @@ pub(super) fn values_in(fields: &[(FieldId, Vec<Val>)], field: FieldId) -> &[Val
     }
 }
 
-// Makes these the values in a field.
+/// Makes these the values in a field.
 pub(super) fn set_values(
     fields: &mut Vec<(FieldId, Vec<Val>)>,
     field: FieldId,

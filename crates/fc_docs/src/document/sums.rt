@@ -11,8 +11,8 @@ use fc_base::{FieldId, Val};
 // The most that a sum may be.
 const SUM_LIMIT: u64 = 9_223_372_036_854_775_807;
 
-// Adds the absolute values of each field's integers to the field's sum, and says whether every sum
-// stayed within the limit.
+/// Adds the absolute values of each field's integers to the field's sum, and says whether every sum
+/// stayed within the limit.
 pub(super) fn add_to_sums(fields: &[(FieldId, Vec<Val>)], sums: &mut [u64]) -> bool
     requires ascending { Ascend 0 fields.now }
     requires within { All (λ sum. sum ≤ total_limit) sums.old }

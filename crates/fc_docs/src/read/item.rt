@@ -19,6 +19,7 @@ use std::alloc::Global;
 // The most bytes of a text.
 const TERM_LIMIT: usize = 32_766;
 
+/// The value that an item of a field of this type stands for, or its fault.
 pub(super) fn read_item(
     alloc: Global,
     kind: FieldType,

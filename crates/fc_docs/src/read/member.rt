@@ -11,17 +11,18 @@ use crate::DocFault;
 use fc_base::{FieldId, Refusal, Schema};
 use serde_json::Value;
 
-// The key of a parent's children.
+/// The key of a parent's children.
 pub(super) const CHILDREN: &str = "_childDocuments_";
 
+/// The place of a document in its block.
 #[derive(Clone, Copy, PartialEq, Eq)]
 pub(super) enum Role {
     Parent,
     Child,
 }
 
-// The field that has a member's values. There is none at the key of the children, nor at another
-// key that begins and ends with `_`.
+/// The field that has a member's values. There is none at the key of the children, nor at another
+/// key that begins and ends with `_`.
 pub(super) fn field_of(
     schema: &Schema,
     role: Role,

@@ -15,7 +15,7 @@ use serde_json::Value;
 use std::alloc::Global;
 use std::slice;
 
-// The different values of a member, in index order.
+/// The different values of a member, in index order.
 pub(super) fn read_values(
     alloc: Global,
     kind: FieldType,

@@ -6,6 +6,7 @@ use fc_base::WantMemory;
 use std::alloc::Global;
 use std::marker::Model;
 
+/// The numbers of the calls that fail, the number of the next call, and the count of faults.
 #[derive(Debug, Drop)]
 pub struct Calls {
     failing: Vec<u32>,
@@ -22,6 +23,7 @@ impl Model for Calls {
 }
 
 impl Calls {
+    /// No call yet; those of these numbers, from 1, fail.
     pub fn new(alloc: Global, failing: &[u32]) -> Result<Calls, WantMemory>
         ensures { IfOk result (λ calls. calls ≡ no_calls failing.now) }
     {
@@ -41,12 +43,14 @@ impl Calls {
             .any(|number| u64::from(*number) == self.next)
     }
 
+    /// Counts a call.
     pub fn count(&mut self)
         ensures { self.new ≡ called self.old }
     {
         self.next = self.next.saturating_add(1);
     }
 
+    /// Counts a call that fails, and its fault.
     pub fn count_fault(&mut self)
         ensures counted { self.new ≡ failed self.old }
         ensures never_falls { self.old.faults ≤ self.new.faults }
@@ -55,6 +59,7 @@ impl Calls {
         self.faults = self.faults.saturating_add(1);
     }
 
+    /// The count of faults, which stands still at the last value of a `u64`.
     pub fn faults(&self) -> u64
         ensures { result ≡ self.now.faults }
     {

@@ -54,6 +54,7 @@ impl MemSink {
         })
     }
 
+    /// The bytes that were written, in their order.
     pub fn written(&self) -> &[u8]
         ensures { result.now ≡ self.now.written }
     {

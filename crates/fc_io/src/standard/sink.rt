@@ -16,6 +16,7 @@ pub struct StdSink<O> {
 }
 
 impl<O: Write> StdSink<O> {
+    /// A sink over the writer, with no fault yet.
     pub fn new(output: O) -> StdSink<O>
         ensures writer { writer_of result ≡ output }
         ensures faults { fault_count result ≡ 0 }

@@ -16,6 +16,7 @@ pub struct StdSource<I> {
 }
 
 impl<I: Read> StdSource<I> {
+    /// A source over the reader, with no fault yet.
     pub fn new(input: I) -> StdSource<I>
         ensures reader { reader_of result ≡ input }
         ensures faults { fault_count result ≡ 0 }

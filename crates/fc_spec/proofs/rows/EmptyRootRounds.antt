@@ -22,7 +22,7 @@ request = record {
 pub first_answer : answer_of 0 request documents first ≡ partial whole (counted 0) (row (leaf (key_of "a") 3 no_partials) (row no_partials no_rows)) no_partials
 first_answer = refl
 
-pub one_lack : next_lacks_of 2 request (told_in (up_to_round 1 request documents)) 1 0 ≡ record { shard = 1; want = want [] 0 (key_of "a") } ∷ []
+pub one_lack : next_lacks_of 2 request (told_in request.nodes (up_to_round 1 request documents)) 1 0 ≡ record { shard = 1; want = want [] 0 (key_of "a") } ∷ []
 one_lack = refl
 
 pub two_rounds : heard_in (search_rounds request documents) ≡ heard 1 0 ∷ heard 1 1 ∷ heard 2 1 ∷ []

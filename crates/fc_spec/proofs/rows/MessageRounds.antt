@@ -15,7 +15,7 @@ pub three_rounds : trace nested documents
     ∷ []
 three_rounds = refl
 
-pub merged_reply : facets_text (merged nested 2 (told_in (search_rounds nested documents)))
+pub merged_reply : facets_text (merged nested 2 (told_in nested.nodes (search_rounds nested documents)))
     ≡ codes "{\"cats\":{\"buckets\":[{\"count\":5,\"sizes\":{\"buckets\":[{\"count\":3,\"val\":\"l\"}]},\"val\":\"x\"}]},\"count\":8}"
 unfolding written
 merged_reply = refl

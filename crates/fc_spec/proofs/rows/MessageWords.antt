@@ -53,7 +53,7 @@ up_to_round n r W = filter (λ s. nat_le s.round n) (search_rounds r W)
 
 -- what two shards' messages merge into
 abbrev pub merged_text : Request → List Sent → Text
-merged_text r sent = facets_text (merged r 2 (told_in sent))
+merged_text r sent = facets_text (merged r 2 (told_in r.nodes sent))
 
 -- each message has the shape for its ask
 abbrev pub all_shaped : Request → List Sent → Bool

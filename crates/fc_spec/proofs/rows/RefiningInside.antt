@@ -17,7 +17,7 @@ use Rattle.fc_spec.proofs.rows.SeveralWants as several_wants
 abbrev pub in_query : Request
 in_query = asking (facet (named "all" (query all)) (facet (named "c" (terms short_count.refined)) no_nodes no_nodes) no_nodes)
 
-pub lack_in_query : lacks in_query 2 (told_in (up_to_round 1 in_query short_count.documents)) 0 ≡ record { shard = 1; want = want (record { node = 0; key = whole } ∷ []) 0 (key_of "a") } ∷ []
+pub lack_in_query : lacks in_query 2 (told_in in_query.nodes (up_to_round 1 in_query short_count.documents)) 0 ≡ record { shard = 1; want = want (record { node = 0; key = whole } ∷ []) 0 (key_of "a") } ∷ []
 lack_in_query = refl
 
 pub rounds_in_query : heard_in (search_rounds in_query short_count.documents) ≡ heard 1 0 ∷ heard 1 1 ∷ heard 2 1 ∷ []
@@ -45,7 +45,7 @@ around_sizes kind = asking (facet (named "out" kind) (facet (named "sizes" (term
 abbrev pub in_range : Request
 in_range = around_sizes (range (range_on 2 (pos 0) (pos 4) (pos 2)))
 
-pub lack_in_range : lacks in_range 2 (told_in (up_to_round 1 in_range documents)) 0 ≡ record { shard = 0; want = want (record { node = 0; key = gap 0 } ∷ []) 0 (key_of "l") } ∷ []
+pub lack_in_range : lacks in_range 2 (told_in in_range.nodes (up_to_round 1 in_range documents)) 0 ≡ record { shard = 0; want = want (record { node = 0; key = gap 0 } ∷ []) 0 (key_of "l") } ∷ []
 lack_in_range = refl
 
 pub merged_in_range : merged_text in_range (search_rounds in_range documents)
@@ -58,7 +58,7 @@ abbrev pub in_missing : Request
 in_missing = around_sizes (terms (record (limited_on 3 1) { missing = true; refine = true }))
 
 abbrev pub missing_lacks : ℕ → List Lack
-missing_lacks depth = lacks in_missing 2 (told_in (up_to_round 1 in_missing documents)) depth
+missing_lacks depth = lacks in_missing 2 (told_in in_missing.nodes (up_to_round 1 in_missing documents)) depth
 
 pub no_lack_around_missing : missing_lacks 0 ≡ []
 no_lack_around_missing = refl

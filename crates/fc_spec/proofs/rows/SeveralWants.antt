@@ -32,7 +32,7 @@ request = asking_for two_of_three
 
 -- what lacks after a round
 abbrev pub lacking_after : ℕ → List Lack
-lacking_after round = next_lacks_of 2 request (told_in (up_to_round round request documents)) 2 0
+lacking_after round = next_lacks_of 2 request (told_in request.nodes (up_to_round round request documents)) 2 0
 
 pub three_rounds : heard_in (search_rounds request documents) ≡ heard 1 0 ∷ heard 1 1 ∷ heard 2 0 ∷ heard 2 1 ∷ heard 3 0 ∷ heard 3 1 ∷ []
 three_rounds = refl
@@ -76,9 +76,9 @@ all_printed = asking_for (record two_of_three { limit = None; overrefine = 0 })
 pub all_printed_rounds : heard_in (search_rounds all_printed documents) ≡ heard 1 0 ∷ heard 1 1 ∷ heard 2 0 ∷ heard 2 1 ∷ []
 all_printed_rounds = refl
 
-pub nothing_at_the_first_depth : lacks all_printed 2 (told_in (up_to_round 1 all_printed documents)) 0 ≡ []
+pub nothing_at_the_first_depth : lacks all_printed 2 (told_in all_printed.nodes (up_to_round 1 all_printed documents)) 0 ≡ []
 nothing_at_the_first_depth = refl
 
-pub second_shard_wants_both : wants_of 1 (lacks all_printed 2 (told_in (up_to_round 1 all_printed documents)) 1)
+pub second_shard_wants_both : wants_of 1 (lacks all_printed 2 (told_in all_printed.nodes (up_to_round 1 all_printed documents)) 1)
     ≡ want (under "a") 0 (key_of "s") ∷ want (under "b") 0 (key_of "s") ∷ []
 second_shard_wants_both = refl

@@ -160,38 +160,38 @@ measured = asking (facet (named "c" (terms (unlimited_on 1))) (statistic (codes 
 abbrev pub measured_shaped : List StatValue → Rows → Bool
 measured_shaped values inside = is_shaped measured first (around whole 5 (partial (key_of "a") (record { count = 1; values = values }) inside no_partials))
 
--- a list for each node, for a statistic the empty one
-abbrev pub three_lists : Rows
-three_lists = row no_partials (row (leaf whole 1 no_partials) (row no_partials no_rows))
+-- a list for each facet
+abbrev pub one_list : Rows
+one_list = row (leaf whole 1 no_partials) no_rows
 
-pub both_statistics : measured_shaped (extreme (Some (pos 4)) ∷ number (pos 9) ∷ []) three_lists ≡ true
+pub both_statistics : measured_shaped (extreme (Some (pos 4)) ∷ number (pos 9) ∷ []) one_list ≡ true
 both_statistics = refl
 
-pub absent_least : measured_shaped (extreme None ∷ number (pos 0) ∷ []) three_lists ≡ true
+pub absent_least : measured_shaped (extreme None ∷ number (pos 0) ∷ []) one_list ≡ true
 absent_least = refl
 
-pub statistic_too_few : measured_shaped (extreme (Some (pos 4)) ∷ []) three_lists ≡ false
+pub statistic_too_few : measured_shaped (extreme (Some (pos 4)) ∷ []) one_list ≡ false
 statistic_too_few = refl
 
-pub no_statistic : measured_shaped [] three_lists ≡ false
+pub no_statistic : measured_shaped [] one_list ≡ false
 no_statistic = refl
 
-pub statistic_too_many : measured_shaped (extreme (Some (pos 4)) ∷ number (pos 9) ∷ number (pos 9) ∷ []) three_lists ≡ false
+pub statistic_too_many : measured_shaped (extreme (Some (pos 4)) ∷ number (pos 9) ∷ number (pos 9) ∷ []) one_list ≡ false
 statistic_too_many = refl
 
-pub statistics_swapped : measured_shaped (number (pos 9) ∷ extreme (Some (pos 4)) ∷ []) three_lists ≡ false
+pub statistics_swapped : measured_shaped (number (pos 9) ∷ extreme (Some (pos 4)) ∷ []) one_list ≡ false
 statistics_swapped = refl
 
-pub number_for_least : measured_shaped (number (pos 4) ∷ number (pos 9) ∷ []) three_lists ≡ false
+pub number_for_least : measured_shaped (number (pos 4) ∷ number (pos 9) ∷ []) one_list ≡ false
 number_for_least = refl
 
-pub list_too_few : measured_shaped (extreme None ∷ number (pos 0) ∷ []) (row no_partials (row (leaf whole 1 no_partials) no_rows)) ≡ false
+pub list_too_few : measured_shaped (extreme None ∷ number (pos 0) ∷ []) no_rows ≡ false
 list_too_few = refl
 
-pub list_too_many : measured_shaped (extreme None ∷ number (pos 0) ∷ []) (row no_partials (row (leaf whole 1 no_partials) (row no_partials (row no_partials no_rows)))) ≡ false
+pub list_too_many : measured_shaped (extreme None ∷ number (pos 0) ∷ []) (row (leaf whole 1 no_partials) (row no_partials no_rows)) ≡ false
 list_too_many = refl
 
-pub list_of_statistic : measured_shaped (extreme None ∷ number (pos 0) ∷ []) (row (leaf whole 1 no_partials) (row (leaf whole 1 no_partials) (row no_partials no_rows))) ≡ false
+pub list_of_statistic : measured_shaped (extreme None ∷ number (pos 0) ∷ []) (row no_partials (row (leaf whole 1 no_partials) no_rows)) ≡ false
 list_of_statistic = refl
 
 -- a first message has one bucket, the whole, whatever its count

@@ -4,7 +4,7 @@ use Rattle.fc_spec.specs.World.{World}
 use Rattle.fc_spec.specs.Request.{countvals, Range, terms, query, no_nodes, statistic, facet, Request}
 use Rattle.fc_spec.specs.Buckets.{missing, gap, before, between, after, whole, Key}
 use Rattle.fc_spec.specs.Statistics.{number}
-use Rattle.fc_spec.specs.Message.{Partials, no_partials, partial, no_rows, row, first, more}
+use Rattle.fc_spec.specs.Message.{Partials, no_partials, partial, no_rows, first, more}
 use Rattle.fc_spec.specs.Answer.{answer}
 use Rattle.fc_spec.specs.Rounds.{search_rounds}
 use Rattle.fc_spec.proofs.rows.Words.{written, labelled, says, terms_on, unlimited_on, stat, named, asking}
@@ -17,7 +17,7 @@ use Rattle.fc_spec.proofs.rows.SecondStatistic as second_statistic
 
 -- a bucket with the number of its ids, before others
 abbrev pub with_ids : Key → ℕ → Partials → Partials
-with_ids key n rest = partial key (record { count = n; values = number (pos n) ∷ [] }) (row no_partials no_rows) rest
+with_ids key n rest = partial key (record { count = n; values = number (pos n) ∷ [] }) no_rows rest
 
 -- the first shard has a document without a value, the second has none and does not list the bucket
 pub missing_listed : answer_of 0 missing_bucket.request missing_bucket.documents first ≡ around whole 2 (with_ids (key_of "a") 1 (with_ids missing 1 no_partials))

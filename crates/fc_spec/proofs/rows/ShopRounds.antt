@@ -1,7 +1,7 @@
 -- The rounds of the shop: one shard lacks one brand, and the messages merge into the shop's reply.
 use Rattle.std.specs.Prelude.{◌≡◌, pos, [], ◌∷◌, refl, codes}
 use Rattle.fc_spec.specs.Statistics.{number}
-use Rattle.fc_spec.specs.Message.{no_partials, partial, no_rows, row, more}
+use Rattle.fc_spec.specs.Message.{no_partials, partial, no_rows, more}
 use Rattle.fc_spec.specs.Rounds.{told_in, search_rounds}
 use Rattle.fc_spec.specs.Trace.{trace}
 use Rattle.fc_spec.proofs.rows.Words.{written}
@@ -9,12 +9,12 @@ use Rattle.fc_spec.proofs.rows.MessageWords.{answer_of, next_lacks_of, key_of, w
 use Rattle.fc_spec.proofs.rows.Shop.{products, request}
 
 -- the first shard has no product of this brand, and does not offer it
-pub one_lack : next_lacks_of 2 request (told_in (up_to_round 1 request products)) 1 0 ≡ record { shard = 0; want = want [] 0 (key_of "nix") } ∷ []
+pub one_lack : next_lacks_of 2 request (told_in request.nodes (up_to_round 1 request products)) 1 0 ≡ record { shard = 0; want = want [] 0 (key_of "nix") } ∷ []
 one_lack = refl
 
 -- its answer has no place, and a sum of none; the bucket has a list for its statistic, which is not sent
 pub empty_answer : answer_of 0 request products (more (want [] 0 (key_of "nix") ∷ []))
-    ≡ partial (key_of "nix") (record { count = 0; values = number (pos 0) ∷ [] }) (row no_partials no_rows) no_partials
+    ≡ partial (key_of "nix") (record { count = 0; values = number (pos 0) ∷ [] }) no_rows no_partials
 empty_answer = refl
 
 -- a bucket takes 24 bytes, its key and 9 for a sum; a list takes 8

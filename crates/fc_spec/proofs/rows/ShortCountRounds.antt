@@ -38,7 +38,7 @@ two_rounds_sent = refl
 
 -- what lacks after the first round
 abbrev pub lacking : List Lack
-lacking = next_lacks_of 2 request (told_in (up_to_round 1 request documents)) 1 0
+lacking = next_lacks_of 2 request (told_in request.nodes (up_to_round 1 request documents)) 1 0
 
 pub one_lack : lacking ≡ record { shard = 1; want = want [] 0 (key_of "a") } ∷ []
 one_lack = refl
@@ -49,7 +49,7 @@ first_shard_wants = refl
 pub second_shard_wants : wants_of 1 lacking ≡ want [] 0 (key_of "a") ∷ []
 second_shard_wants = refl
 
-pub nothing_lacks : lacks_of 2 request (told_in (search_rounds request documents)) 0 ≡ []
+pub nothing_lacks : lacks_of 2 request (told_in request.nodes (search_rounds request documents)) 0 ≡ []
 nothing_lacks = refl
 
 -- its answer is one bucket with nothing nested

@@ -12,7 +12,7 @@ three_rounds = refl
 
 -- what lacks at a depth after a round
 abbrev pub lacks_after : (round depth : ℕ) → List Lack
-lacks_after round depth = lacks_of 2 request (told_in (up_to_round round request documents)) depth
+lacks_after round depth = lacks_of 2 request (told_in request.nodes (up_to_round round request documents)) depth
 
 -- each shard offers one category, and in it one size
 pub first_answer : answer_of 0 request documents first
@@ -45,10 +45,10 @@ pub size_answer : answer_of 0 request documents (more (want under_x 0 (key_of "l
 size_answer = refl
 
 -- the least depth where something lacks comes next
-pub category_next : next_lacks_of 2 request (told_in (up_to_round 1 request documents)) 2 0 ≡ record { shard = 1; want = want [] 0 (key_of "x") } ∷ []
+pub category_next : next_lacks_of 2 request (told_in request.nodes (up_to_round 1 request documents)) 2 0 ≡ record { shard = 1; want = want [] 0 (key_of "x") } ∷ []
 category_next = refl
 
-pub size_next : next_lacks_of 2 request (told_in (up_to_round 2 request documents)) 2 0 ≡ record { shard = 0; want = want under_x 0 (key_of "l") } ∷ []
+pub size_next : next_lacks_of 2 request (told_in request.nodes (up_to_round 2 request documents)) 2 0 ≡ record { shard = 0; want = want under_x 0 (key_of "l") } ∷ []
 size_next = refl
 
 -- in the end nothing lacks, at no depth

@@ -1,4 +1,4 @@
--- Trees read from tokens, from left to right: what is read, and what is left.
+-- The tree of a row of tokens, read from left to right: what is read, and what is left. Guide: Standard Query Parser.
 use Rattle.std.specs.Prelude.{ℕ, zero, suc, List, [], ◌∷◌, length, Bool, true, false, Option, None, Some, option_map, if◌then◌else◌}
 use Rattle.fc_spec.specs.Val.{Text}
 use Rattle.fc_spec.specs.Options.{◌>>=◌}
@@ -98,6 +98,6 @@ abbrev pub whole_at : Option (Group × Row) → Option Group
 whole_at (Some (g, [])) = Some g
 whole_at _ = None
 
--- the tree of a whole row
+-- the tree of a whole row, where it has one
 abbrev pub tree_of : Row → Option Group
 tree_of ts = whole_at (group_within 64 false ts)
