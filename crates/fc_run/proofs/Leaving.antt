@@ -5,7 +5,6 @@ use Rattle.std.proofs.lemmas.Bool.{lt-leb, le-ltb}
 use Rattle.std.specs.Io.KnownBytes.{Appends}
 use Rattle.fc_spec.specs.Val.{Text}
 use Rattle.fc_spec.specs.Outputs.{IsOutputBy}
-use Rattle.fc_spec.specs.QueryReadingLaw.{HasOneReading}
 use Rattle.fc_spec.specs.ScriptFault.{ScriptFault, too_long}
 use Rattle.fc_spec.specs.ScriptReading.{numbered_lines, script_limit, script_of, script_of_lines}
 use Rattle.fc_spec.specs.ScriptTotals.{script_limits}
@@ -14,13 +13,12 @@ use Rattle.fc_base.specs.declared.error.WantMemory.{WantMemory}
 use Rattle.fc_io.specs.AllRead.{TakesSome}
 use Rattle.fc_io.specs.WriteEnd.{AppendsFront}
 use Rattle.fc_script.specs.Refusals.{FirstFault}
-use Rattle.fc_script.specs.Built.{AreMeanings, AskedScript, Meanings, judged, outcome, unbuilt_in}
-use Rattle.fc_run.specs.Outcome.{by_single_index, Ends, HasOutcome, IsAnswer, IsCountedOutput, IsWhole, Leaves, OnDone, too_many}
+use Rattle.fc_script.specs.Built.{AskedScript, judged, outcome, unbuilt_in}
+use Rattle.fc_run.specs.Outcome.{by_single_index, Ends, IsAnswer, IsCountedOutput, IsWhole, Leaves, OnDone, too_many}
 use Rattle.fc_run.specs.declared.answer.Answer.{Answer}
 use Rattle.fc_run.specs.declared.answer.Answer.TheVariants.{Lines, Fault}
 use Rattle.fc_run.specs.declared.status.Status.{Status}
 use Rattle.fc_run.specs.declared.status.Status.TheVariants.{Done, Usage, Script, Read, Memory, Write}
-use Rattle.fc_run.proofs.QueryMeanings.{meanings, meanings_are}
 
 -- ---- by what the bytes spell
 
@@ -70,30 +68,30 @@ left_by Write (Ok (Fault text)) (Ok S) old new is ends = absurd is
 
 -- where the source tells its bytes, each of these
 pub record IsLeftOf (status : Status) (left old new : Option (List ℕ)) : Type 0 where
-  pub leaves : IfSome left (λ bytes. (t : Text) × Appends old new t × HasOutcome bytes (λ spelled. Leaves status spelled t))
-  pub single_index : IfSome left (λ bytes. (t : Text) × Appends old new t × HasOutcome bytes (λ spelled. OnDone status spelled (λ S. IsOutputBy by_single_index S t)))
-  pub counts : IfSome left (λ bytes. (t : Text) × Appends old new t × HasOutcome bytes (λ spelled. OnDone status spelled (λ S. IsCountedOutput S t)))
+  pub leaves : IfSome left (λ bytes. (t : Text) × Appends old new t × Leaves status (outcome bytes) t)
+  pub single_index : IfSome left (λ bytes. (t : Text) × Appends old new t × OnDone status (outcome bytes) (λ S. IsOutputBy by_single_index S t))
+  pub counts : IfSome left (λ bytes. (t : Text) × Appends old new t × OnDone status (outcome bytes) (λ S. IsCountedOutput S t))
 
 untold : (status : Status) (old new : Option (List ℕ)) → IsLeftOf status None old new
 untold status old new = record { leaves = tt; single_index = tt; counts = tt }
 
-with_meanings : (one : HasOneReading) (status : Status) (bytes : List ℕ) (old new : Option (List ℕ)) → Left status (outcome (meanings one) bytes) old new → IsLeftOf status (Some bytes) old new
-with_meanings one status bytes old new (t, appended, is) = record {
-  leaves = (t, appended, (meanings one, meanings_are one, is.leaves));
-  single_index = (t, appended, (meanings one, meanings_are one, is.single_index));
-  counts = (t, appended, (meanings one, meanings_are one, is.counts));
+by_bytes : (status : Status) (bytes : List ℕ) (old new : Option (List ℕ)) → Left status (outcome bytes) old new → IsLeftOf status (Some bytes) old new
+by_bytes status bytes old new (t, appended, is) = record {
+  leaves = (t, appended, is.leaves);
+  single_index = (t, appended, is.single_index);
+  counts = (t, appended, is.counts);
 }
 
 -- of the whole script
-pub left_of_all : HasOneReading → (status : Status) (answer : Result Answer WantMemory) (all : List ℕ) (left old new : Option (List ℕ)) → IfSome left (λ bytes. all ≡ bytes)
-    → ((m : Meanings) → AreMeanings m → IfOk answer (IsAnswer (outcome m all))) → Ends status answer old new → IsLeftOf status left old new
-left_of_all one status answer all None old new same is ends = untold status old new
-left_of_all one status answer all (Some bytes) old new same is ends =
-    with_meanings one status bytes old new (subst (λ bs. Left status (outcome (meanings one) bs) old new) same (left_by status answer (outcome (meanings one) all) old new (is (meanings one) (meanings_are one)) ends))
+pub left_of_all : (status : Status) (answer : Result Answer WantMemory) (all : List ℕ) (left old new : Option (List ℕ)) → IfSome left (λ bytes. all ≡ bytes)
+    → IfOk answer (IsAnswer (outcome all)) → Ends status answer old new → IsLeftOf status left old new
+left_of_all status answer all None old new same is ends = untold status old new
+left_of_all status answer all (Some bytes) old new same is ends =
+    by_bytes status bytes old new (subst (λ bs. Left status (outcome bs) old new) same (left_by status answer (outcome all) old new is ends))
 
 -- more bytes than a script may have are one that is too long
-passes : (m : Meanings) (taken rest : List ℕ) → script_limit < length taken → outcome m (taken ++ rest) ≡ Err too_many
-passes m taken rest more = ap (judged m (unbuilt_in m (numbered_lines (taken ++ rest)))) read ∙ judged_so (unbuilt_in m (numbered_lines (taken ++ rest)))
+passes : (taken rest : List ℕ) → script_limit < length taken → outcome (taken ++ rest) ≡ Err too_many
+passes taken rest more = ap (judged (unbuilt_in (numbered_lines (taken ++ rest)))) read ∙ judged_so (unbuilt_in (numbered_lines (taken ++ rest)))
   where
     fault : ScriptFault
     fault = record { line = 0; fault = too_long }
@@ -104,27 +102,27 @@ passes m taken rest more = ap (judged m (unbuilt_in m (numbered_lines (taken ++ 
     read : script_of script_limits (taken ++ rest) ≡ Err fault
     read = ap (λ b. unless b fault >>= λ u. script_of_lines script_limits (numbered_lines (taken ++ rest))) long
 
-    judged_so : (o : Option ℕ) → judged m o (Err fault) ≡ Err too_many
+    judged_so : (o : Option ℕ) → judged o (Err fault) ≡ Err too_many
     judged_so None = refl
     judged_so (Some n) = rw (le-ltb n 0 (omega arith)) refl
 
-pub left_of_many : HasOneReading → (status : Status) (answer : Result Answer WantMemory) (left after old new : Option (List ℕ)) → TakesSome left after (λ n. script_limit < n) → IfOk answer (IsAnswer (Err too_many)) → Ends status answer old new
+pub left_of_many : (status : Status) (answer : Result Answer WantMemory) (left after old new : Option (List ℕ)) → TakesSome left after (λ n. script_limit < n) → IfOk answer (IsAnswer (Err too_many)) → Ends status answer old new
     → IsLeftOf status left old new
-left_of_many one status answer None after old new taken is ends = untold status old new
-left_of_many one status answer (Some bytes) None old new (taken, cut, more) is ends = absurd cut
-left_of_many one status answer (Some bytes) (Some rest) old new (taken, cut, more) is ends =
-    with_meanings one status bytes old new (subst (λ spelled. Left status spelled old new) (sym (ap (outcome (meanings one)) cut ∙ passes (meanings one) taken rest more)) (left_by status answer (Err too_many) old new is ends))
+left_of_many status answer None after old new taken is ends = untold status old new
+left_of_many status answer (Some bytes) None old new (taken, cut, more) is ends = absurd cut
+left_of_many status answer (Some bytes) (Some rest) old new (taken, cut, more) is ends =
+    by_bytes status bytes old new (subst (λ spelled. Left status spelled old new) (sym (ap outcome cut ∙ passes taken rest more)) (left_by status answer (Err too_many) old new is ends))
 
 -- of a run that writes nothing
-left_of_none : HasOneReading → (status : Status) (left old : Option (List ℕ)) → ((spelled : Result AskedScript FirstFault) → IsLeft status spelled []) → IsLeftOf status left old old
-left_of_none one status None old is = untold status old old
-left_of_none one status (Some bytes) old is = with_meanings one status bytes old old ([], appends_nothing old old refl, is (outcome (meanings one) bytes))
+left_of_none : (status : Status) (left old : Option (List ℕ)) → ((spelled : Result AskedScript FirstFault) → IsLeft status spelled []) → IsLeftOf status left old old
+left_of_none status None old is = untold status old old
+left_of_none status (Some bytes) old is = by_bytes status bytes old old ([], appends_nothing old old refl, is (outcome bytes))
 
-pub left_by_usage : HasOneReading → (left old : Option (List ℕ)) → IsLeftOf Usage left old old
-left_by_usage one left old = left_of_none one Usage left old (λ spelled. record { leaves = refl; single_index = tt; counts = tt })
+pub left_by_usage : (left old : Option (List ℕ)) → IsLeftOf Usage left old old
+left_by_usage left old = left_of_none Usage left old (λ spelled. record { leaves = refl; single_index = tt; counts = tt })
 
-pub left_by_read : HasOneReading → (left old : Option (List ℕ)) → IsLeftOf Read left old old
-left_by_read one left old = left_of_none one Read left old (λ spelled. record { leaves = refl; single_index = tt; counts = tt })
+pub left_by_read : (left old : Option (List ℕ)) → IsLeftOf Read left old old
+left_by_read left old = left_of_none Read left old (λ spelled. record { leaves = refl; single_index = tt; counts = tt })
 
-pub left_by_memory : HasOneReading → (left old : Option (List ℕ)) → IsLeftOf Memory left old old
-left_by_memory one left old = left_of_none one Memory left old (λ spelled. record { leaves = inl refl; single_index = tt; counts = tt })
+pub left_by_memory : (left old : Option (List ℕ)) → IsLeftOf Memory left old old
+left_by_memory left old = left_of_none Memory left old (λ spelled. record { leaves = inl refl; single_index = tt; counts = tt })

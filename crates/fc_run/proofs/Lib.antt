@@ -16,7 +16,6 @@ pub mod LegalNumbers
 pub mod ScriptOrder
 pub mod RunningText
 pub mod Printed
-pub mod QueryMeanings
 pub mod Leaving
 pub mod RootDomain
 pub mod FoundValues

@@ -14,7 +14,7 @@ use Rattle.fc_spec.specs.ScriptFault.{too_long}
 use Rattle.fc_base.specs.declared.error.WantMemory.{WantMemory}
 use Rattle.fc_io.specs.WriteEnd.{AppendsFront}
 use Rattle.fc_script.specs.Refusals.{FirstFault, faulty, refused_line}
-use Rattle.fc_script.specs.Built.{AskedScript, AreMeanings, Meanings, outcome}
+use Rattle.fc_script.specs.Built.{AskedScript}
 use Rattle.fc_run.specs.declared.answer.Answer.{Answer}
 use Rattle.fc_run.specs.declared.answer.Answer.TheVariants.{Lines, Fault}
 use Rattle.fc_run.specs.declared.status.Status.{Status}
@@ -43,14 +43,6 @@ Leaves Usage spelled t = t ≡ []
 Leaves Read spelled t = t ≡ []
 Leaves Memory spelled t = IsFront spelled t
 Leaves Write spelled t = IsFront spelled t
-
--- P holds of what a run makes of the bytes, by meanings of query texts: there are such, and all make the same of the bytes
-abbrev pub HasOutcome : List ℕ → (Result AskedScript FirstFault → Type 0) → Type 0
-HasOutcome bytes P = (m : Meanings) × AreMeanings m × P (outcome m bytes)
-
--- the bytes have one outcome, whatever meanings of query texts it is made by
-abbrev pub HasOneOutcome : Type 0
-HasOneOutcome = (bytes : List ℕ) → (spelled : Result AskedScript FirstFault) × HasOutcome bytes (λ found. found ≡ spelled) × ((m : Meanings) → AreMeanings m → outcome m bytes ≡ spelled)
 
 -- with Done, P holds of the script
 abbrev pub OnDone : Status → Result AskedScript FirstFault → (AskedScript → Type 0) → Type 0

@@ -2,7 +2,7 @@
 ghost use Rattle.std.specs.Prelude.{◌≡◌, All, Err, IfOk};
 ghost use Rattle.fc_spec.specs.ScriptTotals.{script_limits};
 ghost use Rattle.fc_spec.specs.ValidScripts.{IsWithin};
-ghost use Rattle.fc_script.specs.Built.{outcome, AreMeanings, Meanings};
+ghost use Rattle.fc_script.specs.Built.{outcome};
 ghost use Rattle.fc_script.specs.Counts.{IsLineOf};
 ghost use Rattle.fc_script.specs.ValidRequests.{IsAskedOf};
 ghost use Rattle.fc_run.specs.Outcome.{ArePrinted, IsAnswer, too_many};
@@ -49,7 +49,7 @@ pub(crate) fn too_long(alloc: Global) -> Result<Answer, WantMemory>
 /// The answer to the script that the bytes spell.
 /// The bytes are let go before the lines are run.
 pub(crate) fn answer_to(alloc: Global, bytes: Vec<u8>) -> Result<Answer, WantMemory>
-    ensures { (m : Meanings) → AreMeanings m → IfOk result (IsAnswer (outcome m bytes.items)) }
+    ensures { IfOk result (IsAnswer (outcome bytes.items)) }
 {
     let read = read_script(alloc, SCRIPT_LIMITS, &bytes);
     drop(bytes);

@@ -4,7 +4,8 @@ ghost use Rattle.std.specs.Io.KnownBytes.{Appends, IsAtEnd};
 ghost use Rattle.fc_spec.specs.Val.{Text};
 ghost use Rattle.fc_spec.specs.Outputs.{IsOutputBy};
 ghost use Rattle.fc_io.specs.Faults.{Rose};
-ghost use Rattle.fc_run.specs.Outcome.{by_single_index, takes, Ends, HasOutcome, IfDone, IsCountedOutput, Leaves, OnDone, OnRead, OnUsage, OnWrite};
+ghost use Rattle.fc_script.specs.Built.{outcome};
+ghost use Rattle.fc_run.specs.Outcome.{by_single_index, takes, Ends, IfDone, IsCountedOutput, Leaves, OnDone, OnRead, OnUsage, OnWrite};
 ghost use Rattle.fc_run.specs.declared.status.Status.TheVariants.{Usage};
 
 use crate::answer::{Answer, answer_to, too_long};
@@ -12,7 +13,6 @@ use crate::status::Status;
 use fc_base::WantMemory;
 use fc_io::{AllRead, Sink, Source, WriteEnd, read_all, write_all};
 use fc_script::SCRIPT_LIMIT;
-use fc_spec::query_texts_have_one_meaning;
 use std::alloc::Global;
 
 // Writes the answer, where there is one.
@@ -62,17 +62,16 @@ pub fn run<S: Source, K: Sink>(
 
     ensures leaves { IfSome (S.left source.old) (λ bytes. (t : Text)
         × Appends (K.written sink.old) (K.written sink.new) t
-        × HasOutcome bytes (λ spelled. Leaves result spelled t)) }
+        × Leaves result (outcome bytes) t) }
 
     ensures single_index { IfSome (S.left source.old) (λ bytes. (t : Text)
         × Appends (K.written sink.old) (K.written sink.new) t
-        × HasOutcome bytes (λ spelled. OnDone result spelled (λ S. IsOutputBy by_single_index S t))) }
+        × OnDone result (outcome bytes) (λ S. IsOutputBy by_single_index S t)) }
 
     ensures counts { IfSome (S.left source.old) (λ bytes. (t : Text)
         × Appends (K.written sink.old) (K.written sink.new) t
-        × HasOutcome bytes (λ spelled. OnDone result spelled (λ S. IsCountedOutput S t))) }
+        × OnDone result (outcome bytes) (λ S. IsCountedOutput S t)) }
 {
-    query_texts_have_one_meaning();
     if words.len() != 1 {
         return Status::Usage;
     }

@@ -10,7 +10,7 @@ use Rattle.fc_spec.specs.ScriptReading.{Numbered, at_line, value_on, with_line, 
 use Rattle.fc_spec.specs.ScriptTotals.{Limits}
 use Rattle.fc_spec.specs.LineReading.{line_said}
 use Rattle.fc_spec.specs.Walks.{◌>>=◌}
-use Rattle.fc_script.specs.Built.{Meanings, asks_unbuilt, first_unbuilt}
+use Rattle.fc_script.specs.Built.{asks_unbuilt, first_unbuilt}
 
 -- each number is above those before it, and above k
 abbrev pub Ascend : ℕ → List Numbered → Type 0
@@ -46,9 +46,9 @@ here_or_later k n true found below behind = below
 here_or_later k n false found below behind = farther k n found below behind
 
 -- the first line that is not built
-pub unbuilt_later : (m : Meanings) (s : Schema) (k : ℕ) (ls : List Numbered) → Ascend k ls → IsBehind k (first_unbuilt m s ls)
-unbuilt_later m s k [] up = tt
-unbuilt_later m s k (l ∷ ls) up = here_or_later k l.0 (asks_unbuilt m s (value_on l.1 >>= line_said s)) (first_unbuilt m s ls) up.0 (unbuilt_later m s l.0 ls up.1)
+pub unbuilt_later : (s : Schema) (k : ℕ) (ls : List Numbered) → Ascend k ls → IsBehind k (first_unbuilt s ls)
+unbuilt_later s k [] up = tt
+unbuilt_later s k (l ∷ ls) up = here_or_later k l.0 (asks_unbuilt s (value_on l.1 >>= line_said s)) (first_unbuilt s ls) up.0 (unbuilt_later s l.0 ls up.1)
 
 fails_farther : {A : Type 0} (k n : ℕ) (r : Result A ScriptFault) → k < n → FailsBehind n r → FailsBehind k r
 fails_farther k n (Ok a) below behind = tt

@@ -1,34 +1,12 @@
--- An object's number of members and its facets, beside the entries of its map.
-use Rattle.std.proofs.Common.{◌≡◌, ℕ, ◌<◌, ◌≤◌, List, [], ◌∷◌, length, ◌==◌, Some, None, String, Global, string_bytes, refl, ◌∙◌, ap, arith}
+-- An object's facets, beside the entries of its map.
+use Rattle.std.proofs.Common.{◌≡◌, ◌<◌, ◌≤◌, List, [], ◌∷◌, length, Some, None, string_bytes, refl, ◌∙◌, ap, arith}
 use Rattle.std.specs.List.{slice_get}
-use Rattle.serde_json.specs.Data.{Data, null, boolean, number, string, array, object}
+use Rattle.serde_json.specs.Data.{Data, object}
 use Rattle.serde_json.specs.Find.{as_object}
 use Rattle.serde_json.specs.View.{view, members_view}
-use Rattle.serde_json.specs.declared.value.Value.{Value}
 use Rattle.fc_spec.specs.Schema.{Schema}
-use Rattle.fc_spec.specs.SchemaReading.{member_count}
-use Rattle.fc_script.specs.Requests.{has_members, facet_of, facets_of}
-
-abbrev Entry : Type 0
-Entry = String Global × Value
-
--- a map's entries are the members that it shows
-count-members_view : (es : List Entry) → member_count (members_view es) ≡ length es
-count-members_view [] = refl
-count-members_view (e ∷ es) = omega (arith, count-members_view es)
-
-seen_as : (d : Data) (es : List Entry) → Some (members_view es) ≡ as_object d → d ≡ object (members_view es)
-seen_as (object ms) es is = cc
-seen_as null es is = cc
-seen_as (boolean b) es is = cc
-seen_as (number x) es is = cc
-seen_as (string s) es is = cc
-seen_as (array ds) es is = cc
-
-pub has_members-entries : (d : Data) (es : List Entry) (n : ℕ) → Some (members_view es) ≡ as_object d → has_members n d ≡ (length es == n)
-has_members-entries d es n is = ap (has_members n) (seen_as d es is) ∙ ap (λ k. k == n) (count-members_view es)
-
--- ---- the facets of an object
+use Rattle.fc_script.specs.Requests.{facet_of, facets_of}
+use Rattle.fc_base.proofs.JsonObjects.{Entry, seen_as}
 
 facets-object : (s : Schema) (es : List Entry) → 1 < length es → facets_of s (object (members_view es)) ≡ None
 facets-object s [] many = absurd (omega arith)

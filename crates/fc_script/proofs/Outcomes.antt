@@ -17,7 +17,7 @@ use Rattle.fc_spec.specs.ValidScripts.{line_asking}
 use Rattle.fc_spec.specs.Walks.{◌>>=◌, unless, with_fault}
 use Rattle.fc_script.specs.Refusals.{Refused, not_built, refused, FirstFault}
 use Rattle.fc_script.specs.Requests.{request_of}
-use Rattle.fc_script.specs.Built.{Meanings, AskedScript, asks_unbuilt, first_unbuilt, unbuilt_behind, unbuilt_in, request_or_default, fault_of, not_built_at, judged, outcome_within}
+use Rattle.fc_script.specs.Built.{AskedScript, asks_unbuilt, first_unbuilt, unbuilt_behind, unbuilt_in, request_or_default, fault_of, not_built_at, judged, outcome_within}
 use Rattle.fc_script.specs.ReadSoFar.{AskedLine, ReadSoFar, asked_line, with_asked, at_line, with_rest, one_shard, read_from, read_in}
 use Rattle.fc_script.proofs.AskedCounts.{check_last-asked}
 use Rattle.fc_script.proofs.LineOrder.{Ascend, IsBehind, FailsBehind, numbers_ascend, unbuilt_later, fault_later}
@@ -42,10 +42,10 @@ is_below n k below = grind (arith, nat_tests)
 
 -- ---- the lines behind the schema
 
-module _ (m : Meanings) (limits : Limits) (s : Schema) where
+module _ (limits : Limits) (s : Schema) where
   -- what a search asks
   abbrev see : Data → Result Request RequestFault
-  see d = request_or_default (request_of (m s) s d)
+  see d = request_or_default (request_of s d)
 
   abbrev so_far : List AskedLine → ReadSoFar
   so_far ls = record { limits = limits; schema = s; lines = ls }
@@ -72,14 +72,14 @@ module _ (m : Meanings) (limits : Limits) (s : Schema) where
   unbuilt_here n e true is = refl
   unbuilt_here n e false is = ap (λ g. Err (record { line = n; fault = g })) (sym is)
 
-  module _ (n : ℕ) (ls : List Numbered) (earlier : List (Line Data)) (behind : IsBehind n (first_unbuilt m s ls)) (fails : (now : List (Line Data)) → FailsBehind n (with_lines limits s now ls))
-      (later : (now : List (Line Data)) → with_rest (m s) (so_far (map (line_asking see) now)) ls ≡ lines_judged (first_unbuilt m s ls) (with_lines limits s now ls)) where
+  module _ (n : ℕ) (ls : List Numbered) (earlier : List (Line Data)) (behind : IsBehind n (first_unbuilt s ls)) (fails : (now : List (Line Data)) → FailsBehind n (with_lines limits s now ls))
+      (later : (now : List (Line Data)) → with_rest (so_far (map (line_asking see) now)) ls ≡ lines_judged (first_unbuilt s ls) (with_lines limits s now ls)) where
     -- behind a line whose count is within its limit, or not
     counted : (now : Line Data) (count : Result (Unit {0}) LineFault)
-        → (at_line n (with_fault refused count >>= λ u. Ok (so_far (map (line_asking see) earlier ++ line_asking see now ∷ []))) >>= λ r. with_rest (m s) r ls)
-        ≡ lines_judged (first_unbuilt m s ls) (script_at_line n (count >>= λ u. Ok (earlier ++ now ∷ [])) >>= λ more. with_lines limits s more ls)
-    counted now (Ok u) = ap (λ more. with_rest (m s) (so_far more) ls) (sym (map-append (line_asking see) earlier (now ∷ []))) ∙ later (earlier ++ now ∷ [])
-    counted now (Err e) = fault_first n e (first_unbuilt m s ls) behind
+        → (at_line n (with_fault refused count >>= λ u. Ok (so_far (map (line_asking see) earlier ++ line_asking see now ∷ []))) >>= λ r. with_rest r ls)
+        ≡ lines_judged (first_unbuilt s ls) (script_at_line n (count >>= λ u. Ok (earlier ++ now ∷ [])) >>= λ more. with_lines limits s more ls)
+    counted now (Ok u) = ap (λ more. with_rest (so_far more) ls) (sym (map-append (line_asking see) earlier (now ∷ []))) ∙ later (earlier ++ now ∷ [])
+    counted now (Err e) = fault_first n e (first_unbuilt s ls) behind
 
     -- a line that is not built, whether its count is within its limit or not
     unbuilt : (now : Line Data) (count : Result (Unit {0}) LineFault) → FailsAsNotBuilt (with_fault refused count)
@@ -88,19 +88,19 @@ module _ (m : Meanings) (limits : Limits) (s : Schema) where
     unbuilt now (Err e) plain = unbuilt_here n e (nat_lt n n) plain
 
     abbrev read_on : Result AskedLine Refused → Result AskedScript FirstFault
-    read_on asked = at_line n (asked >>= with_asked (so_far (map (line_asking see) earlier))) >>= λ r. with_rest (m s) r ls
+    read_on asked = at_line n (asked >>= with_asked (so_far (map (line_asking see) earlier))) >>= λ r. with_rest r ls
 
     abbrev defined_on : Bool → Line Data → Result AskedScript FirstFault
-    defined_on unbuilt now = lines_judged (cond unbuilt (Some n) (first_unbuilt m s ls)) (script_at_line n (check_last limits s (earlier ++ now ∷ []) now >>= λ u. Ok (earlier ++ now ∷ [])) >>= λ more. with_lines limits s more ls)
+    defined_on unbuilt now = lines_judged (cond unbuilt (Some n) (first_unbuilt s ls)) (script_at_line n (check_last limits s (earlier ++ now ∷ []) now >>= λ u. Ok (earlier ++ now ∷ [])) >>= λ more. with_lines limits s more ls)
 
     same_count : (now : Line Data) → check_last limits s (map (line_asking see) earlier ++ line_asking see now ∷ []) (line_asking see now) ≡ check_last limits s (earlier ++ now ∷ []) now
     same_count now = ap (λ more. check_last limits s more (line_asking see now)) (sym (map-append (line_asking see) earlier (now ∷ []))) ∙ check_last-asked see limits s (earlier ++ now ∷ []) now
 
     built_line : (now : Line Data) → read_on (Ok (line_asking see now)) ≡ defined_on false now
-    built_line now = ap (λ count. at_line n (with_fault refused count >>= λ u. Ok (so_far (map (line_asking see) earlier ++ line_asking see now ∷ []))) >>= λ r. with_rest (m s) r ls) (same_count now)
+    built_line now = ap (λ count. at_line n (with_fault refused count >>= λ u. Ok (so_far (map (line_asking see) earlier ++ line_asking see now ∷ []))) >>= λ r. with_rest r ls) (same_count now)
         ∙ counted now (check_last limits s (earlier ++ now ∷ []) now)
 
-    search_line : (session : Text) (d : Data) (r : Result Request Refused) → request_of (m s) s d ≡ r → read_on (asked_line (m s) s (asks session d)) ≡ defined_on (asks_unbuilt m s (Ok (asks session d))) (asks session d)
+    search_line : (session : Text) (d : Data) (r : Result Request Refused) → request_of s d ≡ r → read_on (asked_line s (asks session d)) ≡ defined_on (asks_unbuilt s (Ok (asks session d))) (asks session d)
     search_line session d (Ok r) is =
         ap (λ (q : Result Request Refused). read_on (q >>= λ a. Ok (asks session (Ok a)))) is
         ∙ ap (λ (q : Result Request Refused). read_on (Ok (asks session (request_or_default q)))) (sym is)
@@ -108,71 +108,71 @@ module _ (m : Meanings) (limits : Limits) (s : Schema) where
         ∙ ap (λ (q : Result Request Refused). defined_on (is_err q) (asks session d)) (sym is)
     search_line session d (Err e) is =
         ap (λ (q : Result Request Refused). read_on (q >>= λ a. Ok (asks session (Ok a)))) is
-        ∙ ap (λ (g : Refused). Err (record { line = n; fault = g })) (subst FailsAsNotBuilt is (request_fails (m s) s d))
+        ∙ ap (λ (g : Refused). Err (record { line = n; fault = g })) (subst FailsAsNotBuilt is (request_fails s d))
         ∙ unbuilt (asks session d) (check_last limits s (earlier ++ asks session d ∷ []) (asks session d)) (count_fails limits s (earlier ++ asks session d ∷ []) (asks session d))
         ∙ ap (λ (q : Result Request Refused). defined_on (is_err q) (asks session d)) (sym is)
 
-    said_line : (now : Line Data) → read_on (asked_line (m s) s now) ≡ defined_on (asks_unbuilt m s (Ok now)) now
+    said_line : (now : Line Data) → read_on (asked_line s now) ≡ defined_on (asks_unbuilt s (Ok now)) now
     said_line (add shard b) = built_line (add shard b)
     said_line (commit shard) = built_line (commit shard)
     said_line sync = built_line sync
-    said_line (asks session d) = search_line session d (request_of (m s) s d) refl
+    said_line (asks session d) = search_line session d (request_of s d) refl
 
     -- with what a line says, or its fault
     line_here : (said : Result (Line Data) LineFault)
-        → (at_line n (with_fault refused said >>= λ now. asked_line (m s) s now >>= with_asked (so_far (map (line_asking see) earlier))) >>= λ r. with_rest (m s) r ls)
-        ≡ lines_judged (cond (asks_unbuilt m s said) (Some n) (first_unbuilt m s ls)) (script_at_line n (said >>= λ now. check_last limits s (earlier ++ now ∷ []) now >>= λ u. Ok (earlier ++ now ∷ [])) >>= λ more. with_lines limits s more ls)
+        → (at_line n (with_fault refused said >>= λ now. asked_line s now >>= with_asked (so_far (map (line_asking see) earlier))) >>= λ r. with_rest r ls)
+        ≡ lines_judged (cond (asks_unbuilt s said) (Some n) (first_unbuilt s ls)) (script_at_line n (said >>= λ now. check_last limits s (earlier ++ now ∷ []) now >>= λ u. Ok (earlier ++ now ∷ [])) >>= λ more. with_lines limits s more ls)
     line_here (Ok now) = said_line now
-    line_here (Err e) = fault_first n e (first_unbuilt m s ls) behind
+    line_here (Err e) = fault_first n e (first_unbuilt s ls) behind
 
   -- all of them
-  lines_read : (k : ℕ) (ls : List Numbered) → Ascend k ls → (earlier : List (Line Data)) → with_rest (m s) (so_far (map (line_asking see) earlier)) ls ≡ lines_judged (first_unbuilt m s ls) (with_lines limits s earlier ls)
+  lines_read : (k : ℕ) (ls : List Numbered) → Ascend k ls → (earlier : List (Line Data)) → with_rest (so_far (map (line_asking see) earlier)) ls ≡ lines_judged (first_unbuilt s ls) (with_lines limits s earlier ls)
   lines_read k [] up earlier = refl
   lines_read k (l ∷ ls) up earlier =
-      ap (λ r. at_line l.0 r >>= λ now. with_rest (m s) now ls) (said_first (value_on l.1) (line_said s) (λ now. asked_line (m s) s now >>= with_asked (so_far (map (line_asking see) earlier))))
-      ∙ line_here l.0 ls earlier (unbuilt_later m s l.0 ls up.1) (fault_later limits s l.0 ls up.1) (lines_read l.0 ls up.1) (value_on l.1 >>= line_said s)
-      ∙ ap (λ r. lines_judged (first_unbuilt m s (l ∷ ls)) (script_at_line l.0 r >>= λ more. with_lines limits s more ls)) (sym (said_next (value_on l.1) (line_said s) (λ now. check_last limits s (earlier ++ now ∷ []) now >>= λ u. Ok (earlier ++ now ∷ []))))
+      ap (λ r. at_line l.0 r >>= λ now. with_rest now ls) (said_first (value_on l.1) (line_said s) (λ now. asked_line s now >>= with_asked (so_far (map (line_asking see) earlier))))
+      ∙ line_here l.0 ls earlier (unbuilt_later s l.0 ls up.1) (fault_later limits s l.0 ls up.1) (lines_read l.0 ls up.1) (value_on l.1 >>= line_said s)
+      ∙ ap (λ r. lines_judged (first_unbuilt s (l ∷ ls)) (script_at_line l.0 r >>= λ more. with_lines limits s more ls)) (sym (said_next (value_on l.1) (line_said s) (λ now. check_last limits s (earlier ++ now ∷ []) now >>= λ u. Ok (earlier ++ now ∷ []))))
 
 -- ---- all lines
 
 -- the lines behind a schema, and the script
-as_script : (m : Meanings) (limits : Limits) (s : Schema) (found : Option ℕ) (r : Result (List (Line Data)) ScriptFault) → lines_judged m limits s found r ≡ judged m found (r >>= λ ls. Ok (record { schema = s; lines = ls }))
-as_script m limits s None (Ok ls) = refl
-as_script m limits s (Some n) (Ok ls) = refl
-as_script m limits s None (Err f) = refl
-as_script m limits s (Some n) (Err f) = refl
+as_script : (limits : Limits) (s : Schema) (found : Option ℕ) (r : Result (List (Line Data)) ScriptFault) → lines_judged limits s found r ≡ judged found (r >>= λ ls. Ok (record { schema = s; lines = ls }))
+as_script limits s None (Ok ls) = refl
+as_script limits s (Some n) (Ok ls) = refl
+as_script limits s None (Err f) = refl
+as_script limits s (Some n) (Err f) = refl
 
-one_schema : (m : Meanings) (limits : Limits) (n : ℕ) (ls : List Numbered) (s : Schema) (one : Bool) → Ascend n ls
-    → (at_line n (unless one not_built >>= λ u. Ok s) >>= λ s. with_rest (m s) (so_far m limits s []) ls)
-    ≡ lines_judged m limits s (cond one (first_unbuilt m s ls) (Some n)) (with_lines limits s [] ls)
-one_schema m limits n ls s true up = lines_read m limits s n ls up []
-one_schema m limits n ls s false up = unbuilt_first m limits s n (with_lines limits s [] ls) (fault_later limits s n ls up [])
+one_schema : (limits : Limits) (n : ℕ) (ls : List Numbered) (s : Schema) (one : Bool) → Ascend n ls
+    → (at_line n (unless one not_built >>= λ u. Ok s) >>= λ s. with_rest (so_far limits s []) ls)
+    ≡ lines_judged limits s (cond one (first_unbuilt s ls) (Some n)) (with_lines limits s [] ls)
+one_schema limits n ls s true up = lines_read limits s n ls up []
+one_schema limits n ls s false up = unbuilt_first limits s n (with_lines limits s [] ls) (fault_later limits s n ls up [])
 
 -- with the schema of the first line, or its fault
-first_line : (m : Meanings) (limits : Limits) (l : Numbered) (ls : List Numbered) → Ascend l.0 ls → (r : Result Schema LineFault)
-    → (at_line l.0 (with_fault refused r >>= one_shard) >>= λ s. with_rest (m s) (so_far m limits s []) ls)
-    ≡ judged m (unbuilt_behind m l ls r) (script_at_line l.0 r >>= λ s. with_lines limits s [] ls >>= λ lines. Ok (record { schema = s; lines = lines }))
-first_line m limits l ls up (Ok s) = one_schema m limits l.0 ls s (s.shards == 1) up ∙ as_script m limits s (cond (s.shards == 1) (first_unbuilt m s ls) (Some l.0)) (with_lines limits s [] ls)
-first_line m limits l ls up (Err e) = refl
+first_line : (limits : Limits) (l : Numbered) (ls : List Numbered) → Ascend l.0 ls → (r : Result Schema LineFault)
+    → (at_line l.0 (with_fault refused r >>= one_shard) >>= λ s. with_rest (so_far limits s []) ls)
+    ≡ judged (unbuilt_behind l ls r) (script_at_line l.0 r >>= λ s. with_lines limits s [] ls >>= λ lines. Ok (record { schema = s; lines = lines }))
+first_line limits l ls up (Ok s) = one_schema limits l.0 ls s (s.shards == 1) up ∙ as_script limits s (cond (s.shards == 1) (first_unbuilt s ls) (Some l.0)) (with_lines limits s [] ls)
+first_line limits l ls up (Err e) = refl
 
-from_lines : (m : Meanings) (limits : Limits) (ls : List Numbered) → Ascend 0 ls → read_from limits m ls ≡ judged m (unbuilt_in m ls) (script_of_lines limits ls)
-from_lines m limits [] up = refl
-from_lines m limits (l ∷ ls) up = first_line m limits l ls up.1 (schema_on l.1)
+from_lines : (limits : Limits) (ls : List Numbered) → Ascend 0 ls → read_from limits ls ≡ judged (unbuilt_in ls) (script_of_lines limits ls)
+from_lines limits [] up = refl
+from_lines limits (l ∷ ls) up = first_line limits l ls up.1 (schema_on l.1)
 
-too_long_first : (m : Meanings) (found : Option ℕ) → Err (record { line = 0; fault = refused too_long }) ≡ judged m found (Err (record { line = 0; fault = too_long }))
-too_long_first m None = refl
-too_long_first m (Some n) = rw (never n) refl
+too_long_first : (found : Option ℕ) → Err (record { line = 0; fault = refused too_long }) ≡ judged found (Err (record { line = 0; fault = too_long }))
+too_long_first None = refl
+too_long_first (Some n) = rw (never n) refl
   where
     never : (n : ℕ) → nat_lt n 0 ≡ false
     never n = grind (arith, nat_tests)
 
 -- of bytes
-pub outcome_read : (limits : Limits) (m : Meanings) (bytes : List ℕ) → read_in limits m bytes ≡ outcome_within limits m bytes
-outcome_read limits m bytes = by_length (nat_le (length bytes) script_limit)
+pub outcome_read : (limits : Limits) (bytes : List ℕ) → read_in limits bytes ≡ outcome_within limits bytes
+outcome_read limits bytes = by_length (nat_le (length bytes) script_limit)
   where
     ls : List Numbered
     ls = numbered_lines bytes
 
-    by_length : (few : Bool) → (unless few (record { line = 0; fault = refused too_long }) >>= λ u. read_from limits m ls) ≡ judged m (unbuilt_in m ls) (unless few (record { line = 0; fault = too_long }) >>= λ u. script_of_lines limits ls)
-    by_length true = from_lines m limits ls (numbers_ascend (λ l. not (is_silent l.1)) 0 1 (lines_of bytes) (omega arith))
-    by_length false = too_long_first m (unbuilt_in m ls)
+    by_length : (few : Bool) → (unless few (record { line = 0; fault = refused too_long }) >>= λ u. read_from limits ls) ≡ judged (unbuilt_in ls) (unless few (record { line = 0; fault = too_long }) >>= λ u. script_of_lines limits ls)
+    by_length true = from_lines limits ls (numbers_ascend (λ l. not (is_silent l.1)) 0 1 (lines_of bytes) (omega arith))
+    by_length false = too_long_first (unbuilt_in ls)

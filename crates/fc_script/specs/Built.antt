@@ -13,14 +13,7 @@ use Rattle.fc_spec.specs.LineReading.{line_said}
 use Rattle.fc_spec.specs.ValidScripts.{asking}
 use Rattle.fc_spec.specs.Walks.{◌>>=◌}
 use Rattle.fc_script.specs.Refusals.{Refused, not_built, refused, FirstFault}
-use Rattle.fc_script.specs.Requests.{Meaning, IsMeaning, request_of}
-
--- what query texts mean for each schema
-abbrev pub Meanings : Type 0
-Meanings = Schema → Meaning
-
-abbrev pub AreMeanings : Meanings → Type 0
-AreMeanings m = (s : Schema) → IsMeaning s (m s)
+use Rattle.fc_script.specs.Requests.{request_of}
 
 -- a script whose requests were read
 abbrev pub AskedScript : Type 0
@@ -29,24 +22,24 @@ AskedScript = Script (Result Request RequestFault)
 -- ---- lines that are not built
 
 -- what a line says is a search whose request is not built
-abbrev pub asks_unbuilt : Meanings → Schema → Result (Line Data) LineFault → Bool
-asks_unbuilt m s (Ok (asks session d)) = is_err (request_of (m s) s d)
-asks_unbuilt m s _ = false
+abbrev pub asks_unbuilt : Schema → Result (Line Data) LineFault → Bool
+asks_unbuilt s (Ok (asks session d)) = is_err (request_of s d)
+asks_unbuilt s _ = false
 
 -- the number of the first of these lines that is such a search
-abbrev pub first_unbuilt : Meanings → Schema → List Numbered → Option ℕ
-first_unbuilt m s [] = None
-first_unbuilt m s (l ∷ ls) = if asks_unbuilt m s (value_on l.1 >>= line_said s) then Some l.0 else first_unbuilt m s ls
+abbrev pub first_unbuilt : Schema → List Numbered → Option ℕ
+first_unbuilt s [] = None
+first_unbuilt s (l ∷ ls) = if asks_unbuilt s (value_on l.1 >>= line_said s) then Some l.0 else first_unbuilt s ls
 
 -- behind the schema line; that line itself where it has another number of shards than 1
-abbrev pub unbuilt_behind : Meanings → Numbered → List Numbered → Result Schema LineFault → Option ℕ
-unbuilt_behind m l ls (Ok s) = if s.shards == 1 then first_unbuilt m s ls else Some l.0
-unbuilt_behind m l ls (Err e) = None
+abbrev pub unbuilt_behind : Numbered → List Numbered → Result Schema LineFault → Option ℕ
+unbuilt_behind l ls (Ok s) = if s.shards == 1 then first_unbuilt s ls else Some l.0
+unbuilt_behind l ls (Err e) = None
 
 -- the number of the first line that is not built: the schema line where it names another number of shards than 1, else the first such search behind it
-abbrev pub unbuilt_in : Meanings → List Numbered → Option ℕ
-unbuilt_in m [] = None
-unbuilt_in m (l ∷ ls) = unbuilt_behind m l ls (schema_on l.1)
+abbrev pub unbuilt_in : List Numbered → Option ℕ
+unbuilt_in [] = None
+unbuilt_in (l ∷ ls) = unbuilt_behind l ls (schema_on l.1)
 
 -- ---- the outcome
 
@@ -56,8 +49,8 @@ request_or_default (Ok r) = Ok r
 request_or_default (Err e) = Ok (record { query = all; filters = []; nodes = no_nodes })
 
 -- the script with its requests read
-abbrev pub asked : Meanings → Script Data → AskedScript
-asked m S = asking (λ d. request_or_default (request_of (m S.schema) S.schema d)) S
+abbrev pub asked : Script Data → AskedScript
+asked S = asking (λ d. request_or_default (request_of S.schema d)) S
 
 abbrev pub fault_of : ScriptFault → FirstFault
 fault_of f = record { line = f.line; fault = refused f.fault }
@@ -66,15 +59,15 @@ abbrev pub not_built_at : ℕ → FirstFault
 not_built_at n = record { line = n; fault = not_built }
 
 -- the script, where each of its lines is built; else the first line at fault or not built: the earlier of the two, and where they are one line it is told as not built either way
-abbrev pub judged : Meanings → Option ℕ → Result (Script Data) ScriptFault → Result AskedScript FirstFault
-judged m None (Ok S) = Ok (asked m S)
-judged m (Some n) (Ok S) = Err (not_built_at n)
-judged m None (Err f) = Err (fault_of f)
-judged m (Some n) (Err f) = Err (if nat_lt n f.line then not_built_at n else fault_of f)
+abbrev pub judged : Option ℕ → Result (Script Data) ScriptFault → Result AskedScript FirstFault
+judged None (Ok S) = Ok (asked S)
+judged (Some n) (Ok S) = Err (not_built_at n)
+judged None (Err f) = Err (fault_of f)
+judged (Some n) (Err f) = Err (if nat_lt n f.line then not_built_at n else fault_of f)
 
-abbrev pub outcome_within : Limits → Meanings → List ℕ → Result AskedScript FirstFault
-outcome_within limits m bytes = judged m (unbuilt_in m (numbered_lines bytes)) (script_of limits bytes)
+abbrev pub outcome_within : Limits → List ℕ → Result AskedScript FirstFault
+outcome_within limits bytes = judged (unbuilt_in (numbered_lines bytes)) (script_of limits bytes)
 
 -- what a run makes of the bytes
-abbrev pub outcome : Meanings → List ℕ → Result AskedScript FirstFault
-outcome m bytes = outcome_within script_limits m bytes
+abbrev pub outcome : List ℕ → Result AskedScript FirstFault
+outcome bytes = outcome_within script_limits bytes

@@ -12,8 +12,8 @@ use Rattle.fc_spec.specs.LineReading.{line_said}
 use Rattle.fc_spec.specs.ScriptTotals.{Limits}
 use Rattle.fc_spec.specs.Walks.{◌>>=◌, unless, with_fault}
 use Rattle.fc_script.specs.Refusals.{Refused, not_built, refused, FirstFault}
-use Rattle.fc_script.specs.Requests.{Meaning, request_of}
-use Rattle.fc_script.specs.Built.{AskedScript, Meanings}
+use Rattle.fc_script.specs.Requests.{request_of}
+use Rattle.fc_script.specs.Built.{AskedScript}
 
 abbrev pub AskedLine : Type 0
 AskedLine = Line (Result Request RequestFault)
@@ -25,12 +25,12 @@ pub record ReadSoFar : Type 0 where
   pub lines : List AskedLine
 
 -- a line with its request read, where that is built
-abbrev pub asked_line : Meaning → Schema → Line Data → Result AskedLine Refused
-asked_line means s (add shard b) = Ok (add shard b)
-asked_line means s (commit shard) = Ok (commit shard)
-asked_line means s sync = Ok sync
-asked_line means s (asks session d) = do
-  r ← request_of means s d
+abbrev pub asked_line : Schema → Line Data → Result AskedLine Refused
+asked_line s (add shard b) = Ok (add shard b)
+asked_line s (commit shard) = Ok (commit shard)
+asked_line s sync = Ok sync
+asked_line s (asks session d) = do
+  r ← request_of s d
   Ok (asks session (Ok r))
 
 -- with a line behind the others, where what it counts is within its limit
@@ -40,26 +40,26 @@ with_asked r l = do
   Ok (record r { lines = r.lines ++ l ∷ [] })
 
 -- with a line of the script
-abbrev pub with_text : Meaning → ReadSoFar → Text → Result ReadSoFar Refused
-with_text means r t = do
+abbrev pub with_text : ReadSoFar → Text → Result ReadSoFar Refused
+with_text r t = do
   d ← with_fault refused (value_on t)
   said ← with_fault refused (line_said r.schema d)
-  l ← asked_line means r.schema said
+  l ← asked_line r.schema said
   with_asked r l
 
 -- the refusal of a line as the script's
 abbrev pub at_line : {A : Type 0} → (n : ℕ) → Result A Refused → Result A FirstFault
 at_line n r = with_fault (λ e. record { line = n; fault = e }) r
 
-abbrev pub with_numbered : Meaning → ReadSoFar → Numbered → Result ReadSoFar FirstFault
-with_numbered means r l = at_line l.0 (with_text means r l.1)
+abbrev pub with_numbered : ReadSoFar → Numbered → Result ReadSoFar FirstFault
+with_numbered r l = at_line l.0 (with_text r l.1)
 
 -- the script with the lines that are left
-abbrev pub with_rest : Meaning → ReadSoFar → List Numbered → Result AskedScript FirstFault
-with_rest means r [] = Ok (record { schema = r.schema; lines = r.lines })
-with_rest means r (l ∷ ls) = do
-  now ← with_numbered means r l
-  with_rest means now ls
+abbrev pub with_rest : ReadSoFar → List Numbered → Result AskedScript FirstFault
+with_rest r [] = Ok (record { schema = r.schema; lines = r.lines })
+with_rest r (l ∷ ls) = do
+  now ← with_numbered r l
+  with_rest now ls
 
 -- a schema of one shard
 abbrev pub one_shard : Schema → Result Schema Refused
@@ -73,14 +73,14 @@ schema_read t = do
   one_shard s
 
 -- the script of lines
-abbrev pub read_from : Limits → Meanings → List Numbered → Result AskedScript FirstFault
-read_from limits m [] = Err (record { line = 0; fault = refused no_schema })
-read_from limits m (l ∷ ls) = do
+abbrev pub read_from : Limits → List Numbered → Result AskedScript FirstFault
+read_from limits [] = Err (record { line = 0; fault = refused no_schema })
+read_from limits (l ∷ ls) = do
   s ← at_line l.0 (schema_read l.1)
-  with_rest (m s) (record { limits = limits; schema = s; lines = [] }) ls
+  with_rest (record { limits = limits; schema = s; lines = [] }) ls
 
 -- the script of bytes
-abbrev pub read_in : Limits → Meanings → List ℕ → Result AskedScript FirstFault
-read_in limits m bytes = do
+abbrev pub read_in : Limits → List ℕ → Result AskedScript FirstFault
+read_in limits bytes = do
   _ ← unless (nat_le (length bytes) script_limit) (record { line = 0; fault = refused too_long })
-  read_from limits m (numbered_lines bytes)
+  read_from limits (numbered_lines bytes)

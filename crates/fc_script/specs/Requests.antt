@@ -5,25 +5,13 @@ use Rattle.serde_json.specs.Data.{Data, array, object, Items, no_items, item, Me
 use Rattle.serde_json.specs.Find.{get, get_member, as_number, as_object, as_str, as_i64}
 use Rattle.fc_spec.specs.Val.{Text, same_text}
 use Rattle.fc_spec.specs.Schema.{Schema, field_named}
-use Rattle.fc_spec.specs.SchemaReading.{member_count, natural_in}
-use Rattle.fc_spec.specs.LineReading.{only_names}
+use Rattle.fc_spec.specs.JsonObjects.{natural_in, only_names, has_members, has_text}
 use Rattle.fc_spec.specs.Query.{Query, all}
-use Rattle.fc_spec.specs.QueryFault.{QueryFault}
-use Rattle.fc_spec.specs.QueryTexts.{IsReadingOf}
-use Rattle.fc_spec.specs.FilterReading.{filter_parts}
+use Rattle.fc_spec.specs.QueryTexts.{query_of}
+use Rattle.fc_spec.specs.FilterReading.{filter_of}
 use Rattle.fc_spec.specs.Request.{Kind, terms, stay, by_index, Nodes, no_nodes, facet, Filter, Request}
 use Rattle.fc_spec.specs.Walks.{◌>>=◌, unless, with_fault}
 use Rattle.fc_script.specs.Refusals.{Refused, not_built}
-
--- ---- what query texts mean
-
--- a query or a fault for each text
-abbrev pub Meaning : Type 0
-Meaning = Text → Result Query QueryFault
-
--- for each text it is what the text means for this schema
-abbrev pub IsMeaning : Schema → Meaning → Type 0
-IsMeaning s means = (t : Text) → IsReadingOf s t (means t)
 
 -- ---- the facet
 
@@ -62,19 +50,6 @@ built_request q fs f = record { query = q; filters = fs; nodes = nodes_of f }
 abbrev pub is_reserved : Text → Bool
 is_reserved name = same_text name (codes "count") || same_text name (codes "val")
 
--- the value is this text
-abbrev pub is_text : Text → Data → Bool
-is_text t d = unwrap_or (option_map (same_text t) (as_str d)) false
-
--- an object of so many members
-abbrev pub has_members : ℕ → Data → Bool
-has_members n (object ms) = member_count ms == n
-has_members n _ = false
-
--- a member of this name has this text
-abbrev pub has_text : (name t : Text) → Data → Bool
-has_text name t d = unwrap_or (option_map (is_text t) (get name d)) false
-
 -- a member of this name is the whole number -1
 abbrev pub has_minus_one : Text → Data → Bool
 has_minus_one name d = unwrap_or (option_map (int_eq (negsuc 0)) (option_and_then as_i64 (option_and_then as_number (get name d)))) false
@@ -104,32 +79,29 @@ facets_in s (Some d) = ok_or (facets_of s d) not_built
 -- ---- the other members
 
 -- a text; every document where no query is named
-abbrev pub query_in : Meaning → Option Data → Result Query Refused
-query_in means None = Ok all
-query_in means (Some d) = do
+abbrev pub query_in : Schema → Option Data → Result Query Refused
+query_in s None = Ok all
+query_in s (Some d) = do
   t ← ok_or (as_str d) not_built
-  with_fault (λ e. not_built) (means t)
+  with_fault (λ e. not_built) (query_of s t)
 
 -- a filter, with its tags
-abbrev pub filter_of : Meaning → Data → Result Filter Refused
-filter_of means d = do
-  parts ← with_fault (λ e. not_built) (filter_parts d)
-  q ← with_fault (λ e. not_built) (means parts.1)
-  Ok (record { tags = parts.0; query = q })
+abbrev pub filter_in : Schema → Data → Result Filter Refused
+filter_in s d = with_fault (λ e. not_built) (filter_of s d)
 
-abbrev pub filters_of : Meaning → Items → Result (List Filter) Refused
-filters_of means no_items = Ok []
-filters_of means (item d ds) = do
-  f ← filter_of means d
-  fs ← filters_of means ds
+abbrev pub filters_of : Schema → Items → Result (List Filter) Refused
+filters_of s no_items = Ok []
+filters_of s (item d ds) = do
+  f ← filter_in s d
+  fs ← filters_of s ds
   Ok (f ∷ fs)
 
 -- a filter, or a list of them; none where none is named
-abbrev pub filters_in : Meaning → Option Data → Result (List Filter) Refused
-filters_in means None = Ok []
-filters_in means (Some (array ds)) = filters_of means ds
-filters_in means (Some d) = do
-  f ← filter_of means d
+abbrev pub filters_in : Schema → Option Data → Result (List Filter) Refused
+filters_in s None = Ok []
+filters_in s (Some (array ds)) = filters_of s ds
+filters_in s (Some d) = do
+  f ← filter_in s d
   Ok (f ∷ [])
 
 -- no documents are asked for in the reply: `limit` is the whole number 0, or absent
@@ -139,17 +111,17 @@ asks_no_documents (Some d) = unwrap_or (option_map (λ n. n == 0) (natural_in d)
 
 -- ---- the request
 
-abbrev pub request_of_members : Meaning → Schema → Members → Result Request Refused
-request_of_members means s ms = do
+abbrev pub request_of_members : Schema → Members → Result Request Refused
+request_of_members s ms = do
   _ ← unless (only_names (codes "query" ∷ codes "filter" ∷ codes "limit" ∷ codes "facet" ∷ []) ms) not_built
-  q ← query_in means (get_member (codes "query") ms)
-  fs ← filters_in means (get_member (codes "filter") ms)
+  q ← query_in s (get_member (codes "query") ms)
+  fs ← filters_in s (get_member (codes "filter") ms)
   _ ← unless (asks_no_documents (get_member (codes "limit") ms)) not_built
   nodes ← facets_in s (get_member (codes "facet") ms)
   Ok (record { query = q; filters = fs; nodes = nodes })
 
 -- an object of `query`, `filter`, `limit` and `facet`, each of which may be absent
-abbrev pub request_of : Meaning → Schema → Data → Result Request Refused
-request_of means s d = do
+abbrev pub request_of : Schema → Data → Result Request Refused
+request_of s d = do
   ms ← ok_or (as_object d) not_built
-  request_of_members means s ms
+  request_of_members s ms

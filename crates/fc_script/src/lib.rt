@@ -3,12 +3,9 @@
 
 mod counts;
 mod fault;
-mod json_line;
 mod limits;
 mod line;
 mod lines;
-mod looking;
-mod members;
 mod read;
 mod reading;
 mod refusal;
@@ -17,7 +14,6 @@ mod request;
 mod tests;
 
 pub use fault::{Fault, FirstFault};
-pub use json_line::text_line;
 pub use limits::{Limits, SCRIPT_LIMIT, SCRIPT_LIMITS};
 pub use line::Line;
 pub use read::{Script, read_script};

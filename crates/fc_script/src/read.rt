@@ -4,12 +4,11 @@ ghost use Rattle.serde_json.specs.View.{view};
 ghost use Rattle.fc_spec.specs.ScriptReading.{schema_on as schema_of_line, schema_said as schema_of_value};
 ghost use Rattle.fc_spec.specs.ValidScripts.{IsWithin};
 ghost use Rattle.fc_base.specs.Answers.{Answers};
-ghost use Rattle.fc_script.specs.Built.{outcome_within, AreMeanings, Meanings};
+ghost use Rattle.fc_script.specs.Built.{outcome_within};
 ghost use Rattle.fc_script.specs.Counts.{IsLineOf};
 ghost use Rattle.fc_script.specs.ValidRequests.{IsAskedOf};
 ghost use Rattle.fc_script.specs.ReadSoFar.{at_line as at_line_defined, one_shard as of_one_shard, read_from, read_in, schema_read, with_rest};
 ghost use Rattle.fc_script.specs.ReadView.{reading_view, IsRead};
-ghost use Rattle.fc_script.specs.Requests.{IsMeaning, Meaning};
 ghost use Rattle.fc_script.specs.ScriptView.{line_fault_view, lines_left, script_view};
 ghost use Rattle.fc_script.specs.View.{fault_view, limits_view, refused_view};
 
@@ -17,8 +16,8 @@ use crate::fault::{Fault, FirstFault, at_line};
 use crate::limits::{Limits, SCRIPT_LIMIT};
 use crate::line::{Line, LineFault, refused_by};
 use crate::lines::{Lines, next_said, value_on};
-use crate::members::{is_same, sole_member};
 use crate::reading::Reading;
+use fc_base::json::{is_same, sole_member};
 use fc_base::{Refusal, Schema};
 use serde_json::Value;
 use std::alloc::Global;
@@ -88,8 +87,7 @@ fn read_rest(
     mut lines: Lines<'_>,
 ) -> Result<Script, Refusal<FirstFault>>
     requires { IsRead reading }
-    ensures answer { (means : Meaning) → IsMeaning (reading_view reading).schema means
-        → Answers script_view fault_view result (with_rest means (reading_view reading) (lines_left lines.entry)) }
+    ensures answer { Answers script_view fault_view result (with_rest (reading_view reading) (lines_left lines.entry)) }
     ensures within { IfOk result (λ script. IsWithin (reading_view reading).limits (script_view script)) }
     ensures schema { IfOk result (λ script. script.schema ≡ (reading_view reading).schema) }
     ensures valid { IfOk result (λ script. All (IsLineOf script.schema) (script_view script).lines) }
@@ -108,8 +106,7 @@ fn read_lines(
     limits: Limits,
     mut lines: Lines<'_>,
 ) -> Result<Script, Refusal<FirstFault>>
-    ensures answer { (m : Meanings) → AreMeanings m
-        → Answers script_view fault_view result (read_from (limits_view limits) m (lines_left lines.entry)) }
+    ensures answer { Answers script_view fault_view result (read_from (limits_view limits) (lines_left lines.entry)) }
     ensures within { IfOk result (λ script. IsWithin (limits_view limits) (script_view script)) }
     ensures one { IfOk result (λ script. script.schema.shards ≡ 1) }
     ensures valid { IfOk result (λ script. All (IsLineOf script.schema) (script_view script).lines) }
@@ -127,8 +124,7 @@ fn read_lines(
 
 // The script that the bytes spell, read line by line.
 fn read_in_lines(alloc: Global, limits: Limits, bytes: &[u8]) -> Result<Script, Refusal<FirstFault>>
-    ensures answer { (m : Meanings) → AreMeanings m
-        → Answers script_view fault_view result (read_in (limits_view limits) m bytes.now) }
+    ensures answer { Answers script_view fault_view result (read_in (limits_view limits) bytes.now) }
     ensures within { IfOk result (λ script. IsWithin (limits_view limits) (script_view script)) }
     ensures one { IfOk result (λ script. script.schema.shards ≡ 1) }
     ensures valid { IfOk result (λ script. All (IsLineOf script.schema) (script_view script).lines) }
@@ -149,8 +145,7 @@ pub fn read_script(
     limits: Limits,
     bytes: &[u8],
 ) -> Result<Script, Refusal<FirstFault>>
-    ensures answer { (m : Meanings) → AreMeanings m
-        → Answers script_view fault_view result (outcome_within (limits_view limits) m bytes.now) }
+    ensures answer { Answers script_view fault_view result (outcome_within (limits_view limits) bytes.now) }
     ensures within { IfOk result (λ script. IsWithin (limits_view limits) (script_view script)) }
     ensures one { IfOk result (λ script. script.schema.shards ≡ 1) }
     ensures valid { IfOk result (λ script. All (IsLineOf script.schema) (script_view script).lines) }

@@ -5,7 +5,6 @@ ghost use Rattle.fc_base.specs.Answers.{Answers};
 ghost use Rattle.fc_script.specs.Counts.{AreCounts, IsLineOf};
 ghost use Rattle.fc_script.specs.ValidRequests.{IsAskedOf};
 ghost use Rattle.fc_script.specs.ReadSoFar.{with_asked, with_numbered as with_numbered_line, with_text as with_text_line};
-ghost use Rattle.fc_script.specs.Requests.{IsMeaning, Meaning};
 ghost use Rattle.fc_script.specs.ScriptView.{line_view};
 ghost use Rattle.fc_script.specs.View.{fault_view, limits_view, refused_view};
 
@@ -73,8 +72,7 @@ impl Reading {
 
     // With a line of the script.
     fn with_text(self, alloc: Global, text: &[u8]) -> Result<Reading, Refusal<Fault>>
-        ensures answer { (means : Meaning) → IsMeaning self.schema means
-            → Answers reading_view refused_view result (with_text_line means (reading_view self) text.now) }
+        ensures answer { Answers reading_view refused_view result (with_text_line (reading_view self) text.now) }
         ensures limits { IfOk result (λ r. (reading_view r).limits ≡ (reading_view self).limits) }
         ensures schema { IfOk result (λ r. (reading_view r).schema ≡ (reading_view self).schema) }
         ensures read { IsRead self → IfOk result IsRead }
@@ -92,8 +90,7 @@ impl Reading {
         number: u32,
         text: &[u8],
     ) -> Result<Reading, Refusal<FirstFault>>
-        ensures answer { (means : Meaning) → IsMeaning self.schema means
-            → Answers reading_view fault_view result (with_numbered_line means (reading_view self) (number, text.now)) }
+        ensures answer { Answers reading_view fault_view result (with_numbered_line (reading_view self) (number, text.now)) }
         ensures limits { IfOk result (λ r. (reading_view r).limits ≡ (reading_view self).limits) }
         ensures schema { IfOk result (λ r. (reading_view r).schema ≡ (reading_view self).schema) }
         ensures read { IsRead self → IfOk result IsRead }

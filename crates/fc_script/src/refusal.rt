@@ -7,8 +7,8 @@ ghost use Rattle.fc_script.specs.Refusals.{refused_line as line_of_fault};
 ghost use Rattle.fc_script.specs.View.{fault_view, refused_view, refused_name, refused_number};
 
 use crate::fault::{Fault, FirstFault};
-use crate::json_line::text_line;
 use fc_base::WantMemory;
+use fc_base::json::text_line;
 use serde_json::{Value, json};
 use std::alloc::Global;
 

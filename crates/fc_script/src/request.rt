@@ -3,7 +3,6 @@ ghost use Rattle.std.specs.Prelude.{◌≡◌, IfOk, option_map};
 ghost use Rattle.serde_json.specs.View.{view, members_view};
 ghost use Rattle.fc_base.specs.Answers.{Answers};
 ghost use Rattle.fc_script.specs.Requests as form;
-ghost use Rattle.fc_script.specs.Requests.{IsMeaning, Meaning};
 ghost use Rattle.fc_script.specs.ValidRequests.{IsValidRequest};
 ghost use Rattle.fc_script.specs.View.{refused_view, request_view};
 
@@ -12,9 +11,9 @@ mod filters;
 mod query;
 
 use crate::fault::Fault;
-use crate::members::{has_only, member};
 pub use facet::Facet;
 use facet::facet_in;
+use fc_base::json::{has_only, member};
 use fc_base::{Refusal, Schema};
 use fc_query::{Filter, Query};
 use filters::filters_in;
@@ -46,8 +45,8 @@ fn request_of(
     schema: &Schema,
     members: &Map<String, Value>,
 ) -> Result<Request, Refusal<Fault>>
-    ensures answer { (means : Meaning) → IsMeaning schema.now means → Answers request_view refused_view result
-        (form.request_of_members means schema.now (members_view members.now.entries)) }
+    ensures answer { Answers request_view refused_view result
+        (form.request_of_members schema.now (members_view members.now.entries)) }
     ensures valid { IfOk result (IsValidRequest schema.now) }
 {
     if !has_only(members, &["query", "filter", "limit", "facet"]) {
@@ -73,8 +72,8 @@ pub(crate) fn read_request(
     schema: &Schema,
     json: &Value,
 ) -> Result<Request, Refusal<Fault>>
-    ensures answer { (means : Meaning) → IsMeaning schema.now means → Answers request_view refused_view result
-        (form.request_of means schema.now (view json.now)) }
+    ensures answer { Answers request_view refused_view result
+        (form.request_of schema.now (view json.now)) }
     ensures valid { IfOk result (IsValidRequest schema.now) }
 {
     match json.as_object() {

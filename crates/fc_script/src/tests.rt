@@ -1,7 +1,5 @@
-use crate::line::LineFault;
 use crate::{FirstFault, Limits, Line, SCRIPT_LIMIT, SCRIPT_LIMITS, read_script};
 use fc_base::Refusal;
-use fc_docs::DocFault;
 use std::alloc::{AllocError, Global};
 use std::test::Fail;
 
@@ -261,26 +259,4 @@ fn lines_are_kept(rt: HostRuntime) -> Result<(), Fail> {
         " add 0 1 commit 0 commit sync search main 2"
     );
     Ok(())
-}
-
-#[test]
-fn faults_have_numbers(rt: HostRuntime) {
-    for (number, fault) in [
-        (1, LineFault::NotJson),
-        (2, LineFault::NoSchema),
-        (3, LineFault::UnknownLine),
-        (4, LineFault::BadSchema),
-        (5, LineFault::BadShard),
-        (6, LineFault::BadDocument(DocFault::NoId)),
-        (7, LineFault::DuplicateId),
-        (8, LineFault::FieldTotal),
-        (9, LineFault::TooManyDocuments),
-        (10, LineFault::TooManySessions),
-        (11, LineFault::LongLine),
-        (12, LineFault::TooLong),
-        (13, LineFault::TooManyCommits),
-        (14, LineFault::TooManySyncs),
-    ] {
-        assert_eq!(rt; fault.number(), number);
-    }
 }

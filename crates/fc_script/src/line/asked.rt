@@ -6,7 +6,6 @@ ghost use Rattle.fc_base.specs.Answers.{Answers};
 ghost use Rattle.fc_script.specs.Counts.{IsLineOf};
 ghost use Rattle.fc_script.specs.ValidRequests.{IsAskedOf};
 ghost use Rattle.fc_script.specs.ReadSoFar.{asked_line};
-ghost use Rattle.fc_script.specs.Requests.{IsMeaning, Meaning};
 ghost use Rattle.fc_script.specs.ScriptView.{line_view, said_view};
 ghost use Rattle.fc_script.specs.View.{refused_view};
 
@@ -38,8 +37,8 @@ fn search_of(
     session: &str,
     request: &Value,
 ) -> Result<Line, Refusal<Fault>>
-    ensures answer { (means : Meaning) → IsMeaning schema.now means → Answers line_view refused_view result
-        (asked_line means schema.now (asks session.now (view request.now))) }
+    ensures answer { Answers line_view refused_view result
+        (asked_line schema.now (asks session.now (view request.now))) }
     ensures valid { IfOk result (λ line. IsLineOf schema.now (line_view line)) }
     ensures fits { IfOk result (IsAskedOf schema.now) }
 {
@@ -55,8 +54,7 @@ pub(crate) fn asked_line(
     said: Said<'_>,
 ) -> Result<Line, Refusal<Fault>>
     requires { IsLineOf schema.now (said_view said) }
-    ensures answer { (means : Meaning) → IsMeaning schema.now means
-        → Answers line_view refused_view result (asked_line means schema.now (said_view said.entry)) }
+    ensures answer { Answers line_view refused_view result (asked_line schema.now (said_view said.entry)) }
     ensures valid { IfOk result (λ line. IsLineOf schema.now (line_view line)) }
     ensures fits { IfOk result (IsAskedOf schema.now) }
 {

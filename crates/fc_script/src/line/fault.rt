@@ -1,6 +1,5 @@
-// The faults of a script.
+// The faults of a script, and what each is refused for today.
 ghost use Rattle.std.specs.Prelude.{◌≡◌};
-ghost use Rattle.fc_spec.specs.ScriptFault.{line_fault_name, line_fault_number};
 ghost use Rattle.fc_base.specs.declared.error.Refusal.TheVariants.{Fault};
 ghost use Rattle.fc_script.specs.Refusals.{refused as reason};
 ghost use Rattle.fc_script.specs.ScriptView.{line_fault_view, IsRefusedBy};
@@ -41,52 +40,6 @@ pub(crate) enum LineFault {
     TooManyCommits,
     /// There are too many sync lines.
     TooManySyncs,
-}
-
-impl LineFault {
-    /// The number that the fault line shows, from 1 to 14.
-    pub(crate) fn number(self) -> u64
-        ensures { result ≡ line_fault_number (line_fault_view self) }
-    {
-        match self {
-            LineFault::NotJson => 1,
-            LineFault::NoSchema => 2,
-            LineFault::UnknownLine => 3,
-            LineFault::BadSchema => 4,
-            LineFault::BadShard => 5,
-            LineFault::BadDocument(_) => 6,
-            LineFault::DuplicateId => 7,
-            LineFault::FieldTotal => 8,
-            LineFault::TooManyDocuments => 9,
-            LineFault::TooManySessions => 10,
-            LineFault::LongLine => 11,
-            LineFault::TooLong => 12,
-            LineFault::TooManyCommits => 13,
-            LineFault::TooManySyncs => 14,
-        }
-    }
-
-    /// The name that the fault line shows.
-    pub(crate) fn name(self) -> &'static str
-        ensures { result.now ≡ line_fault_name (line_fault_view self) }
-    {
-        match self {
-            LineFault::NotJson => "not-json",
-            LineFault::NoSchema => "no-schema",
-            LineFault::UnknownLine => "unknown-line",
-            LineFault::BadSchema => "bad-schema",
-            LineFault::BadShard => "bad-shard",
-            LineFault::BadDocument(_) => "bad-document",
-            LineFault::DuplicateId => "duplicate-id",
-            LineFault::FieldTotal => "field-total",
-            LineFault::TooManyDocuments => "too-many-documents",
-            LineFault::TooManySessions => "too-many-sessions",
-            LineFault::LongLine => "long-line",
-            LineFault::TooLong => "too-long",
-            LineFault::TooManyCommits => "too-many-commits",
-            LineFault::TooManySyncs => "too-many-syncs",
-        }
-    }
 }
 
 impl From<LineFault> for Refusal<LineFault> {

@@ -14,7 +14,7 @@ ghost use Rattle.fc_script.specs.Counts.{IsLineOf};
 ghost use Rattle.fc_script.specs.ScriptView.{line_fault_view, said_view};
 
 use super::fault::LineFault;
-use crate::members::{has_only, member, sole_member};
+use fc_base::json::{has_only, member, sole_member};
 use fc_base::{Refusal, Schema};
 use fc_docs::{Block, read_block};
 use serde_json::{Map, Value};

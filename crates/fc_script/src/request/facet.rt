@@ -7,8 +7,7 @@ ghost use Rattle.fc_script.specs.Requests as form;
 ghost use Rattle.fc_script.specs.View.{facets_view, refused_view};
 
 use crate::fault::Fault;
-use crate::looking::{has_members, has_minus_one, has_text};
-use crate::members::is_same;
+use fc_base::json::{has_members, has_text, is_same};
 use fc_base::{FieldId, Name, Refusal, Schema};
 use serde_json::Value;
 use std::alloc::Global;
@@ -25,6 +24,13 @@ fn is_reserved(name: &str) -> bool
     ensures { result ≡ form.is_reserved name.now }
 {
     is_same(name, "count") || is_same(name, "val")
+}
+
+// Whether an object's member of this name is the whole number -1.
+fn has_minus_one(value: &Value, name: &str) -> bool
+    ensures { result ≡ form.has_minus_one name.now (view value.now) }
+{
+    value.get(name).and_then(Value::as_i64) == Some(-1)
 }
 
 // Whether it is a terms facet of all values in index order; its field is not looked at.

@@ -6,23 +6,20 @@ ghost use Rattle.fc_base.specs.Answers.{Answers};
 ghost use Rattle.fc_query.specs.FilterView.{filter_view};
 ghost use Rattle.fc_query.specs.QueryView.{query_view};
 ghost use Rattle.fc_script.specs.Requests as form;
-ghost use Rattle.fc_script.specs.Requests.{IsMeaning, Meaning};
 ghost use Rattle.fc_script.specs.View.{refused_view};
 
 use crate::fault::Fault;
 use fc_base::{Refusal, Schema};
 use fc_query::{Filter, read_filter};
-use fc_spec::query_texts_have_one_meaning;
 use serde_json::Value;
 use std::alloc::Global;
 
 // A filter, with its tags.
-fn filter_of(alloc: Global, schema: &Schema, json: &Value) -> Result<Filter, Refusal<Fault>>
-    ensures answer { (means : Meaning) → IsMeaning schema.now means → Answers filter_view refused_view result
-        (form.filter_of means (view json.now)) }
+fn filter_in(alloc: Global, schema: &Schema, json: &Value) -> Result<Filter, Refusal<Fault>>
+    ensures answer { Answers filter_view refused_view result
+        (form.filter_in schema.now (view json.now)) }
     ensures valid { IfOk result (λ filter. IsValidQuery schema.now (query_view filter.query)) }
 {
-    query_texts_have_one_meaning();
     match read_filter(alloc, schema, json) {
         Ok(filter) => Ok(filter),
         Err(Refusal::Memory) => Err(Refusal::Memory),
@@ -32,13 +29,13 @@ fn filter_of(alloc: Global, schema: &Schema, json: &Value) -> Result<Filter, Ref
 
 // Filters of a list.
 fn filters_of(alloc: Global, schema: &Schema, list: &[Value]) -> Result<Vec<Filter>, Refusal<Fault>>
-    ensures answer { (means : Meaning) → IsMeaning schema.now means → Answers (λ filters. map filter_view filters.items) refused_view result
-        (form.filters_of means (items_view list.now)) }
+    ensures answer { Answers (λ filters. map filter_view filters.items) refused_view result
+        (form.filters_of schema.now (items_view list.now)) }
     ensures valid { IfOk result (λ filters. All (λ filter. IsValidQuery schema.now (query_view filter.query)) filters.items) }
 {
     let mut filters = Vec::new(alloc);
     for json in list {
-        let filter = filter_of(alloc, schema, json)?;
+        let filter = filter_in(alloc, schema, json)?;
         filters.push(filter)?;
     }
     Ok(filters)
@@ -50,13 +47,13 @@ pub(crate) fn filters_in(
     schema: &Schema,
     json: Option<&Value>,
 ) -> Result<Vec<Filter>, Refusal<Fault>>
-    ensures answer { (means : Meaning) → IsMeaning schema.now means → Answers (λ filters. map filter_view filters.items) refused_view result
-        (form.filters_in means (option_map (λ json. view json.now) json.entry)) }
+    ensures answer { Answers (λ filters. map filter_view filters.items) refused_view result
+        (form.filters_in schema.now (option_map (λ json. view json.now) json.entry)) }
     ensures valid { IfOk result (λ filters. All (λ filter. IsValidQuery schema.now (query_view filter.query)) filters.items) }
 {
     match json {
         None => Ok(Vec::new(alloc)),
         Some(Value::Array(list)) => filters_of(alloc, schema, list),
-        Some(json) => Ok(vec![in alloc; filter_of(alloc, schema, json)?]?),
+        Some(json) => Ok(vec![in alloc; filter_in(alloc, schema, json)?]?),
     }
 }

@@ -5,13 +5,11 @@ ghost use Rattle.fc_spec.specs.ValidQueries.{IsValidQuery};
 ghost use Rattle.fc_base.specs.Answers.{Answers};
 ghost use Rattle.fc_query.specs.QueryView.{query_view};
 ghost use Rattle.fc_script.specs.Requests as form;
-ghost use Rattle.fc_script.specs.Requests.{IsMeaning, Meaning};
 ghost use Rattle.fc_script.specs.View.{refused_view};
 
 use crate::fault::Fault;
 use fc_base::{Refusal, Schema};
 use fc_query::{Query, parse};
-use fc_spec::query_texts_have_one_meaning;
 use serde_json::Value;
 use std::alloc::Global;
 
@@ -21,11 +19,10 @@ pub(crate) fn query_in(
     schema: &Schema,
     json: Option<&Value>,
 ) -> Result<Query, Refusal<Fault>>
-    ensures answer { (means : Meaning) → IsMeaning schema.now means → Answers query_view refused_view result
-        (form.query_in means (option_map (λ json. view json.now) json.entry)) }
+    ensures answer { Answers query_view refused_view result
+        (form.query_in schema.now (option_map (λ json. view json.now) json.entry)) }
     ensures valid { IfOk result (λ query. IsValidQuery schema.now (query_view query)) }
 {
-    query_texts_have_one_meaning();
     let Some(json) = json else {
         return Ok(Query::All);
     };

@@ -5,7 +5,6 @@ use Rattle.fc_spec.specs.ScriptTotals.{Limits}
 use Rattle.fc_spec.specs.Val.{Text}
 use Rattle.fc_spec.specs.Walks.{◌>>=◌}
 use Rattle.fc_base.specs.Answers.{Answers}
-use Rattle.fc_script.specs.Built.{Meanings}
 use Rattle.fc_script.specs.ReadSoFar.{ReadSoFar, at_line, schema_read, read_from, with_rest}
 use Rattle.fc_script.specs.ReadView.{reading_view}
 use Rattle.fc_script.specs.Refusals.{FirstFault}
@@ -14,17 +13,16 @@ use Rattle.fc_script.specs.View.{fault_view, limits_view}
 use Rattle.fc_script.proofs.read.read_lines.Goals as goal
 
 -- the script behind its schema
-behind : (limits : Limits) (m : Meanings) (all : List Numbered) (n : ℕ) (t : Text) (ls : List Numbered) (s : Schema) (r : ReadSoFar) → all ≡ (n, t) ∷ ls → at_line n (schema_read t) ≡ Ok s → r ≡ record { limits = limits; schema = s; lines = [] } → read_from limits m all ≡ with_rest (m r.schema) r ls
-behind limits m all n t ls s r first schema start =
-    ap (read_from limits m) first
-    ∙ ap (λ (v : Result Schema FirstFault). v >>= λ s. with_rest (m s) (record { limits = limits; schema = s; lines = [] }) ls) schema
-    ∙ ap (λ (r : ReadSoFar). with_rest (m r.schema) r ls) (sym start)
+behind : (limits : Limits) (all : List Numbered) (n : ℕ) (t : Text) (ls : List Numbered) (s : Schema) (r : ReadSoFar) → all ≡ (n, t) ∷ ls → at_line n (schema_read t) ≡ Ok s → r ≡ record { limits = limits; schema = s; lines = [] } → read_from limits all ≡ with_rest r ls
+behind limits all n t ls s r first schema start =
+    ap (read_from limits) first
+    ∙ ap (λ (v : Result Schema FirstFault). v >>= λ s. with_rest (record { limits = limits; schema = s; lines = [] }) ls) schema
+    ∙ ap (λ (r : ReadSoFar). with_rest r ls) (sym start)
 
 pub returns-clause-answer : goal.returns-clause-answer
-returns-clause-answer c = λ m are.
-    let s = c.in_ok-new.field-0.schema in
+returns-clause-answer c =
     let number = c.number.result in
     let first : lines_left c.args.lines ≡ (number, c.in-Some.text.now) ∷ lines_left c.next_said.new.lines = c.in-Some.ensures.line ∙ ap (λ n. (n, c.in-Some.text.now) ∷ lines_left c.next_said.new.lines) (sym c.number.ensures) in
     subst (Answers script_view fault_view c.read_rest.result)
-    (sym (behind (limits_view c.args.limits) m (lines_left c.args.lines) number c.in-Some.text.now (lines_left c.next_said.new.lines) c.in_ok-schema.schema (reading_view c.in_ok-new.field-0) first c.in_ok-schema.ensures.answer c.in_ok-new.ensures.view))
-    (c.read_rest.ensures.answer (m s) (are s))
+    (sym (behind (limits_view c.args.limits) (lines_left c.args.lines) number c.in-Some.text.now (lines_left c.next_said.new.lines) c.in_ok-schema.schema (reading_view c.in_ok-new.field-0) first c.in_ok-schema.ensures.answer c.in_ok-new.ensures.view))
+    c.read_rest.ensures.answer

@@ -1,13 +1,12 @@
 use Rattle.std.proofs.Common.{◌≡◌, length}
 use Rattle.fc_script.specs.ReadSoFar.{with_rest}
 use Rattle.fc_script.specs.ReadView.{reading_view, IsRead}
-use Rattle.fc_script.specs.Requests.{IsMeaning, Meaning}
 use Rattle.fc_script.specs.ScriptView.{lines_left}
 use Rattle.fc_script.proofs.read.read_rest.Given as goal
 
 abbrev pub invariant-loop-text : goal.invariant-loop-text
 invariant-loop-text l = record {
-  same : (means : Meaning) → IsMeaning (reading_view l.initial.reading).schema means → with_rest means (reading_view l.initial.reading) (lines_left l.initial.lines) ≡ with_rest means (reading_view l.reading) (lines_left l.lines);
+  same : with_rest (reading_view l.initial.reading) (lines_left l.initial.lines) ≡ with_rest (reading_view l.reading) (lines_left l.lines);
   schema : (reading_view l.reading).schema ≡ (reading_view l.initial.reading).schema;
   read : IsRead l.reading;
   limits : (reading_view l.reading).limits ≡ (reading_view l.initial.reading).limits;

@@ -6,4 +6,4 @@ use Rattle.fc_script.proofs.Outcomes.{outcome_read}
 use Rattle.fc_script.proofs.read.read_script.Goals as goal
 
 pub returns-clause-answer : goal.returns-clause-answer
-returns-clause-answer c = λ m are. subst (Answers script_view fault_view c.read_in_lines.result) (outcome_read (limits_view c.args.limits) m c.args.bytes.now) (c.read_in_lines.ensures.answer m are)
+returns-clause-answer c = subst (Answers script_view fault_view c.read_in_lines.result) (outcome_read (limits_view c.args.limits) c.args.bytes.now) (c.read_in_lines.ensures.answer)

@@ -2,4 +2,4 @@ use Rattle.std.proofs.Common.{rules}
 use Rattle.fc_script.proofs.reading.Reading.read.Goals as goal
 
 pub returns-clause-answer : goal.returns-clause-answer
-returns-clause-answer c = λ means is. search (rules, c.with_text.ensures.answer means is)
+returns-clause-answer c = search (rules, c.with_text.ensures.answer)

@@ -1,0 +1,11 @@
+-- Filters of a list, one after another.
+use Rattle.std.proofs.Common.{List, ◌++◌, Result, Ok}
+use Rattle.fc_spec.specs.Request.{Filter}
+use Rattle.fc_spec.specs.Walks.{◌>>=◌}
+use Rattle.fc_script.specs.Refusals.{Refused}
+
+-- these filters, and then those that are read
+abbrev pub behind : List Filter → Result (List Filter) Refused → Result (List Filter) Refused
+behind fs r = do
+  more ← r
+  Ok (fs ++ more)
