@@ -54,3 +54,5 @@ pub mod QueryWords
 pub mod QueryTokens
 pub mod QueryTrees
 pub mod Filters
+pub mod LongLines
+pub mod Matches

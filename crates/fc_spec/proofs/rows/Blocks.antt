@@ -111,6 +111,9 @@ id_in_an_empty_array = refl
 pub two_of_one : fault_of (member (codes "cat") two_items id_seven) too_many_values
 two_of_one = refl
 
+pub two_integers : fault_of (member (codes "n") (array (item (number (unsigned 1)) (item (number (unsigned 2)) no_items))) id_seven) too_many_values
+two_integers = refl
+
 pub list_in_a_list : fault_of (member (codes "tags") (array (item (array no_items) no_items)) id_seven) wrong_type
 list_in_a_list = refl
 
@@ -159,6 +162,10 @@ unknown_before_deep = refl
 
 pub child_without_id : fault_of (child (member (codes "cat") null no_members)) no_id
 child_without_id = refl
+
+-- null names no child, as an array without items
+pub child_with_null : block_of shelf (object (child (children null id_seven))) ≡ block_of shelf (object (child id_seven))
+child_with_null = refl
 
 -- ---- a number with a point or an exponent, `-0`, and one beyond 64 bits are floats, and no item
 pub float_for_integer : (x : Float) → value_of plong (number (float x)) ≡ Err wrong_type
