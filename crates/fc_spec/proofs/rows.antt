@@ -56,3 +56,8 @@ pub mod QueryTrees
 pub mod Filters
 pub mod LongLines
 pub mod Matches
+pub mod QueryForms
+pub mod Totals
+pub mod Schemas
+pub mod ValidQueries
+pub mod QueryTexts

@@ -1,5 +1,6 @@
 -- The limits of a line and of a script: no literal of so many bytes computes, so the rows are of all lines.
-use Rattle.std.specs.Prelude.{◌≡◌, refl, [], ◌∷◌, length, nat_le, Bool, true, false, not, ◌&&◌, ok_or, Err}
+use Rattle.std.specs.Prelude.{◌≡◌, refl, [], ◌∷◌, length, nat_le, Bool, true, false, ok_or, Err}
+use Rattle.std.proofs.Math.Bool.{and-false}
 use Rattle.fc_spec.specs.Val.{Text}
 use Rattle.fc_spec.specs.ScriptFault.{not_json, no_schema, long_line, too_long}
 use Rattle.fc_spec.specs.ScriptLines.{lines_of, is_blank, json_of}
@@ -11,13 +12,9 @@ fits_line l = nat_le (length l) 1_048_576
 abbrev fits_script : Text → Bool
 fits_script bytes = nat_le (length bytes) 67_108_864
 
-says_something : (blank : Bool) → not (blank && false) ≡ true
-says_something true = refl
-says_something false = refl
-
 -- a line past the limit, blank or not, is too long
 pub longer_line : (bytes l : Text) → lines_of bytes ≡ l ∷ [] → fits_line l ≡ false → fits_script bytes ≡ true → script bytes ≡ Err (record { line = 1; fault = long_line })
-longer_line bytes l one long fits = rw (fits, one, long, says_something (is_blank l)) (rw long refl)
+longer_line bytes l one long fits = rw (fits, one, long, and-false (is_blank l)) (rw long refl)
 
 -- a blank line of at most so many bytes is passed over
 pub blank_line : (bytes l : Text) → lines_of bytes ≡ l ∷ [] → is_blank l ≡ true → fits_line l ≡ true → fits_script bytes ≡ true → script bytes ≡ Err (record { line = 0; fault = no_schema })
