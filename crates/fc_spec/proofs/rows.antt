@@ -61,3 +61,5 @@ pub mod Totals
 pub mod Schemas
 pub mod ValidQueries
 pub mod QueryTexts
+pub mod LineForms
+pub mod DocumentLimits

@@ -3,29 +3,29 @@ use Rattle.std.specs.Prelude.{◌≡◌, refl, negsuc, pos, ℕ, List, [], ◌�
 use Rattle.std.specs.Str.{is_utf8, chars}
 use Rattle.serde_json.specs.Data.{object, number, unsigned, no_members}
 use Rattle.fc_spec.specs.Val.{Text, long}
-use Rattle.fc_spec.specs.Schema.{string, plongs}
+use Rattle.fc_spec.specs.Schema.{string}
 use Rattle.fc_spec.specs.Script.{add, commit, sync, asks}
 use Rattle.fc_spec.specs.DocFault.{no_id, wrong_type, unknown_field}
 use Rattle.fc_spec.specs.ScriptFault.{LineFault, not_json, no_schema, unknown_line, bad_schema, bad_shard, bad_document, duplicate_id, field_total, too_many_documents}
 use Rattle.fc_spec.specs.Document.{Document}
-use Rattle.fc_spec.specs.ScriptTotals.{script_limits, absolute_total}
+use Rattle.fc_spec.specs.ScriptTotals.{absolute_total}
 use Rattle.fc_spec.specs.ScriptReading.{script_of, script}
 use Rattle.fc_spec.proofs.rows.Words.{written, said}
 
 -- lines, each with its LF
-abbrev lines : List Text → Text
+abbrev pub lines : List Text → Text
 lines [] = []
 lines (l ∷ ls) = l ++ 10 ∷ lines ls
 
-abbrev has_fault : Text → ℕ → LineFault → Type 0
+abbrev pub has_fault : Text → ℕ → LineFault → Type 0
 has_fault bytes n e = script bytes ≡ Err (record { line = n; fault = e })
 
 -- one shard, and a field of integers
-abbrev one : Text
+abbrev pub one : Text
 one = codes "{\"schema\":{\"shards\":1,\"fields\":{\"n\":\"plongs\"}}}"
 
 -- two shards, and `id` alone
-abbrev two : Text
+abbrev pub two : Text
 two = codes "{\"schema\":{\"shards\":2,\"fields\":{}}}"
 
 -- ---- no line at all
@@ -77,16 +77,6 @@ pub an_empty_object : has_fault (lines (one ∷ codes "{}" ∷ [])) 2 unknown_li
 unfolding written is_utf8 chars
 an_empty_object = refl
 
--- a form feed is no blank
-pub a_form_feed : has_fault (lines (one ∷ (32 ∷ 12 ∷ []) ∷ [])) 2 not_json
-unfolding written is_utf8 chars
-a_form_feed = refl
-
--- a CR ends no line
-pub a_return_inside : has_fault (one ++ 13 ∷ codes "{\"sync\":{}}") 1 not_json
-unfolding written is_utf8 chars
-a_return_inside = refl
-
 pub two_members : has_fault (lines (one ∷ codes "{\"sync\":{},\"commit\":{}}" ∷ [])) 2 unknown_line
 unfolding written is_utf8 chars
 two_members = refl
@@ -120,18 +110,6 @@ pub search_without_request : has_fault (lines (one ∷ codes "{\"search\":{\"ses
 unfolding written is_utf8 chars
 search_without_request = refl
 
-pub search_of_another_member : has_fault (lines (one ∷ codes "{\"search\":{\"request\":{},\"limit\":1}}" ∷ [])) 2 unknown_line
-unfolding written is_utf8 chars
-search_of_another_member = refl
-
-pub sync_of_a_list : has_fault (lines (one ∷ codes "{\"sync\":[]}" ∷ [])) 2 unknown_line
-unfolding written is_utf8 chars
-sync_of_a_list = refl
-
-pub line_of_another_name : has_fault (lines (one ∷ codes "{\"Sync\":{}}" ∷ [])) 2 unknown_line
-unfolding written is_utf8 chars
-line_of_another_name = refl
-
 pub session_no_text : has_fault (lines (one ∷ codes "{\"search\":{\"request\":{},\"session\":7}}" ∷ [])) 2 unknown_line
 unfolding written is_utf8 chars
 session_no_text = refl
@@ -164,14 +142,6 @@ shard_with_a_point = refl
 pub shard_null : has_fault (lines (two ∷ codes "{\"add\":{\"doc\":{},\"shard\":null}}" ∷ [])) 2 bad_shard
 unfolding written is_utf8 chars
 shard_null = refl
-
-pub commit_of_null : has_fault (lines (two ∷ codes "{\"commit\":{\"shard\":null}}" ∷ [])) 2 bad_shard
-unfolding written is_utf8 chars
-commit_of_null = refl
-
-pub shard_before_document : has_fault (lines (two ∷ codes "{\"add\":{\"doc\":{},\"shard\":2}}" ∷ [])) 2 bad_shard
-unfolding written is_utf8 chars
-shard_before_document = refl
 
 pub bad_document_by_its_detail : has_fault (lines (one ∷ codes "{\"add\":{\"doc\":{}}}" ∷ [])) 2 (bad_document no_id)
 unfolding written is_utf8 chars
@@ -228,25 +198,7 @@ pub schema_alone : script two ≡ Ok (record { schema = record { shards = 2; fie
 unfolding written is_utf8 chars
 schema_alone = refl
 
--- ---- the greatest sum
-pub sum_at_its_limit : script (lines (one ∷ codes "{\"add\":{\"doc\":{\"id\":\"a\",\"n\":9223372036854775806,\"_childDocuments_\":[{\"id\":\"b\",\"n\":-1}]}}}" ∷ []))
-    ≡ Ok (record {
-      schema = record { shards = 1; fields = record { name = codes "id"; kind = string } ∷ record { name = codes "n"; kind = plongs } ∷ [] };
-      lines = add 0 (record { children = (said "b" ∷ (long (negsuc 0) ∷ []) ∷ []) ∷ []; parent = said "a" ∷ (long (pos 9_223_372_036_854_775_806) ∷ []) ∷ [] }) ∷ [];
-    })
-unfolding written is_utf8 chars
-sum_at_its_limit = refl
-
--- ---- the limits of every script
-pub limits_of_a_script : script_limits ≡ record { documents = 1_048_576; values = 16_777_216 }
-limits_of_a_script = refl
-
 -- ---- the limits, small ones
-pub two_documents_of_two : script_of (record { documents = 2; values = 2 }) (lines (two ∷ codes "{\"add\":{\"doc\":{\"id\":\"a\",\"_childDocuments_\":[{\"id\":\"b\"}]}}}" ∷ []))
-    ≡ Ok (record { schema = record { shards = 2; fields = record { name = codes "id"; kind = string } ∷ [] }; lines = add 0 (record { children = (said "b" ∷ []) ∷ []; parent = said "a" ∷ [] }) ∷ [] })
-unfolding written is_utf8 chars
-two_documents_of_two = refl
-
 pub third_document : script_of (record { documents = 2; values = 9 }) (lines (two ∷ codes "{\"add\":{\"doc\":{\"id\":\"a\",\"_childDocuments_\":[{\"id\":\"b\"}]}}}" ∷ codes "{\"add\":{\"doc\":{\"id\":\"c\"}}}" ∷ [])) ≡ Err (record { line = 3; fault = too_many_documents })
 unfolding written is_utf8 chars
 third_document = refl
