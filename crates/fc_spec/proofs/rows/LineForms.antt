@@ -4,7 +4,8 @@ use Rattle.std.specs.Str.{is_utf8, chars}
 use Rattle.serde_json.specs.Data.{null}
 use Rattle.fc_spec.specs.Schema.{string}
 use Rattle.fc_spec.specs.Script.{asks}
-use Rattle.fc_spec.specs.ScriptFault.{not_json, unknown_line, bad_shard}
+use Rattle.fc_spec.specs.ScriptFault.{not_json, no_schema, unknown_line, bad_shard}
+use Rattle.fc_spec.specs.ScriptLines.{lines_of}
 use Rattle.fc_spec.specs.ScriptReading.{script}
 use Rattle.fc_spec.proofs.rows.Words.{written}
 use Rattle.fc_spec.proofs.rows.Scripts.{lines, has_fault, one, two}
@@ -19,9 +20,29 @@ pub a_return_inside : has_fault (one ++ 13 ∷ codes "{\"sync\":{}}") 1 not_json
 unfolding written is_utf8 chars
 a_return_inside = refl
 
-pub line_of_another_name : has_fault (lines (one ∷ codes "{\"Sync\":{}}" ∷ [])) 2 unknown_line
+-- names are as they stand, and no other line is known
+pub other_names :
+    has_fault (lines (one ∷ codes "{\"Add\":{\"doc\":{\"id\":\"a\"}}}" ∷ [])) 2 unknown_line
+    × has_fault (lines (one ∷ codes "{\"Commit\":{}}" ∷ [])) 2 unknown_line
+    × has_fault (lines (one ∷ codes "{\"Sync\":{}}" ∷ [])) 2 unknown_line
+    × has_fault (lines (one ∷ codes "{\"Search\":{\"request\":{}}}" ∷ [])) 2 unknown_line
+    × has_fault (lines (one ∷ codes "{\"delete\":{\"id\":\"a\"}}" ∷ [])) 2 unknown_line
 unfolding written is_utf8 chars
-line_of_another_name = refl
+other_names = (refl, refl, refl, refl, refl)
+
+-- the first line that says something is an object of the one member `schema`
+pub commit_first : has_fault (lines (codes "{\"commit\":{}}" ∷ one ∷ [])) 1 no_schema
+unfolding written is_utf8 chars
+commit_first = refl
+
+-- a text of JSON with a byte that is no UTF-8
+pub byte_in_a_text : has_fault (lines (one ∷ (34 ∷ 255 ∷ 34 ∷ []) ∷ [])) 2 not_json
+unfolding written is_utf8 chars
+byte_in_a_text = refl
+
+-- an LF ends a line, and begins none
+pub ends_of_lines : (lines_of [] ≡ []) × (lines_of (codes "a\n") ≡ codes "a" ∷ []) × (lines_of (codes "\n\na") ≡ [] ∷ [] ∷ codes "a" ∷ [])
+ends_of_lines = (refl, refl, refl)
 
 pub sync_of_a_list : has_fault (lines (one ∷ codes "{\"sync\":[]}" ∷ [])) 2 unknown_line
 unfolding written is_utf8 chars
