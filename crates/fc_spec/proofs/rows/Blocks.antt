@@ -199,3 +199,6 @@ empty_key = refl
 
 pub underscore_in_front_alone : fault_of (member (codes "_x") (boolean true) id_seven) unknown_field
 underscore_in_front_alone = refl
+
+pub underscore_behind_alone : fault_of (member (codes "x_") (boolean true) id_seven) unknown_field
+underscore_behind_alone = refl
