@@ -32,6 +32,11 @@ pub values_in_order : block_of shelf (object (member (codes "cat") (array (item 
     ≡ Ok (record { children = []; parent = (text (codes "7") ∷ []) ∷ (text (codes "x") ∷ []) ∷ [] ∷ (long (negsuc 9) ∷ long (pos 9) ∷ []) ∷ [] ∷ [] })
 values_in_order = refl
 
+pub several_texts : block_of shelf (object (member (codes "id") (number (unsigned 7)) (member (codes "tags") (array (item (json_string (codes "b")) (item (json_string (codes "a")) (item (json_string (codes "b")) no_items)))) no_members)))
+    ≡ Ok (record { children = []; parent = (text (codes "7") ∷ []) ∷ [] ∷ [] ∷ [] ∷ (text (codes "a") ∷ text (codes "b") ∷ []) ∷ [] })
+unfolding digits
+several_texts = refl
+
 -- ---- children stand before their parent, and names that begin and end with `_` are passed over
 pub one_child : block_of shelf (object (children (array (item (object (children (array no_items) (member (codes "id") (json_string (codes "c")) no_members))) no_items)) (member (codes "_version_") (boolean true) (member (codes "id") (json_string (codes "p")) no_members))))
     ≡ Ok (record { children = ((text (codes "c") ∷ []) ∷ [] ∷ [] ∷ [] ∷ [] ∷ []) ∷ []; parent = (text (codes "p") ∷ []) ∷ [] ∷ [] ∷ [] ∷ [] ∷ [] })
