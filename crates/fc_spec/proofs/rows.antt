@@ -54,3 +54,12 @@ pub mod QueryWords
 pub mod QueryTokens
 pub mod QueryTrees
 pub mod Filters
+pub mod LongLines
+pub mod Matches
+pub mod QueryForms
+pub mod Totals
+pub mod Schemas
+pub mod ValidQueries
+pub mod QueryTexts
+pub mod LineForms
+pub mod DocumentLimits

@@ -32,6 +32,11 @@ pub values_in_order : block_of shelf (object (member (codes "cat") (array (item 
     ≡ Ok (record { children = []; parent = (text (codes "7") ∷ []) ∷ (text (codes "x") ∷ []) ∷ [] ∷ (long (negsuc 9) ∷ long (pos 9) ∷ []) ∷ [] ∷ [] })
 values_in_order = refl
 
+pub several_texts : block_of shelf (object (member (codes "id") (number (unsigned 7)) (member (codes "tags") (array (item (json_string (codes "b")) (item (json_string (codes "a")) (item (json_string (codes "b")) no_items)))) no_members)))
+    ≡ Ok (record { children = []; parent = (text (codes "7") ∷ []) ∷ [] ∷ [] ∷ [] ∷ (text (codes "a") ∷ text (codes "b") ∷ []) ∷ [] })
+unfolding digits
+several_texts = refl
+
 -- ---- children stand before their parent, and names that begin and end with `_` are passed over
 pub one_child : block_of shelf (object (children (array (item (object (children (array no_items) (member (codes "id") (json_string (codes "c")) no_members))) no_items)) (member (codes "_version_") (boolean true) (member (codes "id") (json_string (codes "p")) no_members))))
     ≡ Ok (record { children = ((text (codes "c") ∷ []) ∷ [] ∷ [] ∷ [] ∷ [] ∷ []) ∷ []; parent = (text (codes "p") ∷ []) ∷ [] ∷ [] ∷ [] ∷ [] ∷ [] })
@@ -111,6 +116,9 @@ id_in_an_empty_array = refl
 pub two_of_one : fault_of (member (codes "cat") two_items id_seven) too_many_values
 two_of_one = refl
 
+pub two_integers : fault_of (member (codes "n") (array (item (number (unsigned 1)) (item (number (unsigned 2)) no_items))) id_seven) too_many_values
+two_integers = refl
+
 pub list_in_a_list : fault_of (member (codes "tags") (array (item (array no_items) no_items)) id_seven) wrong_type
 list_in_a_list = refl
 
@@ -160,6 +168,10 @@ unknown_before_deep = refl
 pub child_without_id : fault_of (child (member (codes "cat") null no_members)) no_id
 child_without_id = refl
 
+-- null names no child, as an array without items
+pub child_with_null : block_of shelf (object (child (children null id_seven))) ≡ block_of shelf (object (child id_seven))
+child_with_null = refl
+
 -- ---- a number with a point or an exponent, `-0`, and one beyond 64 bits are floats, and no item
 pub float_for_integer : (x : Float) → value_of plong (number (float x)) ≡ Err wrong_type
 float_for_integer x = refl
@@ -192,3 +204,6 @@ empty_key = refl
 
 pub underscore_in_front_alone : fault_of (member (codes "_x") (boolean true) id_seven) unknown_field
 underscore_in_front_alone = refl
+
+pub underscore_behind_alone : fault_of (member (codes "x_") (boolean true) id_seven) unknown_field
+underscore_behind_alone = refl

@@ -28,9 +28,11 @@ pub texts :
     × Fails (a_text "{!tag=}cat:a") (query syntax)
     × Fails (a_text "{!tag=A,}cat:a") (query syntax)
     × Fails (a_text "{!tag=A B}cat:a") (query syntax)
+    × Fails (a_text "{!tag=A:B}cat:a") (query syntax)
+    × Fails (a_text "{!tag=é}cat:a") (query syntax)
     × Fails (a_text "{!tag=A") (query syntax)
 unfolding written tags_of local_tags text_filter member_filter object_filter filter_parts
-texts = (refl, refl, refl, refl, refl, refl, refl, refl, refl)
+texts = (refl, refl, refl, refl, refl, refl, refl, refl, refl, refl, refl)
 
 pub objects :
     Has (an_object "#A" (a_text "cat:a")) ("A" ∷ []) "cat:a"

@@ -72,9 +72,24 @@ pub ranges :
     × Cuts "[T\\O TO a:+!/]" (from_to (Some (codes "TO")) (Some (codes "a:+!/")))
     × Cuts "{* TO a]b" (value (range (record { low = None; high = Some (codes "a"); has_low = false; has_high = true })) ∷ a_word "b" ∷ [])
     × HasNone "[TO TO b]" × HasNone "[a TO ]" × HasNone "[a to b]" × HasNone "[\"a\"TO b]" × HasNone "[a* TO b]" × HasNone "[* TO *b]" × HasNone "[a T\\O b]" × HasNone "[a TO b" × HasNone "[a TO b\\]"
+    × HasNone "[a TO\"b\"]" × HasNone "[(a TO b]" × HasNone "[a TO b)]" × HasNone "[a\"b TO c]" × HasNone "[a TO {b]" × HasNone "[a[b TO c]" × HasNone "[a TO \\u]"
 unfolding cut
-ranges = (refl, refl, refl, refl, refl, refl, refl, refl, refl, refl, refl, refl, refl, refl)
+ranges = (refl, refl, refl, refl, refl, refl, refl, refl, refl, refl, refl, refl, refl, refl, refl, refl, refl, refl, refl, refl, refl)
+
+-- a word ends where a quoted value, a range or a parenthesis begins
+pub word_ends :
+    Cuts "a\"b\"c" (a_word "a" ∷ in_quotes "b" ∷ a_word "c" ∷ [])
+    × Cuts "a[b TO c]" (a_word "a" ∷ from_to (Some (codes "b")) (Some (codes "c")))
+    × Cuts "a{b TO c}" (a_word "a" ∷ value (range (record { low = Some (codes "b"); high = Some (codes "c"); has_low = false; has_high = false })) ∷ [])
+    × Cuts "a(b)c" (a_word "a" ∷ opening ∷ a_word "b" ∷ closing ∷ a_word "c" ∷ [])
+unfolding cut
+word_ends = (refl, refl, refl, refl)
 
 pub other_characters : HasNone "a]" × HasNone "a}" × HasNone "a^2" × HasNone "a~" × HasNone "a?" × HasNone "/a/"
 unfolding cut
 other_characters = (refl, refl, refl, refl, refl, refl)
+
+-- a form feed and a no-break space are no white space
+pub white_elsewhere : (tokens_of (97 ∷ 12 ∷ 98 ∷ []) ≡ Some (value (word (97 ∷ 12 ∷ 98 ∷ [])) ∷ [])) × (tokens_of (97 ∷ 194 ∷ 160 ∷ 98 ∷ []) ≡ Some (value (word (97 ∷ 194 ∷ 160 ∷ 98 ∷ [])) ∷ []))
+unfolding cut
+white_elsewhere = (refl, refl)

@@ -5,7 +5,7 @@ use Rattle.fc_spec.specs.Val.{text, long}
 use Rattle.fc_spec.specs.Schema.{Schema, string, plong}
 use Rattle.fc_spec.specs.Query.{unbounded, including, excluding, must, must_not, may, Query, all, has, is, between, group, no_clauses, clause as query_clause}
 use Rattle.fc_spec.specs.QueryFault.{QueryFault, mixed_operators, unknown_field, bad_value}
-use Rattle.fc_spec.specs.QueryTokens.{range, word, star, minus, exclamation, negation, plus, Sign, and, or, Operator}
+use Rattle.fc_spec.specs.QueryTokens.{range, word, quoted, star, minus, exclamation, negation, plus, Sign, and, or, Operator}
 use Rattle.fc_spec.specs.QueryTrees.{Atom, plain, everything, nested, Group, no_more, clause, group_tokens}
 use Rattle.fc_spec.specs.QueryMeaning.{tree_query}
 use Rattle.fc_spec.specs.QueryRow.{tokens_of}
@@ -46,15 +46,26 @@ pub single_clauses :
     × Means "n:*" (one (plain (Some (codes "n")) star)) (has 2)
     × Means "n:-5" (one (named "n" "-5")) (is 2 (long (negsuc 4)))
     × Means "-cat:a" (clause None (Some minus) (named "cat" "a") no_more) (group (query_clause must_not (says 1 "a") no_clauses))
+    × Means "+cat:a" (clause None (Some plus) (named "cat" "a") no_more) (group (query_clause must (says 1 "a") no_clauses))
+    × Means "n:\"-5\"" (one (plain (Some (codes "n")) (quoted (codes "-5")))) (is 2 (long (negsuc 4)))
 unfolding cut
-single_clauses = ((refl, refl), (refl, refl), (refl, refl), (refl, refl), (refl, refl), (refl, refl))
+single_clauses = ((refl, refl), (refl, refl), (refl, refl), (refl, refl), (refl, refl), (refl, refl), (refl, refl), (refl, refl))
 
 pub needs :
     Means "cat:a cat:b" (two (named "cat" "a") None None (named "cat" "b")) (group (query_clause may (says 1 "a") (query_clause may (says 1 "b") no_clauses)))
     × Means "cat:a && NOT cat:b" (two (named "cat" "a") (Some and) (Some negation) (named "cat" "b")) (group (query_clause must (says 1 "a") (query_clause must_not (says 1 "b") no_clauses)))
+    × Means "cat:a AND cat:b" (two (named "cat" "a") (Some and) None (named "cat" "b")) (group (query_clause must (says 1 "a") (query_clause must (says 1 "b") no_clauses)))
     × Means "cat:a OR +cat:b" (two (named "cat" "a") (Some or) (Some plus) (named "cat" "b")) (group (query_clause may (says 1 "a") (query_clause must (says 1 "b") no_clauses)))
 unfolding cut
-needs = ((refl, refl), (refl, refl), (refl, refl))
+needs = ((refl, refl), (refl, refl), (refl, refl), (refl, refl))
+
+-- an operator of an inner group is not the outer group's
+pub inner_operators :
+    Means "cat:a AND (cat:b OR cat:c)" (two (named "cat" "a") (Some and) None (nested None (two (named "cat" "b") (Some or) None (named "cat" "c"))))
+    (group (query_clause must (says 1 "a") (query_clause must (group (query_clause may (says 1 "b") (query_clause may (says 1 "c") no_clauses))) no_clauses)))
+    × Fails "((cat:a AND cat:b OR cat:c))" (one (nested None (one (nested None (clause None None (named "cat" "a") (clause (Some and) None (named "cat" "b") (clause (Some or) None (named "cat" "c") no_more))))))) mixed_operators
+unfolding cut
+inner_operators = ((refl, refl), (refl, refl))
 
 pub field_groups :
     Means "cat:(a (!b n:1))"
@@ -75,6 +86,10 @@ pub faults :
     Fails "n:a dog:b" (two (named "n" "a") None None (named "dog" "b")) unknown_field
     × Fails "n:a AND cat:b" (two (named "n" "a") (Some and) None (named "cat" "b")) bad_value
     × Fails "dog:a (n:1 AND n:2 OR n:3)" (two (named "dog" "a") None None (nested None (clause None None (named "n" "1") (clause (Some and) None (named "n" "2") (clause (Some or) None (named "n" "3") no_more))))) mixed_operators
+    × Fails "cat:a AND n:1 OR n:2" (clause None None (named "cat" "a") (clause (Some and) None (named "n" "1") (clause (Some or) None (named "n" "2") no_more))) mixed_operators
     × Fails "n:9223372036854775808" (one (named "n" "9223372036854775808")) bad_value
+    × Fails "dog:(cat:a)" (one (nested (Some (codes "dog")) (one (named "cat" "a")))) unknown_field
+    × Fails "cat:(dog:a)" (one (nested (Some (codes "cat")) (one (named "dog" "a")))) unknown_field
+    × Fails "n:\"a\"" (one (plain (Some (codes "n")) (quoted (codes "a")))) bad_value
 unfolding cut
-faults = ((refl, refl), (refl, refl), (refl, refl), (refl, refl))
+faults = ((refl, refl), (refl, refl), (refl, refl), (refl, refl), (refl, refl), (refl, refl), (refl, refl), (refl, refl))

@@ -13,19 +13,19 @@ use Rattle.fc_spec.specs.ScriptReading.{script_of, script}
 use Rattle.fc_spec.proofs.rows.Words.{written, said}
 
 -- lines, each with its LF
-abbrev lines : List Text → Text
+abbrev pub lines : List Text → Text
 lines [] = []
 lines (l ∷ ls) = l ++ 10 ∷ lines ls
 
-abbrev has_fault : Text → ℕ → LineFault → Type 0
+abbrev pub has_fault : Text → ℕ → LineFault → Type 0
 has_fault bytes n e = script bytes ≡ Err (record { line = n; fault = e })
 
 -- one shard, and a field of integers
-abbrev one : Text
+abbrev pub one : Text
 one = codes "{\"schema\":{\"shards\":1,\"fields\":{\"n\":\"plongs\"}}}"
 
 -- two shards, and `id` alone
-abbrev two : Text
+abbrev pub two : Text
 two = codes "{\"schema\":{\"shards\":2,\"fields\":{}}}"
 
 -- ---- no line at all

@@ -1,11 +1,11 @@
 -- Whole outputs of two sessions that search while a commit may be under way, and of a faulty request.
-use Rattle.std.specs.Prelude.{[], ◌∷◌, ◌++◌, None, Result, Err, refl, codes}
+use Rattle.std.specs.Prelude.{◌≡◌, [], ◌∷◌, ◌++◌, true, None, Result, Err, refl, codes}
 use Prim.Native.String.{String}
 use Rattle.fc_spec.specs.Val.{Text}
 use Rattle.fc_spec.specs.Request.{Request}
 use Rattle.fc_spec.specs.RequestFault.{wrong_field_type, RequestFault}
 use Rattle.fc_spec.specs.Script.{add, commit, sync, asks, Script}
-use Rattle.fc_spec.specs.Outputs.{IsOutput}
+use Rattle.fc_spec.specs.Outputs.{legal, IsOutput}
 use Rattle.fc_spec.proofs.rows.Words.{written, labelled}
 use Rattle.fc_spec.proofs.rows.WholeOutputs.{script_of, counting}
 
@@ -37,6 +37,20 @@ pub commit_last : IsOutput searching (early "a" ++ (early "a" ++ (early "b" ++ l
 unfolding written
 commit_last =
     (0 ∷ [], early "a" ++ (early "b" ++ late "a"), refl, refl, (0 ∷ [], early "b" ++ late "a", refl, refl, (0 ∷ [], late "a", refl, refl, (1 ∷ [], [], refl, refl, refl))))
+
+-- in each output the second line of session a has seen its first, session b's line has seen none, and the last line both of session a
+pub second_has_seen : (t : Text) (o : IsOutput searching t) → legal searching (o.0 ∷ []) 0 o.4.0 ≡ true
+second_has_seen t o = o.4.2
+
+pub other_has_seen_none : (t : Text) (o : IsOutput searching t) → legal searching [] 0 o.4.4.0 ≡ true
+other_has_seen_none t o = o.4.4.2
+
+pub last_has_seen_both : (t : Text) (o : IsOutput searching t) → legal searching (o.0 ∷ o.4.0 ∷ []) 1 o.4.4.4.0 ≡ true
+last_has_seen_both t o = o.4.4.4.2
+
+-- and nothing follows the last line
+pub nothing_behind : (t : Text) (o : IsOutput searching t) → o.4.4.4.1 ≡ []
+nothing_behind t o = o.4.4.4.4
 
 -- a faulty request gives its line, pins nothing, and the run goes on
 abbrev pub faulty : Script (Result Request RequestFault)

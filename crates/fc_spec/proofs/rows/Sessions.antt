@@ -4,6 +4,8 @@ use Rattle.fc_spec.specs.Schema.{string, Schema}
 use Rattle.fc_spec.specs.Script.{add, commit, sync, asks, Script, commits_up_to, commits_before, world}
 use Rattle.fc_spec.specs.Phases.{searches, phases}
 use Rattle.fc_spec.specs.Outputs.{shown_to, legal}
+use Rattle.fc_spec.specs.ScriptTotals.{sessions}
+use Rattle.fc_spec.specs.ScriptParts.{parts_of}
 use Rattle.fc_spec.proofs.rows.Words.{labelled}
 
 abbrev pub one_shard : Schema
@@ -94,3 +96,11 @@ world_before = refl
 
 pub world_after : world script (1 ∷ []) ≡ (labelled "1" "a" ∷ []) ∷ []
 world_after = refl
+
+-- each session once, in the order of their first searches
+pub sessions_in_order : sessions {A = ℕ} (asks (codes "b") 1 ∷ asks (codes "a") 2 ∷ asks (codes "b") 3 ∷ asks (codes "c") 4 ∷ asks (codes "a") 5 ∷ []) ≡ codes "b" ∷ codes "a" ∷ codes "c" ∷ []
+sessions_in_order = refl
+
+-- what a run takes
+pub parts : parts_of script ≡ record { schema = one_shard; sessions = codes "a" ∷ codes "b" ∷ []; batches = ((labelled "1" "a" ∷ []) ∷ []) ∷ []; phases = phases script }
+parts = refl

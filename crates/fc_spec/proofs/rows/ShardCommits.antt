@@ -3,6 +3,7 @@ use Rattle.std.specs.Prelude.{◌≡◌, ℕ, [], ◌∷◌, true, false, Some, 
 use Rattle.fc_spec.specs.Schema.{string}
 use Rattle.fc_spec.specs.Script.{add, commit, sync, asks, Script, commits_up_to, commits_before, batch_of, stream, generation, world}
 use Rattle.fc_spec.specs.Outputs.{legal}
+use Rattle.fc_spec.specs.ScriptParts.{batches}
 use Rattle.fc_spec.proofs.rows.Words.{labelled}
 
 -- the second commit is of every shard; shard 1 gets a block behind its last commit, and shard 0 a commit that adds nothing
@@ -76,3 +77,7 @@ one_too_late = refl
 -- each shard's number is held against its own earlier one
 pub one_goes_back : legal script ((1 ∷ 1 ∷ []) ∷ []) 1 (2 ∷ 0 ∷ []) ≡ false
 one_goes_back = refl
+
+-- the batches of each shard
+pub batches_of_both : batches script ≡ ((labelled "1" "a" ∷ []) ∷ (labelled "3" "c" ∷ labelled "4" "d" ∷ []) ∷ [] ∷ []) ∷ ((labelled "2" "b" ∷ []) ∷ []) ∷ []
+batches_of_both = refl
