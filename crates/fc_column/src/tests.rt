@@ -1,4 +1,4 @@
-// Columns against plain loops.
+// Columns against words of bits and lists that were written by hand.
 ghost use Rattle.std.specs.Prelude.{◌<ℤ◌, IfOk};
 ghost use Rattle.fc_spec.specs.Columns.{IsText};
 ghost use Rattle.fc_base.specs.View.{val_view};
@@ -6,7 +6,6 @@ ghost use Rattle.fc_base.specs.View.{val_view};
 use super::*;
 use fc_base::{Name, Val, WantMemory};
 use std::alloc::Global;
-use std::process::Abort;
 use std::test::Fail;
 
 fn text(alloc: Global, text: &str) -> Result<Val, WantMemory>
@@ -28,30 +27,19 @@ fn push_longs(builder: &mut LongBuilder, low: i64, high: i64) -> Result<(), Want
     builder.push_doc(&[Val::Long(low), Val::Long(high)])
 }
 
-// Compares the bits of three words with a plain list of positions.
-fn check(rt: &impl Abort, words: &[u64; 3], expected: &[u32]) {
-    for at in 0..192 {
-        let bit = words[(at / 64) as usize] >> (at % 64) & 1 == 1;
-        assert_eq!(rt; bit, expected.contains(&at), "bit {at}");
-    }
-}
+// A text, how many terms stand below it, and how many up to it.
+const TERMS: [(&str, u32, u32); 7] = [
+    ("", 0, 0),
+    ("a", 0, 1),
+    ("aa", 1, 1),
+    ("b", 1, 2),
+    ("c", 2, 3),
+    ("cc", 3, 3),
+    ("\u{e9}", 3, 3),
+];
 
 #[test]
-fn counts_terms(rt: HostRuntime) -> Result<(), Fail> {
-    let alloc = rt.alloc();
-    let mut builder = TextBuilder::new(alloc)?;
-    builder.push_doc(&[text(alloc, "b")?])?;
-    builder.push_doc(&[text(alloc, "a")?])?;
-    let column = builder.finish()?;
-    assert_eq!(rt; column.len(), 2);
-    assert_eq!(rt; column.terms(), 2);
-    assert_eq!(rt; column.ordinals_of(0), [1].as_slice());
-    assert_eq!(rt; column.term(0).text(), "a");
-    Ok(())
-}
-
-#[test]
-fn positions_have_several_texts(rt: HostRuntime) -> Result<(), Fail> {
+fn texts_are_found(rt: HostRuntime) -> Result<(), Fail> {
     let alloc = rt.alloc();
     let mut builder = TextBuilder::new(alloc)?;
     builder.push_doc(&[text(alloc, "b")?])?;
@@ -59,28 +47,13 @@ fn positions_have_several_texts(rt: HostRuntime) -> Result<(), Fail> {
     builder.push_doc(&[])?;
     let column = builder.finish()?;
     assert_eq!(rt; column.len(), 3);
-    assert_eq!(rt; column.ordinals_of(0), [1].as_slice());
-    assert_eq!(rt; column.ordinals_of(1), [0, 2].as_slice());
-    assert_eq!(rt; column.ordinals_of(2), [].as_slice());
-    Ok(())
-}
-
-#[test]
-fn finds_terms(rt: HostRuntime) -> Result<(), Fail> {
-    let alloc = rt.alloc();
-    let mut builder = TextBuilder::new(alloc)?;
-    for term in ["f", "b", "d", "b"] {
-        builder.push_doc(&[text(alloc, term)?])?;
+    for (at, ordinals) in [[1].as_slice(), &[0, 2], &[]].iter().enumerate() {
+        assert_eq!(rt; column.ordinals_of(at as u32), *ordinals, "at {at}");
     }
-    let column = builder.finish()?;
-    for (text, ordinal, from, past) in [
-        ("", None, 0, 0),
-        ("b", Some(0), 0, 1),
-        ("bb", None, 1, 1),
-        ("d", Some(1), 1, 2),
-        ("f", Some(2), 2, 3),
-        ("\u{e9}", None, 3, 3),
-    ] {
+    assert_eq!(rt; column.terms(), 3);
+    assert_eq!(rt; column.term(1).text(), "b");
+    for (text, from, past) in TERMS {
+        let ordinal = if from < past { Some(from) } else { None };
         let text = text.as_bytes();
         assert_eq!(rt; column.ordinal_of(text), ordinal, "at {text:?}");
         assert_eq!(rt; column.first_from(text), from, "at {text:?}");
@@ -89,103 +62,102 @@ fn finds_terms(rt: HostRuntime) -> Result<(), Fail> {
     Ok(())
 }
 
+// The texts a, b, c and none, again and again, over so many positions.
+fn texts(alloc: Global, len: u32) -> Result<TextColumn, WantMemory> {
+    let mut builder = TextBuilder::new(alloc)?;
+    for at in 0..len {
+        match at % 4 {
+            0 => builder.push_doc(&[text(alloc, "a")?])?,
+            1 => builder.push_doc(&[text(alloc, "b")?])?,
+            2 => builder.push_doc(&[text(alloc, "c")?])?,
+            _ => builder.push_doc(&[])?,
+        }
+    }
+    builder.finish()
+}
+
+// A length, two ordinals, and the bits of the positions between them.
+const TEXTS_BETWEEN: [(u32, u32, u32, [u64; 3]); 9] = [
+    (0, 0, 3, [0; 3]),
+    (1, 0, 3, [1, 0, 0]),
+    (63, 1, 3, [0x6666_6666_6666_6666, 0, 0]),
+    (64, 0, 1, [0x1111_1111_1111_1111, 0, 0]),
+    (65, 0, 1, [0x1111_1111_1111_1111, 1, 0]),
+    (65, 1, 3, [0x6666_6666_6666_6666, 0, 0]),
+    (129, 0, 1, [0x1111_1111_1111_1111, 0x1111_1111_1111_1111, 1]),
+    (129, 0, 3, [0x7777_7777_7777_7777, 0x7777_7777_7777_7777, 1]),
+    (129, 2, 2, [0; 3]),
+];
+
 #[test]
-fn finds_integers(rt: HostRuntime) -> Result<(), Fail> {
-    let alloc = rt.alloc();
-    let mut builder = LongBuilder::new(alloc)?;
+fn texts_stand_between(rt: HostRuntime) -> Result<(), Fail> {
+    for (len, low, high, expected) in TEXTS_BETWEEN {
+        let column = texts(rt.alloc(), len)?;
+        assert_eq!(rt; column.len(), len);
+        assert!(rt; len <= 192);
+        let mut words = [u64::MAX; 3];
+        column.between(low, high, &mut words);
+        assert_eq!(rt; words, expected, "at {len}, {low} and {high}");
+    }
+    Ok(())
+}
+
+// Two integers, and the bits of the positions with one between them.
+const LONGS_BETWEEN: [(i64, i64, u64); 7] = [
+    (6, 9, 0b00001),
+    (7, 5, 0),
+    (i64::MIN, i64::MIN, 0b00100),
+    (i64::MAX, i64::MAX, 0b01000),
+    (i64::MIN + 1, i64::MAX - 1, 0b11001),
+    (i64::MIN, i64::MAX, 0b11101),
+    (i64::MAX, i64::MIN, 0),
+];
+
+#[test]
+fn integers_are_found(rt: HostRuntime) -> Result<(), Fail> {
+    let mut builder = LongBuilder::new(rt.alloc())?;
     push_longs(&mut builder, 5, 7)?;
     builder.push_doc(&[])?;
     builder.push_doc(&[Val::Long(i64::MIN)])?;
     push_longs(&mut builder, 0, i64::MAX)?;
-    builder.push_doc(&[Val::Long(-3), Val::Long(-2), Val::Long(-1)])?;
+    push_longs(&mut builder, -3, -1)?;
     let column = builder.finish()?;
     assert_eq!(rt; column.len(), 5);
-    assert_eq!(rt; column.values_of(4), [-3, -2, -1].as_slice());
     assert_eq!(rt; column.values_of(0), [5, 7].as_slice());
     assert_eq!(rt; column.values_of(1), [].as_slice());
-    let rows: [(i64, i64, &[u32]); 7] = [
-        (6, 9, &[0]),
-        (7, 5, &[]),
-        (i64::MIN, i64::MIN, &[2]),
-        (i64::MAX, i64::MAX, &[3]),
-        (i64::MIN + 1, i64::MAX - 1, &[0, 3, 4]),
-        (i64::MIN, i64::MAX, &[0, 2, 3, 4]),
-        (i64::MAX, i64::MIN, &[]),
-    ];
-    for (lo, hi, expected) in rows {
-        let mut words = [u64::MAX; 3];
-        column.between(lo, hi, &mut words);
-        check(&rt, &words, expected);
+    for (low, high, expected) in LONGS_BETWEEN {
+        let mut words = [u64::MAX];
+        column.between(low, high, &mut words);
+        assert_eq!(rt; words, [expected], "at {low} and {high}");
     }
     Ok(())
 }
 
-// The positions below the length that pass the test.
-fn passing<F: Fn(u32) -> bool>(alloc: Global, len: u32, test: F) -> Result<Vec<u32>, WantMemory>
-    requires { F.IsAlwaysCallable test }
-{
-    Ok((0..len).filter(|at| test(*at)).collect(alloc)?)
-}
+// A length, two integers, and the bits of the positions between them.
+const PLACES_BETWEEN: [(u32, i64, i64, [u64; 3]); 7] = [
+    (0, 0, 128, [0; 3]),
+    (1, 0, 128, [1, 0, 0]),
+    (63, 62, 128, [0x4000_0000_0000_0000, 0, 0]),
+    (64, 62, 128, [0xc000_0000_0000_0000, 0, 0]),
+    (65, 62, 128, [0xc000_0000_0000_0000, 1, 0]),
+    (129, 62, 128, [0xc000_0000_0000_0000, u64::MAX, 1]),
+    (129, 10, 70, [0xffff_ffff_ffff_fc00, 0x7f, 0]),
+];
 
+// Each position has its own number as its integer.
 #[test]
-fn integers_agree_with_plain_loops(rt: HostRuntime) -> Result<(), Fail> {
-    let alloc = rt.alloc();
-    for len in [0, 1, 63, 64, 65, 129] {
-        let mut builder = LongBuilder::new(alloc)?;
+fn integers_stand_between(rt: HostRuntime) -> Result<(), Fail> {
+    for (len, low, high, expected) in PLACES_BETWEEN {
+        let mut builder = LongBuilder::new(rt.alloc())?;
         for at in 0..len {
-            match at % 3 {
-                0 => builder.push_doc(&[])?,
-                1 => builder.push_doc(&[Val::Long(i64::from(at))])?,
-                _ => push_longs(&mut builder, -1, i64::from(at))?,
-            }
+            builder.push_doc(&[Val::Long(i64::from(at))])?;
         }
         let column = builder.finish()?;
-        assert!(rt; column.len() <= 192);
         assert_eq!(rt; column.len(), len);
+        assert!(rt; len <= 192);
         let mut words = [u64::MAX; 3];
-        column.between(10, 70, &mut words);
-        check(
-            &rt,
-            &words,
-            &passing(alloc, len, |at| at % 3 != 0 && at >= 10 && at <= 70)?,
-        );
-        column.between(-1, 1, &mut words);
-        check(
-            &rt,
-            &words,
-            &passing(alloc, len, |at| at == 1 || at % 3 == 2)?,
-        );
-    }
-    Ok(())
-}
-
-#[test]
-fn texts_agree_with_plain_loops(rt: HostRuntime) -> Result<(), Fail> {
-    let alloc = rt.alloc();
-    for len in [0, 1, 63, 64, 65, 129] {
-        let mut builder = TextBuilder::new(alloc)?;
-        for at in 0..len {
-            match at % 4 {
-                0 => builder.push_doc(&[text(alloc, "a")?])?,
-                1 => builder.push_doc(&[text(alloc, "b")?])?,
-                2 => builder.push_doc(&[text(alloc, "c")?])?,
-                _ => builder.push_doc(&[])?,
-            }
-        }
-        let column = builder.finish()?;
-        assert!(rt; column.len() <= 192);
-        assert_eq!(rt; column.len(), len);
-        let mut words = [u64::MAX; 3];
-        column.between(1, 3, &mut words);
-        check(
-            &rt,
-            &words,
-            &passing(alloc, len, |at| at % 4 == 1 || at % 4 == 2)?,
-        );
-        column.between(0, 1, &mut words);
-        check(&rt, &words, &passing(alloc, len, |at| at % 4 == 0)?);
-        column.between(2, 2, &mut words);
-        check(&rt, &words, &[]);
+        column.between(low, high, &mut words);
+        assert_eq!(rt; words, expected, "at {len}, {low} and {high}");
     }
     Ok(())
 }

@@ -12,104 +12,98 @@ pub use set::DocSet;
 #[cfg(test)]
 mod tests {
     use super::*;
-    use std::alloc::{AllocError, Global};
     use std::process::Abort;
     use std::test::Fail;
 
-    // Compares what each reading call says of a set with a plain list of its positions.
-    fn check(rt: &impl Abort, set: &DocSet, expected: &[u32]) {
-        assert_eq!(rt; set.count() as usize, expected.len());
-        let mut positions = set.iter();
-        for at in expected {
-            assert_eq!(rt; positions.next(), Some(*at));
-        }
-        assert_eq!(rt; positions.next(), None);
+    // Compares what each reading call says of a set with its words.
+    fn check(rt: &impl Abort, set: &DocSet, words: &[u64]) {
+        assert_eq!(rt; set.words(), words);
+        let (mut positions, mut count) = (set.iter(), 0u32);
         for at in 0..set.len() {
-            assert_eq!(rt; set.contains(at), expected.contains(&at), "at {at}");
-        }
-        let mut at = 0u32;
-        for word in set.words() {
-            for j in 0..64u32 {
-                assert_eq!(rt; word >> j & 1 == 1, expected.contains(&at), "bit {at}");
-                at = at.wrapping_add(1);
+            if set.contains(at) {
+                assert_eq!(rt; positions.next(), Some(at));
+                count = count.wrapping_add(1);
             }
         }
-        assert_eq!(rt; at, set.len().div_ceil(64).wrapping_mul(64));
+        assert_eq!(rt; positions.next(), None);
+        assert_eq!(rt; set.count(), count);
     }
 
     #[test]
     fn makes_sets(rt: HostRuntime) -> Result<(), Fail> {
         let alloc = rt.alloc();
-        check(&rt, &DocSet::empty(alloc, 3)?, &[]);
-        check(&rt, &DocSet::full(alloc, 3)?, &[0, 1, 2]);
-        let set = DocSet::from_mask(alloc, 3, &[13])?;
-        check(&rt, &set, &[0, 2]);
-        check(&rt, &set.copy(alloc)?, &[0, 2]);
-        let mut set = set;
-        set.fill();
-        check(&rt, &set, &[0, 1, 2]);
-        assert_eq!(rt; set.len(), 3);
-        set.set_mask(&[26]);
-        check(&rt, &set, &[1]);
+        let mut set = DocSet::empty(alloc, 3)?;
+        check(&rt, &set, &[0]);
+        set.add(1);
+        check(&rt, &set, &[0b010]);
+        set.set_mask(&[13]);
+        check(&rt, &set.copy(alloc)?, &[0b101]);
+        assert!(rt; set.contains(2));
         set.clear();
-        check(&rt, &set, &[]);
+        check(&rt, &set, &[0]);
         Ok(())
     }
 
-    // The positions below the length that pass the test.
-    fn passing<F: Fn(u32) -> bool>(alloc: Global, len: u32, test: F) -> Result<Vec<u32>, AllocError>
-        requires { F.IsAlwaysCallable test }
-    {
-        (0..len).filter(|at| test(*at)).collect(alloc)
-    }
+    const EVEN: [u64; 3] = [0x5555_5555_5555_5555; 3];
 
-    // The multiples of 3 below the length.
-    fn thirds(rt: &impl Abort, alloc: Global, len: u32) -> Result<DocSet, Fail> {
-        let mut set = DocSet::empty(alloc, len)?;
-        for at in 0..len {
-            if at % 3 == 0 {
-                assert!(rt; at < set.len());
-                set.add(at);
-            }
-        }
-        Ok(set)
-    }
+    const THIRDS: [u64; 3] = [
+        0x9249_2492_4924_9249,
+        0x4924_9249_2492_4924,
+        0x2492_4924_9249_2492,
+    ];
+
+    // Each length with the words of all its positions, of the multiples of 6, of those of 2 or 3, and
+    // of the odd ones of 3.
+    const ROWS: [(u32, &[u64], &[u64], &[u64], &[u64]); 6] = [
+        (0, &[], &[], &[], &[]),
+        (1, &[1], &[1], &[1], &[0]),
+        (
+            63,
+            &[0x7fff_ffff_ffff_ffff],
+            &[0x1041_0410_4104_1041],
+            &[0x575d_75d7_5d75_d75d],
+            &[0x0208_2082_0820_8208],
+        ),
+        (
+            64,
+            &[u64::MAX],
+            &[0x1041_0410_4104_1041],
+            &[0xd75d_75d7_5d75_d75d],
+            &[0x8208_2082_0820_8208],
+        ),
+        (
+            65,
+            &[u64::MAX, 1],
+            &[0x1041_0410_4104_1041, 0],
+            &[0xd75d_75d7_5d75_d75d, 1],
+            &[0x8208_2082_0820_8208, 0],
+        ),
+        (
+            129,
+            &[u64::MAX, u64::MAX, 1],
+            &[0x1041_0410_4104_1041, 0x4104_1041_0410_4104, 0],
+            &[0xd75d_75d7_5d75_d75d, 0x5d75_d75d_75d7_5d75, 1],
+            &[0x8208_2082_0820_8208, 0x0820_8208_2082_0820, 0],
+        ),
+    ];
 
     #[test]
-    fn agrees_with_plain_lists(rt: HostRuntime) -> Result<(), Fail> {
+    fn combines_sets(rt: HostRuntime) -> Result<(), Fail> {
         let alloc = rt.alloc();
-        for len in [0, 1, 63, 64, 65, 129] {
+        for (len, all, both, either, odd) in ROWS {
             assert!(rt; len <= 192);
-            check(&rt, &DocSet::empty(alloc, len)?, &[]);
-            check(
-                &rt,
-                &DocSet::full(alloc, len)?,
-                &passing(alloc, len, |_| true)?,
-            );
-            let even = DocSet::from_mask(alloc, len, &[0x5555_5555_5555_5555; 3])?;
-            check(
-                &rt,
-                &even.copy(alloc)?,
-                &passing(alloc, len, |at| at % 2 == 0)?,
-            );
-            check(&rt, &even, &passing(alloc, len, |at| at % 2 == 0)?);
-            let mut set = thirds(&rt, alloc, len)?;
-            check(&rt, &set, &passing(alloc, len, |at| at % 3 == 0)?);
-
-            assert_eq!(rt; set.len(), even.len());
-            set.and_with(&even);
-            check(&rt, &set, &passing(alloc, len, |at| at % 6 == 0)?);
-            let mut set = thirds(&rt, alloc, len)?;
-            assert_eq!(rt; set.len(), even.len());
+            let even = DocSet::from_mask(alloc, len, &EVEN)?;
+            let mut set = DocSet::from_mask(alloc, len, &THIRDS)?;
             set.or_with(&even);
-            check(
-                &rt,
-                &set,
-                &passing(alloc, len, |at| at % 3 == 0 || at % 2 == 0)?,
-            );
-            assert_eq!(rt; set.len(), even.len());
+            check(&rt, &set, either);
             set.without(&even);
-            check(&rt, &set, &passing(alloc, len, |at| at % 6 == 3)?);
+            check(&rt, &set, odd);
+            set.fill();
+            check(&rt, &set, all);
+            set.set_mask(&THIRDS);
+            set.and_with(&even);
+            check(&rt, &set, both);
+            assert_eq!(rt; DocSet::full(alloc, len)?.words(), all);
         }
         Ok(())
     }
