@@ -6,4 +6,3 @@ pub mod OrFault
 pub mod SchemaMembers
 pub mod SpelledIntegers
 pub mod Searching
-pub mod Texts

@@ -11,6 +11,7 @@ use Rattle.std.specs.Ordering.{is_eq, match_ordering}
 use Rattle.std.specs.declared.cmp.Ordering.{Ordering}
 use Rattle.std.specs.declared.cmp.Ordering.TheVariants.{Less, Equal, Greater}
 use Rattle.fc_spec.specs.Val.{Text, text_cmp, same_text}
+use Rattle.fc_spec.proofs.Members.{or_swap}
 use Rattle.fc_column.specs.Terms.{has_text}
 use Rattle.fc_column.specs.Numbering.{has_number, text_numbered, IsNumbering}
 
@@ -70,11 +71,6 @@ entry_inserted (entry ∷ entries) t n absent =
     record { front = split.0; back = split.1; was = split.2; is = split.3 }
 
 -- ---- an entry among others
-or_swap : (a b c : Bool) → (a || (b || c)) ≡ (b || (a || c))
-or_swap true true c = refl
-or_swap true false c = refl
-or_swap false b c = refl
-
 any_inserted : {X : Type 0} (p : X → Bool) (front back : List X) (x : X) → list_any p (front ++ x ∷ back) ≡ (p x || list_any p (front ++ back))
 any_inserted p [] back x = refl
 any_inserted p (y ∷ front) back x = ap (λ b. p y || b) (any_inserted p front back x) ∙ or_swap (p y) (p x) (list_any p (front ++ back))

@@ -12,6 +12,7 @@ use Rattle.std.specs.declared.cmp.Ordering.{Ordering}
 use Rattle.std.specs.declared.cmp.Ordering.TheVariants.{Less, Equal, Greater}
 use Rattle.fc_spec.specs.Val.{Text, text_cmp}
 use Rattle.fc_spec.specs.Columns.{IsAscending}
+use Rattle.fc_spec.proofs.Orderings.{Less-from_is_lt}
 
 -- ---- how many pass a test that the front passes and the rest fails
 pub count_at_point : {X : Type 0} (p : X → Bool) (xs : List X) (i : ℕ) → i ≤ length xs
@@ -26,11 +27,6 @@ count_at_point p (x ∷ xs) (suc i) within front rest =
     sum_by-cons (λ y. cond (p y) 1 0) x xs ∙ ap (λ b. cond b 1 0 + count_by p xs) (front 0 x (omega arith)) ∙ omega (arith, more)
 
 -- ---- answers of a comparison
-Less-from_is_lt : (o : Ordering) → is_lt o ≡ true → o ≡ Less
-Less-from_is_lt Less e = refl
-Less-from_is_lt Equal e = cc
-Less-from_is_lt Greater e = cc
-
 cases_is_le : (o : Ordering) → is_le o ≡ true → (o ≡ Less) ⊎ (o ≡ Equal)
 cases_is_le Less e = inl refl
 cases_is_le Equal e = inr refl

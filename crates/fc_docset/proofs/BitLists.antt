@@ -71,7 +71,7 @@ first_bits-add len at old new bits is below added =
         ∙ sym (get_or-set_other bits at k true false other)
 
 -- ---- two sets joined position by position
-length-zip_with : (join : Bool → Bool → Bool) (bits others : List Bool) → length bits ≡ length others → length (zip_with join bits others) ≡ length bits
+pub length-zip_with : (join : Bool → Bool → Bool) (bits others : List Bool) → length bits ≡ length others → length (zip_with join bits others) ≡ length bits
 length-zip_with join [] others size = refl
 length-zip_with join (bit ∷ bits) [] size = cc
 length-zip_with join (bit ∷ bits) (other ∷ others) size = let rest = length-zip_with join bits others (omega arith) in omega arith

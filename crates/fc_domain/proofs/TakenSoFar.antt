@@ -1,17 +1,13 @@
 -- Clauses that are taken one after another, at every document.
 use Rattle.std.proofs.Common.{◌≡◌, Bool, true, false, cond, List, [], ◌∷◌, map, length, refl, sym, ap, ap₂, ◌∙◌, arith}
 use Rattle.fc_docset.specs.Positions.{zip_with}
+use Rattle.fc_docset.proofs.BitLists.{length-zip_with}
 use Rattle.fc_spec.specs.Document.{Document}
 use Rattle.fc_spec.specs.Matching.{matches, answers, same_need}
 use Rattle.fc_spec.specs.Query.{Need, Query, Clauses, no_clauses, clause}
 use Rattle.fc_domain.specs.Grouping.{taken, all_taken}
 
 -- ---- sets joined position by position
-pub length-zip_with : (join : Bool → Bool → Bool) (bits others : List Bool) → length bits ≡ length others → length (zip_with join bits others) ≡ length bits
-length-zip_with join [] others size = refl
-length-zip_with join (bit ∷ bits) [] size = cc
-length-zip_with join (bit ∷ bits) (other ∷ others) size = let rest = length-zip_with join bits others (omega arith) in omega arith
-
 zip_with-map : (join : Bool → Bool → Bool) (f g : Document → Bool) (ds : List Document) → zip_with join (map f ds) (map g ds) ≡ map (λ d. join (f d) (g d)) ds
 zip_with-map join f g [] = refl
 zip_with-map join f g (d ∷ ds) = ap (λ l. join (f d) (g d) ∷ l) (zip_with-map join f g ds)

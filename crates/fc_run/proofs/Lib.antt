@@ -5,7 +5,6 @@ pub mod FieldTexts
 pub mod LookedInto
 pub mod Meanings
 pub mod NewIds
-pub mod DistinctValues
 pub mod GoodBlocks
 pub mod IndexPremises
 pub mod IndexOrder

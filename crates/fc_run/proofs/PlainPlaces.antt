@@ -41,7 +41,3 @@ documents_at-filter t (p ∷ X) = go (t p.document) (documents_at-filter t X)
         → documents_at (cond b (p ∷ filter (λ p. t p.document) X) (filter (λ p. t p.document) X)) ≡ cond b (p.document ∷ filter t (documents_at X)) (filter t (documents_at X))
     go true ih = ap (λ ds. p.document ∷ ds) ih
     go false ih = ih
-
-pub filter_true : {X : Type 0} (xs : List X) → filter (λ x. true) xs ≡ xs
-filter_true [] = refl
-filter_true (x ∷ xs) = ap (λ ys. x ∷ ys) (filter_true xs)

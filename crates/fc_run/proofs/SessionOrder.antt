@@ -6,7 +6,7 @@ use Rattle.std.specs.declared.cmp.Ordering.{Ordering}
 use Rattle.std.specs.declared.cmp.Ordering.TheVariants.{Less, Equal, Greater}
 use Rattle.std.specs.Cmp.Lexicographic.{nat_list_cmp_total}
 use Rattle.std.proofs.lemmas.List.Elements.{filter-append}
-use Rattle.fc_base.proofs.Texts.{equal}
+use Rattle.fc_spec.proofs.Texts.{equal}
 use Rattle.fc_spec.specs.Val.{Text, same_text, text_cmp}
 use Rattle.fc_spec.specs.ScriptTotals.{first_ones}
 use Rattle.fc_run.specs.Sessions.{with_session}

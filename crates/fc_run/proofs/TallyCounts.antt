@@ -14,7 +14,9 @@ use Rattle.fc_spec.specs.Val as definition
 use Rattle.fc_spec.specs.Val.{val_cmp, same_val, has_val, distinct}
 use Rattle.fc_spec.specs.Document.{Document, values_of}
 use Rattle.fc_spec.specs.Totals.{documents_of, documents_in}
-use Rattle.fc_spec.proofs.ValOrder.{val_cmp_total, exact_val, same_val_exact}
+use Rattle.fc_spec.specs.ValOrder.{val_cmp_total}
+use Rattle.fc_spec.proofs.Ascending.{has_val-distinct, distinct_ascends}
+use Rattle.fc_spec.proofs.ValOrder.{exact_val, same_val_exact}
 use Rattle.fc_docs.specs.declared.block.Block.{Block}
 use Rattle.fc_docs.specs.View.{block_view}
 use Rattle.fc_run.specs.PlainReply.{values_at, documents_with, value_counts, AreDifferent, HaveDifferentValues}
@@ -22,7 +24,6 @@ use Rattle.fc_run.specs.declared.search.term.Term.{Term}
 use Rattle.fc_run.specs.Term.{term_view}
 use Rattle.fc_run.specs.Tally.{Tally, tally_view, key_cmp, with_more, Counts, HasRoom}
 use Rattle.fc_run.proofs.SameEntries.{same_entries}
-use Rattle.fc_run.proofs.DistinctValues.{has_val-distinct, distinct_ascends}
 
 -- a test that no member passes counts none, and one that some member passes counts one at least
 pub list_any-false : {X : Type 0} (p : X → Bool) (xs : List X) → list_any p xs ≡ false → count_by p xs ≡ 0

@@ -12,8 +12,8 @@ use Rattle.fc_spec.specs.Val.{val_cmp, same_val}
 use Rattle.fc_run.specs.declared.search.term.Term.{Term}
 use Rattle.fc_run.specs.Term.{term_view}
 use Rattle.fc_run.specs.Tally.{Tally, number_at, with_more, key_cmp, Counts, HasRoom}
-use Rattle.fc_spec.proofs.ValOrder.{same_val_itself, same_val_exact}
-use Rattle.fc_run.proofs.IndexOrder.{term_of, term_view-term_of, same_val_equiv}
+use Rattle.fc_spec.proofs.ValOrder.{same_val_itself, same_val_exact, same_val_equiv}
+use Rattle.fc_run.proofs.IndexOrder.{term_of, term_view-term_of}
 
 -- a value stands n times in its n copies, and no other value does
 pub count_by-copies : (v w : definition.Val) (n : ℕ) → count_by (same_val v) (replicate n w) ≡ cond (same_val v w) n 0

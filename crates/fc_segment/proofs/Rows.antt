@@ -9,21 +9,12 @@ use Rattle.fc_spec.specs.Totals.{documents_of, documents_in}
 use Rattle.fc_spec.specs.Columns.{texts_in, longs_in, column_of}
 use Rattle.fc_spec.specs.Schema.{FieldType, string, strings, plong, plongs, Field, Schema}
 use Rattle.fc_spec.specs.ValidBlocks.{holds_texts, is_value_of, AreValuesOf, IsDocumentOf, IsBlockOf}
+use Rattle.fc_spec.proofs.BlockTotals.{valid_documents_of, valid_documents}
 use Rattle.fc_docs.specs.declared.block.Block.{Block as Code}
 use Rattle.fc_docs.specs.View.{block_view}
 use Rattle.fc_segment.specs.Building.{is_text, IsRow}
 
--- ---- the documents of valid blocks are valid
-valid_documents_of : (s : Schema) (b : Block) → IsBlockOf s b → All (IsDocumentOf s) (documents_of b)
-valid_documents_of s b valid = All-push (IsDocumentOf s) b.children b.parent valid.children valid.parent
-
-valid_documents : (s : Schema) (blocks : List Block) → All (IsBlockOf s) blocks → All (IsDocumentOf s) (documents_in blocks)
-valid_documents s [] valid = All-nil (IsDocumentOf s)
-valid_documents s (b ∷ blocks) valid =
-    All-append (IsDocumentOf s) (documents_of b) (documents_in blocks)
-    (valid_documents_of s b (All-head (IsBlockOf s) b blocks valid))
-    (valid_documents s blocks (All-tail (IsBlockOf s) b blocks valid))
-
+-- ---- the documents of valid blocks
 pub length-valid_documents : (s : Schema) (blocks : List Block) → All (IsBlockOf s) blocks → All (λ d. length d ≡ length s.fields) (documents_in blocks)
 length-valid_documents s blocks valid = All-weaker (IsDocumentOf s) (λ d. length d ≡ length s.fields) (λ d is. is.lists) (documents_in blocks) (valid_documents s blocks valid)
 
