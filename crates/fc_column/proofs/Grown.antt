@@ -1,15 +1,17 @@
 -- A builder after texts of one more position.
-use Rattle.std.proofs.Common.{◌≡◌, ℕ, suc, Bool, true, false, ◌||◌, List, [], ◌∷◌, ◌++◌, length, get_or, map, All, refl, sym, ap, ap₂, ◌∙◌, subst, arith}
-use Rattle.std.proofs.Math.Bool.{or_assoc, or-false}
+use Rattle.std.proofs.Common.{◌≡◌, ℕ, suc, Bool, true, false, true≢false, ◌||◌, List, [], ◌∷◌, ◌++◌, length, get_or, map, All, refl, sym, ap, ap₂, ◌∙◌, subst, arith}
+use Rattle.std.proofs.Math.Bool.{or-false}
 use Rattle.std.proofs.lemmas.List.{map-append}
+use Rattle.std.proofs.lemmas.List.Elements.{All-push}
 use Rattle.std.proofs.lemmas.List.Folds.{list_any-append}
 use Rattle.std.specs.List.{list_any}
 use Rattle.fc_spec.specs.Val.{Text, same_text, text_cmp}
 use Rattle.fc_spec.specs.Columns.{IsAscending}
 use Rattle.fc_column.specs.Terms.{has_text}
 use Rattle.fc_column.specs.Numbering.{has_number, text_numbered, IsNumbering}
+use Rattle.fc_column.specs.TextBuilder.{IsSound}
+use Rattle.fc_column.specs.declared.builder.TextBuilder.TheInside.{Inside}
 use Rattle.fc_column.proofs.Numberings.{Entries, texts_of}
-use Rattle.fc_column.proofs.Ascents.{All-push}
 
 -- the entries got the texts of the next position, which has these numbers
 pub record Grown (old new : Entries) (next : List ℕ) (texts : List Text) : Type 0 where
@@ -88,3 +90,19 @@ pub still_ascending : (old new : Entries) (rows : List (List ℕ)) → All (All 
     → ((n : ℕ) → has_number n old ≡ true → text_numbered new n ≡ text_numbered old n)
     → All (IsAscending text_cmp) (map (map (text_numbered old)) rows) → All (IsAscending text_cmp) (map (map (text_numbered new)) rows)
 still_ascending old new rows numbered same ascending = subst (All (IsAscending text_cmp)) (sym (same_rows old new rows numbered same)) ascending
+
+-- ---- with a position that is left half made
+pub left_half : (was now : Inside) → IsSound was → IsNumbering now.numbers.entries
+    → ((n : ℕ) → has_number n was.numbers.entries ≡ true → has_number n now.numbers.entries ≡ true)
+    → ((n : ℕ) → has_number n was.numbers.entries ≡ true → text_numbered now.numbers.entries n ≡ text_numbered was.numbers.entries n)
+    → now.rows.rows ≡ was.rows.rows → now.spent ≡ true → IsSound now
+left_half was now kept numbering others same rows spent =
+    let old = was.numbers.entries in
+    let new = now.numbers.entries in
+    record {
+      numbering = numbering;
+      numbered = subst (All (All (λ n. has_number n new ≡ true))) (sym rows) (still_numbered old new was.rows.rows kept.numbered others);
+      ascending = subst (λ l. All (IsAscending text_cmp) (map (map (text_numbered new)) l)) (sym rows) (still_ascending old new was.rows.rows kept.numbered same kept.ascending);
+      used = λ whole. absurd (true≢false (sym spent ∙ whole));
+      whole = λ whole. absurd (true≢false (sym spent ∙ whole));
+    }

@@ -1,7 +1,8 @@
 // Queries on segments of small batches.
 ghost use Rattle.std.specs.Prelude.{◌≡◌, ◌≤◌, ◌*◌, length, map, All, IfOk};
 ghost use Rattle.fc_spec.specs.Totals.{document_total};
-ghost use Rattle.fc_spec.specs.ValidBlocks.{IsBlockOf, holds_texts};
+ghost use Rattle.fc_spec.specs.Schema.{texts_held};
+ghost use Rattle.fc_spec.specs.ValidBlocks.{IsBlockOf};
 ghost use Rattle.fc_docs.specs.View.{batch_view};
 
 use super::*;
@@ -41,7 +42,7 @@ fn segment_of(
 ) -> Result<Segment, Fail>
     requires { length blocks.now ≤ 129 }
     ensures { IfOk result (λ segment.
-        segment.texts ≡ map (λ f. holds_texts f.kind) schema.now.fields) }
+        segment.texts ≡ texts_held schema.now.fields) }
 {
     let batch = batch_of(rt, alloc, schema, blocks)?;
     Ok(Segment::build(alloc, schema, &batch)?)
@@ -49,7 +50,7 @@ fn segment_of(
 
 // The positions that match a query.
 fn matching(alloc: Global, schema: &Schema, segment: &Segment, text: &str) -> Result<DocSet, Fail>
-    requires { segment.now.texts ≡ map (λ f. holds_texts f.kind) schema.now.fields }
+    requires { segment.now.texts ≡ texts_held schema.now.fields }
 {
     let query = parse(alloc, schema, text)?;
     let mut set = DocSet::empty(alloc, segment.doc_count())?;

@@ -1,7 +1,7 @@
 -- The documents of one block more: what is counted then.
-use Rattle.std.proofs.Common.{◌≡◌, ℕ, ◌+◌, List, [], ◌∷◌, ◌++◌, length, get_or, Bool, true, false, not, ◌||◌, ◌&&◌, Some, None, is_some, Ok, Err, refl, sym, ◌∙◌, ap, append-nil}
-use Rattle.std.specs.Prelude.{nat_le, nat_abs}
-use Rattle.std.specs.List.{flat_map, list_all, list_any, range_with_len, sum_by}
+use Rattle.std.proofs.Common.{◌≡◌, ℕ, ◌+◌, List, [], ◌∷◌, ◌++◌, length, get_or, Bool, true, false, not, ◌||◌, ◌&&◌, Some, None, is_some, Ok, Err, refl, sym, ◌∙◌, ap}
+use Rattle.std.specs.Prelude.{nat_le}
+use Rattle.std.specs.List.{flat_map, list_all, list_any, range_with_len}
 use Rattle.std.proofs.lemmas.Bool.{or_parts}
 use Rattle.std.proofs.lemmas.List.Concat.{flat_map-append}
 use Rattle.std.proofs.lemmas.List.Folds.{list_any-append}

@@ -2,8 +2,7 @@
 use Rattle.std.proofs.Common.{◌≡◌, ℕ, suc, ◌+◌, ◌<◌, List, ◌∷◌, length, drop, drop-cons, Bool, true, false, ◌&&◌, Option, None, Some, option_map, slice_get, add-one, refl, sym, ◌∙◌, ap}
 use Rattle.std.specs.List.{list_all}
 use Rattle.std.proofs.lemmas.Option.{get_or_from_slice_get}
-use Rattle.fc_spec.specs.Schema.{FieldType, Field}
-use Rattle.fc_spec.specs.ValidBlocks.{holds_texts}
+use Rattle.fc_spec.specs.Schema.{FieldType, holds_texts, Field}
 
 abbrev all_texts : List Field → Bool
 all_texts fs = list_all (λ f. holds_texts f.kind) fs

@@ -11,7 +11,7 @@ use Rattle.fc_spec.specs.Base.{meets_base}
 use Rattle.fc_spec.specs.Document.{Document, Block, values_of}
 use Rattle.fc_spec.specs.Lists.{joined}
 use Rattle.fc_spec.specs.Request.{Request}
-use Rattle.fc_spec.specs.Totals.{documents_of, documents_in, document_total}
+use Rattle.fc_spec.specs.Totals.{documents_in, document_total}
 use Rattle.fc_spec.proofs.BlockTotals.{documents_in-append, document_total-append}
 use Rattle.fc_segment.specs.Segmented.{Segmented}
 use Rattle.fc_run.specs.Fitting.{AreDifferentIn}

@@ -7,7 +7,6 @@ use Rattle.std.specs.declared.cmp.Ordering.TheVariants.{Less}
 use Rattle.std.proofs.lemmas.Bool.{cases_lt}
 use Rattle.std.proofs.lemmas.List.{get_or_past}
 use Rattle.std.proofs.lemmas.List.Elements.{All-weaker}
-use Rattle.std.proofs.lemmas.List.Sums.{sum_by-cons}
 use Rattle.std.proofs.lemmas.Option.{slice_get-get_or}
 use Rattle.fc_spec.specs.Val.{Val, val_cmp, same_val, has_val}
 use Rattle.fc_spec.specs.Document.{Document, Block, values_of}
@@ -16,6 +15,7 @@ use Rattle.fc_spec.specs.Totals.{documents_in}
 use Rattle.fc_spec.specs.ValidBlocks.{IsBlockOf, IsDocumentOf}
 use Rattle.fc_spec.proofs.Ascending.{IsUnder, not_among}
 use Rattle.fc_spec.proofs.BlockTotals.{valid_documents}
+use Rattle.fc_spec.proofs.Counting.{count_by-cons}
 use Rattle.fc_spec.proofs.ValOrder.{same_val_exact}
 use Rattle.fc_run.specs.Fitting.{AreDifferentIn}
 use Rattle.fc_run.specs.PlainReply.{AreDifferent}
@@ -40,7 +40,7 @@ different_ascending [] a v = omega arith
 different_ascending (w ∷ ws) a v = go (same_val v w) refl (different_ascending ws a.1 v)
   where
     cons : count_by (same_val v) (w ∷ ws) ≡ cond (same_val v w) 1 0 + count_by (same_val v) ws
-    cons = sum_by-cons (λ y. cond (same_val v y) 1 0) w ws
+    cons = count_by-cons (same_val v) w ws
 
     go : (b : Bool) → same_val v w ≡ b → count_by (same_val v) ws ≤ 1 → count_by (same_val v) (w ∷ ws) ≤ 1
     go true e ih =

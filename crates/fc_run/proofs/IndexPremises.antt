@@ -1,17 +1,17 @@
 -- What a search asks of an index, and what a commit asks of it.
-use Rattle.std.proofs.Common.{◌≡◌, ◌+◌, ◌<◌, ◌≤◌, List, [], ◌∷◌, ◌++◌, length, All, Option, None, Some, IfSome, sym, ap, subst, arith, length-append}
+use Rattle.std.proofs.Common.{◌≡◌, ◌+◌, ◌<◌, ◌≤◌, List, [], ◌∷◌, ◌++◌, length, All, Option, None, Some, IfSome, sym, ap, subst, arith}
 use Rattle.std.proofs.lemmas.List.{length-map}
 use Rattle.std.proofs.lemmas.List.Elements.{All-cons, All-nil, All-head, All-tail, All-weaker}
 use Rattle.fc_spec.specs.Document.{Block}
-use Rattle.fc_spec.specs.Schema.{Schema}
+use Rattle.fc_spec.specs.Schema.{Schema, holds_texts, texts_held}
 use Rattle.fc_spec.specs.Lists.{joined}
-use Rattle.fc_spec.specs.Totals.{documents_of, documents_in, document_total}
-use Rattle.fc_spec.specs.ValidBlocks.{holds_texts, IsBlockOf}
+use Rattle.fc_spec.specs.Totals.{document_total}
+use Rattle.fc_spec.specs.ValidBlocks.{IsBlockOf}
 use Rattle.fc_spec.specs.ValidQueries.{IsValidQuery}
 use Rattle.fc_spec.proofs.BlockTotals.{document_total-append}
 use Rattle.fc_query.specs.QueryView.{query_view}
 use Rattle.fc_domain.specs.FieldsFit.{FitsFields}
-use Rattle.fc_domain.proofs.SchemaFits.{fields_fit, texts_held}
+use Rattle.fc_domain.proofs.SchemaFits.{fields_fit}
 use Rattle.fc_run.specs.Fitting.{AreDifferentIn, Fits, IsValidRequest}
 use Rattle.fc_run.specs.Running.{blocks_in, shard_view, HasKinds, IsIndexOf}
 use Rattle.fc_run.specs.declared.request.Facet.{Facet}

@@ -7,7 +7,6 @@ pub mod Meanings
 pub mod NewIds
 pub mod GoodBlocks
 pub mod IndexPremises
-pub mod IndexOrder
 pub mod NoFloats
 pub mod PlainKeys
 pub mod PlainPlaces

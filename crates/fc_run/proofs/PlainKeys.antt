@@ -1,6 +1,6 @@
 -- The keys that a terms facet without a limit prints in index order: the different values of its field, each once.
-use Rattle.std.specs.Prelude.{◌≡◌, ℕ, suc, List, [], ◌∷◌, ◌++◌, length, map, Bool, true, false, cond, not, ◌||◌, nat_le, None, AllPairs}
-use Rattle.std.specs.List.{filter, list_any, AllByRecursion}
+use Rattle.std.specs.Prelude.{◌≡◌, ℕ, suc, List, [], ◌∷◌, ◌++◌, length, map, true, not, ◌||◌, nat_le, None, AllPairs}
+use Rattle.std.specs.List.{list_any, AllByRecursion}
 use Rattle.std.specs.List.Sorted.{IsStrictlySortedBy}
 use Rattle.std.specs.Ordering.{is_lt, ordering_then}
 use Rattle.std.specs.declared.cmp.Ordering.TheVariants.{Less}
@@ -16,32 +16,18 @@ use Rattle.fc_spec.specs.Val.{Val, val_cmp, same_val, has_val, distinct}
 use Rattle.fc_spec.specs.Document.{values_of}
 use Rattle.fc_spec.specs.Lists.{is_empty}
 use Rattle.fc_spec.specs.World.{Place}
-use Rattle.fc_spec.specs.Request.{by_index, Terms, terms}
+use Rattle.fc_spec.specs.Request.{terms}
 use Rattle.fc_spec.specs.Buckets.{value, in_bucket}
 use Rattle.fc_spec.specs.Statistics.{pair_values, stats_over}
 use Rattle.fc_spec.specs.Ranks.{Entry, is_ahead, page}
 use Rattle.fc_spec.specs.Values.{value_places, values_in, entries_in}
 use Rattle.fc_spec.specs.Printed.{terms_keys}
 use Rattle.fc_spec.specs.SortingLaw.{IsSortOf, PagesAreCuts}
+use Rattle.fc_run.specs.Requests.{every_value}
 use Rattle.fc_spec.proofs.Ascending.{has_val-distinct, distinct_ascends}
 use Rattle.fc_spec.proofs.FoundValues.{not-is_empty-filter}
 use Rattle.fc_spec.proofs.Members.{filter_every}
 use Rattle.fc_spec.proofs.ValOrder.{same_val_equiv}
-
--- the facet over every value of the field
-abbrev pub every_value : ℕ → Terms
-every_value field = record {
-  field = field;
-  offset = 0;
-  limit = None;
-  sort = record { by = by_index; descending = false };
-  mincount = 1;
-  missing = false;
-  prefix = None;
-  refine = false;
-  overrequest = 0;
-  overrefine = 0;
-}
 
 -- the entry of a value in some places
 abbrev entry_in : ℕ → List Place → Val → Entry

@@ -20,10 +20,11 @@ use Rattle.fc_spec.specs.Printed.{terms_keys}
 use Rattle.fc_spec.specs.SortingLaw.{PagesAreCuts}
 use Rattle.fc_spec.specs.WithoutLimits.{IsExactWithoutLimits}
 use Rattle.fc_spec.proofs.Counting.{filter-all}
-use Rattle.fc_run.specs.Requests.{one_facet}
+use Rattle.fc_spec.proofs.PlacedDocuments.{documents_at, documents_at-places}
+use Rattle.fc_run.specs.Requests.{every_value, one_facet}
 use Rattle.fc_run.specs.PlainReply.{built_request, root_documents, documents_with, value_counts, counted_row, counted_reply, IsPlainOnOneShard}
-use Rattle.fc_run.proofs.PlainPlaces.{documents_at, documents_at-places, flat_map-documents_at, documents_at-filter}
-use Rattle.fc_run.proofs.PlainKeys.{every_value, terms_keys_are}
+use Rattle.fc_run.proofs.PlainPlaces.{flat_map-documents_at, documents_at-filter}
+use Rattle.fc_run.proofs.PlainKeys.{terms_keys_are}
 
 -- the number of places of a value is that of the documents that have it
 length-value_places : (field : ℕ) (v : Val) (Q : List Place) → length (value_places (every_value field) v Q) ≡ documents_with field (documents_at Q) v

@@ -27,11 +27,11 @@ use Rattle.fc_run.proofs.PickedValues.{picked_found, flat_map-positions, flat_ma
 
 -- ---- terms ascend
 insert_text : (t : Text) (vs : List Val) → All IsText vs → All IsText (insert_val (text t) vs)
-insert_text t [] all = All-cons IsText (text t) [] tt all
+insert_text t [] all = All-cons IsText (text t) [] refl all
 insert_text t (v ∷ vs) all = go (val_cmp (text t) v) (insert_text t vs (All-tail IsText v vs all))
   where
     go : (o : Ordering) → All IsText (insert_val (text t) vs) → All IsText (match_ordering o (text t ∷ v ∷ vs) (v ∷ vs) (v ∷ insert_val (text t) vs))
-    go Less behind = All-cons IsText (text t) (v ∷ vs) tt all
+    go Less behind = All-cons IsText (text t) (v ∷ vs) refl all
     go Equal behind = all
     go Greater behind = All-cons IsText v (insert_val (text t) vs) (All-head IsText v vs all) behind
 

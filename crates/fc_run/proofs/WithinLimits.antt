@@ -1,6 +1,6 @@
 -- A script that was read is within its limits.
-use Rattle.std.proofs.Common.{◌≡◌, ◌+◌, List, length, Bool, true, refl, ◌∙◌, ap, arith}
-use Rattle.std.specs.Prelude.{nat_le, ◌&&◌, count_by}
+use Rattle.std.proofs.Common.{◌≡◌, ◌+◌, List, length, true, refl, ◌∙◌, ap, arith}
+use Rattle.std.specs.Prelude.{nat_le, count_by}
 use Rattle.std.specs.List.{filter_map}
 use Rattle.std.proofs.lemmas.Bool.{and_from}
 use Rattle.std.proofs.lemmas.Bool.Decides.{nat_tests}

@@ -11,7 +11,7 @@ use Rattle.fc_spec.specs.Query.{Query, all}
 use Rattle.fc_spec.specs.QueryFault.{QueryFault}
 use Rattle.fc_spec.specs.QueryTexts.{IsReadingOf}
 use Rattle.fc_spec.specs.FilterReading.{filter_parts}
-use Rattle.fc_spec.specs.Request.{Kind, terms, stay, by_index, Nodes, no_nodes, facet, Filter, Request}
+use Rattle.fc_spec.specs.Request.{Terms, terms, stay, by_index, Nodes, no_nodes, facet, Filter, Request}
 use Rattle.fc_spec.specs.Walks.{◌>>=◌, unless, with_fault}
 use Rattle.fc_run.specs.Refusals.{Refused, not_built}
 
@@ -28,8 +28,8 @@ IsMeaning s means = (t : Text) → IsReadingOf s t (means t)
 -- ---- the facet
 
 -- every value of the field, in index order
-abbrev pub whole_terms : ℕ → Kind
-whole_terms field = terms (record {
+abbrev pub every_value : ℕ → Terms
+every_value field = record {
   field = field;
   offset = 0;
   limit = None;
@@ -40,11 +40,11 @@ whole_terms field = terms (record {
   refine = false;
   overrequest = 0;
   overrefine = 0;
-})
+}
 
 -- a facet of this name alone
 abbrev pub one_facet : Text → ℕ → Nodes
-one_facet name field = facet (record { name = name; change = record { exclude = []; block = stay; filters = [] }; kind = whole_terms field }) no_nodes no_nodes
+one_facet name field = facet (record { name = name; change = record { exclude = []; block = stay; filters = [] }; kind = terms (every_value field) }) no_nodes no_nodes
 
 -- the name is taken by what each bucket has
 abbrev pub is_reserved : Text → Bool

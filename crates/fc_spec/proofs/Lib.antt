@@ -4,6 +4,8 @@ pub mod AllShards
 pub mod Orderings
 pub mod Texts
 pub mod BlockTotals
+pub mod ValueKinds
+pub mod PlacedDocuments
 pub mod ValOrder
 pub mod Ascending
 pub mod FoundValues

@@ -2,6 +2,7 @@
 use Rattle.std.proofs.Common.{◌≡◌, ℕ, zero, suc, ◌+◌, ◌<◌, List, [], ◌∷◌, ◌++◌, map, length, Bool, true, false, cond, not, ◌||◌, ◌&&◌, ◌==◌, Option, None, Some, refl, sym, ◌∙◌, ap, append-nil, subst, inl, inr, arith}
 use Rattle.std.specs.List.{filter, list_all, slice_get}
 use Rattle.std.proofs.lemmas.Bool.{false≢true, or_cases, eqb-true, eq-eqb, ne_eqb}
+use Rattle.std.proofs.lemmas.List.Elements.{filter-append}
 use Rattle.std.proofs.lemmas.List.{map-append}
 use Rattle.fc_spec.specs.Document.{Document, Block}
 use Rattle.fc_spec.specs.Lists.{is_empty}
@@ -24,14 +25,6 @@ use Rattle.fc_spec.proofs.Locality.{filter-filter, filter_twice, moved_local}
 use Rattle.fc_spec.proofs.Renumbered.{Numbers, renumbered, filter_renumbered}
 use Rattle.fc_spec.proofs.AlikePlaces.{length_renumbered, bucket_renumbered, stats_renumbered, entries_renumbered}
 use Rattle.fc_spec.proofs.HeldAnswers.{part}
-
-filter-append : {X : Type 0} (p : X → Bool) (xs ys : List X) → filter p (xs ++ ys) ≡ filter p xs ++ filter p ys
-filter-append p [] ys = refl
-filter-append p (x ∷ xs) ys = go (p x) (filter-append p xs ys)
-  where
-    go : (b : Bool) → filter p (xs ++ ys) ≡ filter p xs ++ filter p ys → cond b (x ∷ filter p (xs ++ ys)) (filter p (xs ++ ys)) ≡ cond b (x ∷ filter p xs) (filter p xs) ++ filter p ys
-    go true e = ap (λ zs. x ∷ zs) e
-    go false e = e
 
 -- all places of a block are on its shard, and none on another
 block_here : (i s b p : ℕ) (ds : List Document) (d : Document) → i ≡ s → on_shards (i ∷ []) (block_places s b p ds d) ≡ block_places s b p ds d

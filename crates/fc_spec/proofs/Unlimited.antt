@@ -1,6 +1,6 @@
 -- A terms facet without a limit: every shard offers all that it has, and every value is chosen.
 use Rattle.std.proofs.Common.{◌≡◌, ℕ, ◌+◌, List, [], ◌∷◌, map, length, Bool, true, false, cond, ◌||◌, ◌==◌, None, refl, sym, ◌∙◌, ap, ◌⊎◌, inl, inr}
-use Rattle.std.specs.List.{filter, list_any, flat_map, enumerate_from}
+use Rattle.std.specs.List.{list_any, flat_map, enumerate_from}
 use Rattle.std.proofs.lemmas.Bool.{eqb-true, eq-eqb, false≢true}
 use Rattle.fc_spec.specs.Val.{Val, has_val, same_val, distinct}
 use Rattle.fc_spec.specs.World.{World, Place, on_shards}

@@ -1,10 +1,8 @@
 -- Index order tells all values apart.
 use Rattle.std.specs.Prelude.{◌≡◌, true}
 use Rattle.std.specs.Cmp.{Equal-is, IsEquivalence, eq_by_cmp_equiv}
-use Rattle.std.specs.Ordering.{is_eq}
 use Rattle.std.specs.declared.cmp.Ordering.TheVariants.{Equal}
 use Rattle.std.proofs.Common.{ap}
-use Rattle.std.proofs.lemmas.Cmp.{tied_itself}
 use Rattle.std.proofs.lemmas.Map.Lookups.{exact_bytes, exact_signed}
 use Rattle.fc_spec.specs.Val.{Val, text, long, val_cmp, same_val}
 use Rattle.fc_spec.specs.ValOrder.{val_cmp_total}
@@ -16,13 +14,13 @@ exact_val (long a) (text t) h = cc
 exact_val (text s) (long b) h = cc
 exact_val (text s) (text t) h = ap text (exact_bytes s t h)
 
+pub same_val_equiv : IsEquivalence same_val
+same_val_equiv = eq_by_cmp_equiv val_cmp_total
+
 -- a value is the same as itself
 pub same_val_itself : (v : Val) → same_val v v ≡ true
-same_val_itself v = ap is_eq (tied_itself val_cmp_total v)
+same_val_itself v = same_val_equiv.refl v
 
 -- values that the test holds the same are the same
 pub same_val_exact : (v w : Val) → same_val v w ≡ true → v ≡ w
 same_val_exact v w h = exact_val v w ((Equal-is (val_cmp v w)).0 h)
-
-pub same_val_equiv : IsEquivalence same_val
-same_val_equiv = eq_by_cmp_equiv val_cmp_total

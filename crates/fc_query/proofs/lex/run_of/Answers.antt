@@ -1,4 +1,4 @@
-use Rattle.std.proofs.Common.{◌≡◌, ◌∙◌, ◌++◌, ◌&&◌, [], List, Bool, sym, ap, refl, true, false, append-nil, string_bytes}
+use Rattle.std.proofs.Common.{◌≡◌, ◌∙◌, ◌++◌, ◌&&◌, [], List, Bool, sym, ap, true, false, append-nil, string_bytes}
 use Rattle.std.proofs.Math.Bool.{and-true}
 use Rattle.std.specs.Char.{encode_utf8}
 use Rattle.std.specs.List.{list_all, take_while}
