@@ -7,4 +7,3 @@ pub mod OrFault
 pub mod SchemaMembers
 pub mod SpelledIntegers
 pub mod Searching
-pub mod Texts

@@ -1,7 +1,6 @@
 -- No two fields of a schema have one name.
 use Rattle.std.proofs.Common.{◌≡◌, ℕ, suc, zero, ◌<◌, List, [], ◌∷◌, get_or, true, Some, map, position, slice_get, arith, sym, ◌∙◌, ap, inl, inr}
 use Rattle.std.specs.Prelude.{codes}
-use Rattle.std.specs.Ordering.{is_eq}
 use Rattle.std.specs.declared.cmp.Ordering.TheVariants.{Less, Equal}
 use Rattle.std.specs.Cmp.Lexicographic.{nat_list_cmp_total}
 use Rattle.std.specs.List.Sorted.{IsStrictlySortedBy}
@@ -13,11 +12,8 @@ use Rattle.std.proofs.lemmas.Map.Keys.{Less-from_sorted, any_passes_from_place}
 use Rattle.std.proofs.lemmas.Option.{get_or_from_slice_get, slice_get_within, slice_get-get_or}
 use Rattle.fc_spec.specs.Val.{Text, text_cmp, same_text}
 use Rattle.fc_spec.specs.Schema.{Field}
+use Rattle.fc_spec.proofs.Texts.{same_itself, equal}
 use Rattle.fc_base.specs.ValidSchema.{id_field, IsFieldList}
-use Rattle.fc_base.proofs.Texts.{equal}
-
-pub same_itself : (t : Text) → same_text t t ≡ true
-same_itself t = ap is_eq (tied_itself nat_list_cmp_total t)
 
 -- of fields that ascend by their names no two have one
 two_ascend : (fields : List Field) (i j : ℕ) (f g : Field) → IsStrictlySortedBy text_cmp (map (λ h. h.name) fields) → slice_get fields i ≡ Some f → slice_get fields j ≡ Some g → i < j → text_cmp f.name g.name ≡ Less

@@ -1,14 +1,17 @@
 -- A builder after texts of one more position.
-use Rattle.std.proofs.Common.{◌≡◌, ℕ, suc, Bool, true, false, ◌||◌, List, [], ◌∷◌, ◌++◌, length, get_or, map, All, refl, sym, ap, ap₂, ◌∙◌, subst, arith}
+use Rattle.std.proofs.Common.{◌≡◌, ℕ, suc, Bool, true, false, true≢false, ◌||◌, List, [], ◌∷◌, ◌++◌, length, get_or, map, All, refl, sym, ap, ap₂, ◌∙◌, subst, arith}
+use Rattle.std.proofs.Math.Bool.{or-false}
 use Rattle.std.proofs.lemmas.List.{map-append}
+use Rattle.std.proofs.lemmas.List.Elements.{All-push}
 use Rattle.std.proofs.lemmas.List.Folds.{list_any-append}
 use Rattle.std.specs.List.{list_any}
 use Rattle.fc_spec.specs.Val.{Text, same_text, text_cmp}
 use Rattle.fc_spec.specs.Columns.{IsAscending}
 use Rattle.fc_column.specs.Terms.{has_text}
 use Rattle.fc_column.specs.Numbering.{has_number, text_numbered, IsNumbering}
+use Rattle.fc_column.specs.TextBuilder.{IsSound}
+use Rattle.fc_column.specs.declared.builder.TextBuilder.TheInside.{Inside}
 use Rattle.fc_column.proofs.Numberings.{Entries, texts_of}
-use Rattle.fc_column.proofs.Ascents.{All-push}
 
 -- the entries got the texts of the next position, which has these numbers
 pub record Grown (old new : Entries) (next : List ℕ) (texts : List Text) : Type 0 where
@@ -19,10 +22,6 @@ pub record Grown (old new : Entries) (next : List ℕ) (texts : List Text) : Typ
   pub made : map (text_numbered new) next ≡ texts
   pub used : (t : Text) → has_text t (texts_of new) ≡ (has_text t (texts_of old) || has_text t texts)
 
-or_false : (a : Bool) → a ≡ (a || false)
-or_false true = refl
-or_false false = refl
-
 or_last : (a b c : Bool) → (a || (b || c)) ≡ (b || (c || (a || false)))
 or_last true true c = refl
 or_last true false true = refl
@@ -30,10 +29,6 @@ or_last true false false = refl
 or_last false true c = refl
 or_last false false true = refl
 or_last false false false = refl
-
-or_assoc : (a b c : Bool) → ((a || b) || c) ≡ (a || (b || c))
-or_assoc true b c = refl
-or_assoc false b c = refl
 
 -- no number, no text
 pub grown_none : (old : Entries) (next : List ℕ) → IsNumbering old → next ≡ [] → Grown old old next []
@@ -43,7 +38,7 @@ grown_none old next numbering none = record {
   other_texts = λ n has. refl;
   numbered = λ k d inside. absurd (omega (arith, ap length none));
   made = ap (map (text_numbered old)) none;
-  used = λ t. or_false (has_text t (texts_of old));
+  used = λ t. sym (or-false (has_text t (texts_of old)));
 }
 
 -- numbers that stay have the texts that they had
@@ -89,9 +84,25 @@ rows_more old new rows next texts numbered grown =
 pub used_more : (old new : Entries) (next : List ℕ) (texts : List Text) (column : List (List Text)) → Grown old new next texts
     → ((t : Text) → has_text t (texts_of old) ≡ list_any (has_text t) column) → (t : Text) → has_text t (texts_of new) ≡ list_any (has_text t) (column ++ texts ∷ [])
 used_more old new next texts column grown used t =
-    grown.used t ∙ ap₂ (λ a b. a || b) (used t) (or_false (has_text t texts)) ∙ sym (list_any-append (has_text t) column (texts ∷ []))
+    grown.used t ∙ ap₂ (λ a b. a || b) (used t) (sym (or-false (has_text t texts))) ∙ sym (list_any-append (has_text t) column (texts ∷ []))
 
 pub still_ascending : (old new : Entries) (rows : List (List ℕ)) → All (All (λ n. has_number n old ≡ true)) rows
     → ((n : ℕ) → has_number n old ≡ true → text_numbered new n ≡ text_numbered old n)
     → All (IsAscending text_cmp) (map (map (text_numbered old)) rows) → All (IsAscending text_cmp) (map (map (text_numbered new)) rows)
 still_ascending old new rows numbered same ascending = subst (All (IsAscending text_cmp)) (sym (same_rows old new rows numbered same)) ascending
+
+-- ---- with a position that is left half made
+pub left_half : (was now : Inside) → IsSound was → IsNumbering now.numbers.entries
+    → ((n : ℕ) → has_number n was.numbers.entries ≡ true → has_number n now.numbers.entries ≡ true)
+    → ((n : ℕ) → has_number n was.numbers.entries ≡ true → text_numbered now.numbers.entries n ≡ text_numbered was.numbers.entries n)
+    → now.rows.rows ≡ was.rows.rows → now.spent ≡ true → IsSound now
+left_half was now kept numbering others same rows spent =
+    let old = was.numbers.entries in
+    let new = now.numbers.entries in
+    record {
+      numbering = numbering;
+      numbered = subst (All (All (λ n. has_number n new ≡ true))) (sym rows) (still_numbered old new was.rows.rows kept.numbered others);
+      ascending = subst (λ l. All (IsAscending text_cmp) (map (map (text_numbered new)) l)) (sym rows) (still_ascending old new was.rows.rows kept.numbered same kept.ascending);
+      used = λ whole. absurd (true≢false (sym spent ∙ whole));
+      whole = λ whole. absurd (true≢false (sym spent ∙ whole));
+    }

@@ -11,6 +11,7 @@ use Rattle.std.specs.Ordering.{is_eq, match_ordering}
 use Rattle.std.specs.declared.cmp.Ordering.{Ordering}
 use Rattle.std.specs.declared.cmp.Ordering.TheVariants.{Less, Equal, Greater}
 use Rattle.fc_spec.specs.Val.{Text, text_cmp, same_text}
+use Rattle.fc_spec.proofs.Members.{or_swap}
 use Rattle.fc_column.specs.Terms.{has_text}
 use Rattle.fc_column.specs.Numbering.{has_number, text_numbered, IsNumbering}
 
@@ -29,7 +30,7 @@ pub record Found (entries : Entries) (t : Text) (n : ℕ) : Type 0 where
 later_found : (entry : Text × ℕ) (entries : Entries) (t : Text) (n : ℕ) → Found entries t n → Found (entry ∷ entries) t n
 later_found entry entries t n found = record { place = suc found.place; inside = omega (arith, found.inside); is = found.is }
 
-pub entry_found : (entries : Entries) (t : Text) (n : ℕ) → lookup (is_at (text_cmp t)) entries ≡ Some n → Found entries t n
+entry_found : (entries : Entries) (t : Text) (n : ℕ) → lookup (is_at (text_cmp t)) entries ≡ Some n → Found entries t n
 entry_found [] t n gives = cc
 entry_found (entry ∷ entries) t n gives = go (text_cmp t entry.0) refl gives (entry_found entries t n)
   where
@@ -62,7 +63,7 @@ split_at entry entries t n Equal absent rest = cc
 split_at entry entries t n Greater absent rest =
     let later = rest absent in (entry ∷ later.front, later.back, ap (λ l. entry ∷ l) later.was, ap (λ l. entry ∷ l) later.is)
 
-pub entry_inserted : (entries : Entries) (t : Text) (n : ℕ) → lookup (is_at (text_cmp t)) entries ≡ None → Inserted entries t n
+entry_inserted : (entries : Entries) (t : Text) (n : ℕ) → lookup (is_at (text_cmp t)) entries ≡ None → Inserted entries t n
 unfolding Split
 entry_inserted [] t n absent = record { front = []; back = []; was = refl; is = refl }
 entry_inserted (entry ∷ entries) t n absent =
@@ -70,11 +71,6 @@ entry_inserted (entry ∷ entries) t n absent =
     record { front = split.0; back = split.1; was = split.2; is = split.3 }
 
 -- ---- an entry among others
-or_swap : (a b c : Bool) → (a || (b || c)) ≡ (b || (a || c))
-or_swap true true c = refl
-or_swap true false c = refl
-or_swap false b c = refl
-
 any_inserted : {X : Type 0} (p : X → Bool) (front back : List X) (x : X) → list_any p (front ++ x ∷ back) ≡ (p x || list_any p (front ++ back))
 any_inserted p [] back x = refl
 any_inserted p (y ∷ front) back x = ap (λ b. p y || b) (any_inserted p front back x) ∙ or_swap (p y) (p x) (list_any p (front ++ back))
@@ -116,36 +112,36 @@ module _ (old new : Entries) (t : Text) (numbering : IsNumbering old) (inserted 
       let was = ap length inserted.was ∙ length-append inserted.front inserted.back in
       omega (arith, long, was)
 
-  pub numbers_more : (m : ℕ) → has_number m new ≡ ((length old == m) || has_number m old)
+  numbers_more : (m : ℕ) → has_number m new ≡ ((length old == m) || has_number m old)
   numbers_more m =
       ap (has_number m) placed ∙ any_inserted (λ entry. entry.1 == m) inserted.front inserted.back (t, length old)
       ∙ ap (λ l. (length old == m) || has_number m l) (sym inserted.was)
 
-  pub texts_more : (u : Text) → has_text u (texts_of new) ≡ (same_text u t || has_text u (texts_of old))
+  texts_more : (u : Text) → has_text u (texts_of new) ≡ (same_text u t || has_text u (texts_of old))
   texts_more u =
       ap (λ l. has_text u (texts_of l)) placed
       ∙ ap (has_text u) (map-append (λ (entry : Text × ℕ). entry.0) inserted.front ((t, length old) ∷ inserted.back))
       ∙ any_inserted (same_text u) (texts_of inserted.front) (texts_of inserted.back) t
       ∙ ap (λ l. same_text u t || has_text u l) (sym (map-append (λ (entry : Text × ℕ). entry.0) inserted.front inserted.back) ∙ ap texts_of (sym inserted.was))
 
-  pub new_has : has_number (length old) new ≡ true
+  new_has : has_number (length old) new ≡ true
   new_has = numbers_more (length old) ∙ ap (λ b. b || has_number (length old) old) (eq-eqb (length old) (length old) refl)
 
-  pub new_text : text_numbered new (length old) ≡ t
+  new_text : text_numbered new (length old) ≡ t
   new_text =
       ap (λ l. text_numbered l (length old)) placed
       ∙ text_of_new inserted.front inserted.back t (length old) (ap (has_number (length old)) (sym inserted.was) ∙ fresh)
 
-  pub other_has : (m : ℕ) → has_number m old ≡ true → has_number m new ≡ true
+  other_has : (m : ℕ) → has_number m old ≡ true → has_number m new ≡ true
   other_has m has = numbers_more m ∙ or_right (length old == m) (has_number m old) has
 
-  pub other_text : (m : ℕ) → has_number m old ≡ true → text_numbered new m ≡ text_numbered old m
+  other_text : (m : ℕ) → has_number m old ≡ true → text_numbered new m ≡ text_numbered old m
   other_text m has =
       ap (λ l. text_numbered l m) placed
       ∙ text_of_other inserted.front inserted.back t (length old) m (λ same. true≢false (sym has ∙ ap (λ n. has_number n old) (sym same) ∙ fresh))
       ∙ ap (λ l. text_numbered l m) (sym inserted.was)
 
-  pub numbering_more : length old + 1 < 2 ^ 32 → IsNumbering new
+  numbering_more : length old + 1 < 2 ^ 32 → IsNumbering new
   numbering_more small = record {
     small = omega (arith, size);
     below = λ m has. elim (or_cases (length old == m) (has_number m old) (sym (numbers_more m) ∙ has)) [
@@ -161,16 +157,16 @@ module _ (old new : Entries) (t : Text) (numbering : IsNumbering old) (inserted 
 
 -- ---- a text that is there
 module _ (entries : Entries) (t : Text) (n : ℕ) (numbering : IsNumbering entries) (found : Found entries t n) where
-  pub found_has : has_number n entries ≡ true
+  found_has : has_number n entries ≡ true
   found_has = list_any_at (λ entry. entry.1 == n) entries found.place (t, n) found.inside (ap (λ entry. entry.1 == n) (found.is (t, n)) ∙ eq-eqb n n refl)
 
-  pub found_text : text_numbered entries n ≡ t
+  found_text : text_numbered entries n ≡ t
   found_text =
       let here = found.is (t, n) in
       ap (λ entry. text_numbered entries entry.1) (sym here) ∙ numbering.own found.place (t, n) found.inside ∙ ap (λ entry. entry.0) here
 
   -- no text is new
-  pub found_texts : (u : Text) → has_text u (texts_of entries) ≡ (same_text u t || has_text u (texts_of entries))
+  found_texts : (u : Text) → has_text u (texts_of entries) ≡ (same_text u t || has_text u (texts_of entries))
   found_texts u = go (same_text u t) refl
     where
       there : same_text u t ≡ true → has_text u (texts_of entries) ≡ true
@@ -181,3 +177,37 @@ module _ (entries : Entries) (t : Text) (n : ℕ) (numbering : IsNumbering entri
       go : (b : Bool) → same_text u t ≡ b → has_text u (texts_of entries) ≡ (b || has_text u (texts_of entries))
       go true same = there same
       go false other = refl
+
+-- ---- the number of a text, in entries that may have one more
+pub record IsNumberOf (old new : Entries) (t : Text) (n : ℕ) : Type 0 where
+  pub numbering : IsNumbering new
+  pub has : has_number n new ≡ true
+  pub text : text_numbered new n ≡ t
+  pub texts : (u : Text) → has_text u (texts_of new) ≡ (same_text u t || has_text u (texts_of old))
+  pub others : (m : ℕ) → has_number m old ≡ true → has_number m new ≡ true
+  pub other_texts : (m : ℕ) → has_number m old ≡ true → text_numbered new m ≡ text_numbered old m
+
+pub number_found : (entries : Entries) (t : Text) (n : ℕ) → IsNumbering entries → Some n ≡ lookup (is_at (text_cmp t)) entries → IsNumberOf entries entries t n
+number_found entries t n numbering gives =
+    let found = entry_found entries t n (sym gives) in
+    record {
+      numbering = numbering;
+      has = found_has entries t n numbering found;
+      text = found_text entries t n numbering found;
+      texts = found_texts entries t n numbering found;
+      others = λ m has. has;
+      other_texts = λ m has. refl;
+    }
+
+pub number_added : (old new : Entries) (t copy : Text) (n : ℕ) → IsNumbering old → None ≡ lookup (is_at (text_cmp t)) old → new ≡ insert_entry text_cmp old copy n → copy ≡ t → n ≡ length old → n + 1 < 2 ^ 32 → IsNumberOf old new t n
+number_added old new t copy n numbering absent made same size small =
+    let inserted = entry_inserted old t (length old) (sym absent) in
+    let is : new ≡ insert_entry text_cmp old t (length old) = made ∙ ap₂ (insert_entry text_cmp old) same size in
+    record {
+      numbering = numbering_more old new t numbering inserted is (omega (arith, size));
+      has = ap (λ m. has_number m new) size ∙ new_has old new t numbering inserted is;
+      text = ap (text_numbered new) size ∙ new_text old new t numbering inserted is;
+      texts = texts_more old new t numbering inserted is;
+      others = other_has old new t numbering inserted is;
+      other_texts = other_text old new t numbering inserted is;
+    }

@@ -1,16 +1,15 @@
 -- The texts of a builder in ascending order, and the ordinals that their numbers become.
-use Rattle.std.proofs.Common.{◌≡◌, ◌≢◌, ℕ, suc, ◌<◌, ◌==◌, Bool, true, false, List, [], ◌∷◌, length, get_or, map, All, refl, sym, ap, ap₂, ◌∙◌, subst, arith, eqb-true}
+use Rattle.std.proofs.Common.{◌≡◌, ◌≢◌, ℕ, suc, ◌<◌, ◌==◌, true, false, List, [], ◌∷◌, length, get_or, map, All, refl, sym, ap, ap₂, ◌∙◌, subst, arith, eqb-true}
 use Rattle.std.proofs.lemmas.Cmp.{nat_list_cmp_total, tied_itself}
 use Rattle.std.proofs.lemmas.List.{get_or-map, length-map}
 use Rattle.std.proofs.lemmas.List.Folds.{Any-from_list_any}
 use Rattle.std.proofs.lemmas.Map.Keys.{Less-from_sorted}
 use Rattle.std.specs.List.{AllPairs, list_any, flat_map}
 use Rattle.std.specs.List.Sorted.{IsStrictlySortedBy}
-use Rattle.std.specs.Ordering.{is_lt}
-use Rattle.fc_spec.specs.Val.{Text, Val, text, long, text_cmp, has_val, distinct}
+use Rattle.std.specs.declared.cmp.Ordering.TheVariants.{Less}
+use Rattle.fc_spec.specs.Val.{Text, Val, text, long, text_cmp, val_cmp, has_val, distinct}
 use Rattle.fc_spec.specs.Columns.{IsAscending, texts_in}
-use Rattle.fc_spec.proofs.Members.{Every}
-use Rattle.fc_spec.proofs.Ascending as values
+use Rattle.fc_spec.proofs.Ascending.{IsUnder, has_val-distinct, same_ascending, distinct_ascends}
 use Rattle.fc_column.specs.Terms.{terms_of, has_text}
 use Rattle.fc_column.specs.Dictionary.{term_at}
 use Rattle.fc_column.specs.Numbering.{has_number, text_numbered, IsNumbering}
@@ -95,17 +94,15 @@ ranks_within entries terms ranks rows has k d inside j e within =
     (has k d (omega arith) j e (omega arith)).within
 
 -- ---- the terms are the column's
-every_from : {X : Type 0} (p : X → Bool) (xs : List X) → ((k : ℕ) (d : X) → k < length xs → p (get_or xs k d) ≡ true) → Every p xs
-every_from p [] passes = tt
-every_from p (x ∷ xs) passes = (passes 0 x (omega arith), every_from p xs (λ k d inside. passes (suc k) d (omega arith)))
+all_under : (t : Text) (terms : List Text) → ((k : ℕ) (d : Text) → k < length terms → text_cmp t (get_or terms k d) ≡ Less) → IsUnder (text t) (map text terms)
+all_under t [] above = tt
+all_under t (u ∷ terms) above = (above 0 t (omega arith), all_under t terms (λ k d inside. above (suc k) d (omega arith)))
 
-ascending_values : (terms : List Text) → IsAscending text_cmp terms → values.IsAscending (map text terms)
+ascending_values : (terms : List Text) → IsAscending text_cmp terms → IsStrictlySortedBy val_cmp (map text terms)
+unfolding IsStrictlySortedBy
 ascending_values [] ascending = tt
 ascending_values (t ∷ terms) ascending = (
-  every_from (values.is_under (text t)) (map text terms) (λ k d inside.
-      let size = length-map terms text in
-      let below : k < length terms = omega arith in
-      ap (λ v. values.is_under (text t) v) (get_or-map text terms k t d below) ∙ ap is_lt (ascending 0 (suc k) t (omega arith) (omega arith))),
+  all_under t terms (λ k d inside. ascending 0 (suc k) d (omega arith) (omega arith)),
   ascending_values terms (λ i j d before inside. ascending (suc i) (suc j) d (omega arith) (omega arith)),
 )
 
@@ -128,6 +125,6 @@ pub terms_are : (terms : List Text) (column : List (List Text)) → IsAscending 
     → terms_of column ≡ terms
 terms_are terms column ascending same =
     let all = map text (flat_map (λ texts. texts) column) in
-    ap texts_in (values.same_ascending (distinct all) (map text terms) (values.ascending-distinct all) (ascending_values terms ascending)
-    (λ v. values.has_val-distinct v all ∙ value_among terms column same v))
+    ap texts_in (same_ascending (distinct all) (map text terms) (distinct_ascends all) (ascending_values terms ascending)
+    (λ v. has_val-distinct v all ∙ value_among terms column same v))
     ∙ texts_in-texts terms

@@ -4,7 +4,6 @@ use Rattle.std.proofs.lemmas.Bool.{cases_lt}
 use Rattle.std.proofs.lemmas.Cmp.{nat_list_cmp_total, tied_itself}
 use Rattle.std.proofs.lemmas.List.{get_or_default}
 use Rattle.std.proofs.lemmas.List.Sorted.{searchable_from_sorted}
-use Rattle.std.proofs.lemmas.List.Sums.{sum_by-cons}
 use Rattle.std.proofs.lemmas.Map.Lookups.{exact_bytes}
 use Rattle.std.specs.List.Sorted.{IsPartitionedBy, IsNonDecreasingBy}
 use Rattle.std.specs.Ordering.{is_lt, is_le, ordering_reverse, ordering_index}
@@ -12,6 +11,8 @@ use Rattle.std.specs.declared.cmp.Ordering.{Ordering}
 use Rattle.std.specs.declared.cmp.Ordering.TheVariants.{Less, Equal, Greater}
 use Rattle.fc_spec.specs.Val.{Text, text_cmp}
 use Rattle.fc_spec.specs.Columns.{IsAscending}
+use Rattle.fc_spec.proofs.Counting.{count_by-cons}
+use Rattle.fc_spec.proofs.Orderings.{Less-from_is_lt}
 
 -- ---- how many pass a test that the front passes and the rest fails
 pub count_at_point : {X : Type 0} (p : X → Bool) (xs : List X) (i : ℕ) → i ≤ length xs
@@ -20,17 +21,12 @@ pub count_at_point : {X : Type 0} (p : X → Bool) (xs : List X) (i : ℕ) → i
 count_at_point p [] i within front rest = omega arith
 count_at_point p (x ∷ xs) zero within front rest =
     let none = count_at_point p xs zero (omega arith) (λ k d below. absurd (omega arith)) (λ k d from below. rest (suc k) d (omega arith) (omega arith)) in
-    sum_by-cons (λ y. cond (p y) 1 0) x xs ∙ ap (λ b. cond b 1 0 + count_by p xs) (rest 0 x (omega arith) (omega arith)) ∙ omega (arith, none)
+    count_by-cons p x xs ∙ ap (λ b. cond b 1 0 + count_by p xs) (rest 0 x (omega arith) (omega arith)) ∙ omega (arith, none)
 count_at_point p (x ∷ xs) (suc i) within front rest =
     let more = count_at_point p xs i (omega arith) (λ k d below. front (suc k) d (omega arith)) (λ k d from below. rest (suc k) d (omega arith) (omega arith)) in
-    sum_by-cons (λ y. cond (p y) 1 0) x xs ∙ ap (λ b. cond b 1 0 + count_by p xs) (front 0 x (omega arith)) ∙ omega (arith, more)
+    count_by-cons p x xs ∙ ap (λ b. cond b 1 0 + count_by p xs) (front 0 x (omega arith)) ∙ omega (arith, more)
 
 -- ---- answers of a comparison
-Less-from_is_lt : (o : Ordering) → is_lt o ≡ true → o ≡ Less
-Less-from_is_lt Less e = refl
-Less-from_is_lt Equal e = cc
-Less-from_is_lt Greater e = cc
-
 cases_is_le : (o : Ordering) → is_le o ≡ true → (o ≡ Less) ⊎ (o ≡ Equal)
 cases_is_le Less e = inl refl
 cases_is_le Equal e = inr refl

@@ -1,22 +1,12 @@
 -- The texts and the integers among values, one value after another.
-use Rattle.std.proofs.Common.{◌≡◌, ℕ, ◌+◌, ◌<◌, List, [], ◌∷◌, ◌++◌, length, get_or, take, map, All, ℤ, refl, sym, ap, ◌∙◌, subst, arith}
+use Rattle.std.proofs.Common.{◌≡◌, ℕ, ◌+◌, ◌<◌, List, [], ◌∷◌, ◌++◌, length, get_or, take, map, All, ℤ, sym, ap, ◌∙◌, subst, arith}
 use Rattle.std.proofs.lemmas.List.{take_more, map-append, get_or-map, length-map}
+use Rattle.std.proofs.lemmas.List.Elements.{filter_map-append}
 use Rattle.fc_base.specs.declared.value.Val.{Val}
 use Rattle.fc_base.specs.declared.value.Val.TheVariants.{Text, Long}
 use Rattle.fc_base.specs.View.{val_view}
 use Rattle.fc_spec.specs.Val as definition
-use Rattle.fc_spec.specs.Val.{text, long}
-use Rattle.fc_spec.specs.Columns.{texts_in, longs_in}
-
-longs_in-append : (vs ws : List definition.Val) → longs_in (vs ++ ws) ≡ longs_in vs ++ longs_in ws
-longs_in-append [] ws = refl
-longs_in-append (text t ∷ vs) ws = longs_in-append vs ws
-longs_in-append (long z ∷ vs) ws = ap (λ l. z ∷ l) (longs_in-append vs ws)
-
-texts_in-append : (vs ws : List definition.Val) → texts_in (vs ++ ws) ≡ texts_in vs ++ texts_in ws
-texts_in-append [] ws = refl
-texts_in-append (text t ∷ vs) ws = ap (λ l. t ∷ l) (texts_in-append vs ws)
-texts_in-append (long z ∷ vs) ws = texts_in-append vs ws
+use Rattle.fc_spec.specs.Columns.{as_text, as_long, texts_in, longs_in}
 
 -- one more value
 values_more : (values : List Val) (i : ℕ) (v : Val) → i < length values → v ≡ get_or values i v
@@ -28,13 +18,13 @@ values_more values i v within is =
 pub longs_more : (values : List Val) (i : ℕ) (v : Val) (z : ℤ) → i < length values → v ≡ get_or values i v → v ≡ Long z
     → longs_in (map val_view (take (i + 1) values)) ≡ longs_in (map val_view (take i values)) ++ z ∷ []
 longs_more values i v z within is kind =
-    ap longs_in (values_more values i v within is) ∙ longs_in-append (map val_view (take i values)) (val_view v ∷ [])
+    ap longs_in (values_more values i v within is) ∙ filter_map-append as_long (map val_view (take i values)) (val_view v ∷ [])
     ∙ ap (λ w. longs_in (map val_view (take i values)) ++ longs_in (val_view w ∷ [])) kind
 
 pub texts_more : (values : List Val) (i : ℕ) (v : Val) (t : definition.Text) → i < length values → v ≡ get_or values i v → v ≡ Text t
     → texts_in (map val_view (take (i + 1) values)) ≡ texts_in (map val_view (take i values)) ++ t ∷ []
 texts_more values i v t within is kind =
-    ap texts_in (values_more values i v within is) ∙ texts_in-append (map val_view (take i values)) (val_view v ∷ [])
+    ap texts_in (values_more values i v within is) ∙ filter_map-append as_text (map val_view (take i values)) (val_view v ∷ [])
     ∙ ap (λ w. texts_in (map val_view (take i values)) ++ texts_in (val_view w ∷ [])) kind
 
 -- a value that the condition of its list speaks of

@@ -3,8 +3,9 @@ use Rattle.std.proofs.Common.{◌≡◌, List, [], ◌∷◌, map, Bool, true, f
 use Rattle.std.specs.List.{All, AllByRecursion, dedup, dedup_from, list_any}
 use Rattle.std.specs.List.Retain.{IsFiltered, DiffersFromLast}
 use Rattle.std.specs.List.Sorted.{IsPermutation, IsSorted, IsStrictlySortedBy}
-use Rattle.std.specs.Ordering.{on, is_lt}
+use Rattle.std.specs.Ordering.{on}
 use Rattle.std.specs.declared.cmp.Ordering.TheVariants.{Less}
+use Rattle.std.proofs.Math.Bool.{or_self_left}
 use Rattle.std.proofs.lemmas.List.Elements.{All-map}
 use Rattle.std.proofs.lemmas.List.Filters.{All-dedup, dedup_is}
 use Rattle.std.proofs.lemmas.List.Kept.{IsStrictlySortedBy-dedup}
@@ -12,9 +13,8 @@ use Rattle.std.proofs.lemmas.List.Sorted.{All-permutation, list_any-IsPermutatio
 use Rattle.std.proofs.lemmas.Map.Keys.{Less-from_sorted}
 use Rattle.fc_spec.specs.Val as definition
 use Rattle.fc_spec.specs.Val.{val_cmp, same_val, has_val, distinct}
-use Rattle.fc_spec.specs.Columns as columns
-use Rattle.fc_spec.proofs.Ascending.{IsAscending, same_ascending, ascending-distinct, has_val-distinct, is_under}
-use Rattle.fc_spec.proofs.Members.{Every}
+use Rattle.fc_spec.specs.Columns.{IsAscending}
+use Rattle.fc_spec.proofs.Ascending.{IsUnder, same_ascending, distinct_ascends, has_val-distinct}
 use Rattle.fc_spec.proofs.ValOrder.{same_val_exact}
 use Rattle.fc_base.specs.declared.value.Val.{Val}
 use Rattle.fc_base.specs.ValOrder.{vals_total}
@@ -27,17 +27,13 @@ pub record AreSorted (xs ys zs : List Val) : Type 0 where
   pub kept : IsFiltered (DiffersFromLast (on val_view same_val)) [] ys zs
 
 -- ---- the same values
-merge : (a c : Bool) → (a || (a || c)) ≡ (a || c)
-merge true c = refl
-merge false c = refl
-
 any_dedup_from : (p : Val → Bool) → ((x y : Val) → on val_view same_val x y ≡ true → p x ≡ p y) → (k : Val) (xs : List Val) → list_any p (dedup_from (on val_view same_val) k xs) ≡ (p k || list_any p xs)
 any_dedup_from p same k [] = refl
 any_dedup_from p same k (x ∷ xs) = go (on val_view same_val x k) refl (any_dedup_from p same k xs) (any_dedup_from p same x xs)
   where
     go : (b : Bool) → on val_view same_val x k ≡ b → list_any p (dedup_from (on val_view same_val) k xs) ≡ (p k || list_any p xs) → list_any p (dedup_from (on val_view same_val) x xs) ≡ (p x || list_any p xs)
         → list_any p (cond b (dedup_from (on val_view same_val) k xs) (k ∷ dedup_from (on val_view same_val) x xs)) ≡ (p k || (p x || list_any p xs))
-    go true is first next = first ∙ rw (same x k is) (sym (merge (p k) (list_any p xs)))
+    go true is first next = first ∙ rw (same x k is) (sym (or_self_left (p k) (list_any p xs)))
     go false is first next = ap (λ b. p k || b) next
 
 any_dedup : (p : Val → Bool) → ((x y : Val) → on val_view same_val x y ≡ true → p x ≡ p y) → (xs : List Val) → list_any p (dedup (on val_view same_val) xs) ≡ list_any p xs
@@ -58,31 +54,22 @@ same_values v xs ys zs h =
 strictly : (xs ys zs : List Val) → AreSorted xs ys zs → IsStrictlySortedBy (on val_view val_cmp) zs
 strictly xs ys zs h = rw (dedup_is (on val_view same_val) ys zs h.kept) (IsStrictlySortedBy-dedup vals_total (λ x y. refl) ys h.sorted)
 
-all_under : (x : Val) (xs : List Val) → AllByRecursion (λ y. on val_view val_cmp x y ≡ Less) xs → Every (is_under (val_view x)) (map val_view xs)
+all_under : (x : Val) (xs : List Val) → AllByRecursion (λ y. on val_view val_cmp x y ≡ Less) xs → IsUnder (val_view x) (map val_view xs)
 all_under x [] above = tt
-all_under x (y ∷ ys) above = (ap is_lt above.0, all_under x ys above.1)
+all_under x (y ∷ ys) above = (above.0, all_under x ys above.1)
 
-ascending : (xs : List Val) → IsStrictlySortedBy (on val_view val_cmp) xs → IsAscending (map val_view xs)
+views_ascend : (xs : List Val) → IsStrictlySortedBy (on val_view val_cmp) xs → IsStrictlySortedBy val_cmp (map val_view xs)
 unfolding IsStrictlySortedBy
-ascending [] sorted = tt
-ascending (x ∷ xs) sorted = (all_under x xs sorted.0, ascending xs sorted.1)
+views_ascend [] sorted = tt
+views_ascend (x ∷ xs) sorted = (all_under x xs sorted.0, views_ascend xs sorted.1)
 
 pub are_distinct : (xs ys zs : List Val) → AreSorted xs ys zs → map val_view zs ≡ distinct (map val_view xs)
 are_distinct xs ys zs h =
-    same_ascending (map val_view zs) (distinct (map val_view xs)) (ascending zs (strictly xs ys zs h)) (ascending-distinct (map val_view xs))
+    same_ascending (map val_view zs) (distinct (map val_view xs)) (views_ascend zs (strictly xs ys zs h)) (distinct_ascends (map val_view xs))
     (λ v. same_values v xs ys zs h ∙ sym (has_val-distinct v (map val_view xs)))
 
-all_less : (x : Val) (xs : List Val) → AllByRecursion (λ y. on val_view val_cmp x y ≡ Less) xs → AllByRecursion (λ v. val_cmp (val_view x) v ≡ Less) (map val_view xs)
-all_less x [] above = tt
-all_less x (y ∷ ys) above = (above.0, all_less x ys above.1)
-
-views_sorted : (xs : List Val) → IsStrictlySortedBy (on val_view val_cmp) xs → IsStrictlySortedBy val_cmp (map val_view xs)
-unfolding IsStrictlySortedBy
-views_sorted [] sorted = tt
-views_sorted (x ∷ xs) sorted = (all_less x xs sorted.0, views_sorted xs sorted.1)
-
-pub ascend : (xs ys zs : List Val) → AreSorted xs ys zs → columns.IsAscending val_cmp (map val_view zs)
-ascend xs ys zs h = λ i j d before within. Less-from_sorted val_cmp (map val_view zs) i j d (views_sorted zs (strictly xs ys zs h)) before within
+pub ascend : (xs ys zs : List Val) → AreSorted xs ys zs → IsAscending val_cmp (map val_view zs)
+ascend xs ys zs h = λ i j d before within. Less-from_sorted val_cmp (map val_view zs) i j d (views_ascend zs (strictly xs ys zs h)) before within
 
 pub still_all : (P : definition.Val → Type 0) (xs ys zs : List Val) → AreSorted xs ys zs → All (λ x. P (val_view x)) xs → All P (map val_view zs)
 still_all P xs ys zs h all =

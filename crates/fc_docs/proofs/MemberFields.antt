@@ -1,5 +1,6 @@
 -- The field that a member gives values to, and what the member's values are then.
 use Rattle.std.proofs.Common.{◌≡◌, ℕ, List, [], length, Bool, true, false, ◌&&◌, nat_le, Option, Some, None, option_map, Result, Ok, Err, ok_or, slice_get, if◌then◌else◌, refl, ◌∙◌, ap}
+use Rattle.std.proofs.lemmas.Bool.{and_parts}
 use Rattle.serde_json.specs.Data.{Data}
 use Rattle.fc_spec.specs.Val.{Text, Val, same_text}
 use Rattle.fc_spec.specs.DocFault.{DocFault, unknown_field, deep_children}
@@ -7,7 +8,7 @@ use Rattle.fc_spec.specs.Schema.{FieldType, Schema, field_named}
 use Rattle.fc_spec.specs.SchemaReading.{is_underscored}
 use Rattle.fc_spec.specs.Walks.{◌>>=◌}
 use Rattle.fc_spec.specs.BlockReading.{Role, as_parent, as_child, check_children, children_key, holds_nothing, member_values, type_in, values_for}
-use Rattle.fc_base.proofs.Texts.{equal}
+use Rattle.fc_spec.proofs.Texts.{equal}
 use Rattle.fc_docs.specs.Members.{field_given}
 
 -- another key that begins and ends with `_`
@@ -67,16 +68,12 @@ bad_key role s key d e is = go (same_text key children_key) (is_passed_over key)
     go false false None named_is is = rw named_is (let same : unknown_field ≡ e = cc in ap Err same)
     go false false (Some n) named_is is = cc
 
-and_second : (a b : Bool) → (a && b) ≡ true → b ≡ true
-and_second true b h = h
-and_second false b h = cc
-
 pub gives_nothing : (role : Role) (s : Schema) (key : Text) (d : Data) → field_given role s key d ≡ Ok None → (member_values role s key d ≡ Ok []) × (is_underscored key ≡ true)
 gives_nothing role s key d is = go (same_text key children_key) (is_passed_over key) refl refl (field_named s key) is
   where
     go : (is_children is_over : Bool) → same_text key children_key ≡ is_children → is_passed_over key ≡ is_over → (named : Option ℕ) → given_by is_children is_over role d named ≡ Ok None → (values_by is_children is_over role d (type_in s key) ≡ Ok []) × (is_underscored key ≡ true)
     go true over same is_over named is = (no_value role d is, rw (equal key children_key same) refl)
-    go false true other over named is = (refl, and_second (nat_le 2 (length key)) (is_underscored key) over)
+    go false true other over named is = (refl, (and_parts (nat_le 2 (length key)) (is_underscored key) over).1)
     go false false other kept None is = cc
     go false false other kept (Some n) is = cc
 

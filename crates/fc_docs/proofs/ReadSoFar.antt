@@ -28,7 +28,7 @@ use Rattle.fc_spec.specs.ValidBlocks.{AreValuesOf, is_value_of}
 use Rattle.fc_base.specs.ValidSchema.{id_field, IsFieldList}
 use Rattle.fc_base.proofs.Members.{member_keys}
 use Rattle.fc_base.proofs.NamesDiffer.{only_one}
-use Rattle.fc_base.proofs.Texts.{equal}
+use Rattle.fc_spec.proofs.Texts.{equal}
 use Rattle.fc_docs.specs.Members.{field_given}
 use Rattle.fc_docs.proofs.MemberFields.{gives_nothing, gives_values}
 

@@ -1,5 +1,6 @@
 -- What clauses taken one after another answer.
 use Rattle.std.proofs.Common.{◌≡◌, Bool, true, false, ne_eqb, arith, not, ◌&&◌, ◌||◌, cond, List, [], ◌∷◌, length, refl, sym, ap, ap₂, ◌∙◌}
+use Rattle.std.proofs.Math.Bool.{and_assoc, or_assoc, and-true, or-false, and_comm}
 use Rattle.std.proofs.lemmas.Bool.{false≢true}
 use Rattle.std.specs.List.{list_any, list_all}
 use Rattle.fc_spec.specs.Document.{Document}
@@ -8,37 +9,21 @@ use Rattle.fc_spec.specs.Matching.{matches, answers, same_need, group_matches}
 use Rattle.fc_spec.specs.Query.{Need, must, must_not, may, Clauses, no_clauses, clause}
 use Rattle.fc_domain.specs.Grouping.{all_taken, has_need, first_need}
 
-and_assoc : (a b c : Bool) → ((a && b) && c) ≡ (a && (b && c))
-and_assoc true b c = refl
-and_assoc false b c = refl
-
-or_assoc : (a b c : Bool) → ((a || b) || c) ≡ (a || (b || c))
-or_assoc true b c = refl
-or_assoc false b c = refl
-
-and_true : (a : Bool) → (a && true) ≡ a
-and_true true = refl
-and_true false = refl
-
-or_false : (a : Bool) → (a || false) ≡ a
-or_false true = refl
-or_false false = refl
-
 and_none : (a b c : Bool) → ((a && not b) && not c) ≡ (a && not (b || c))
 and_none true true c = refl
 and_none true false c = refl
 and_none false b c = refl
 
 required : (here : Bool) (bs : List Bool) → all_taken must here bs ≡ (here && list_all (λ b. b) bs)
-required here [] = sym (and_true here)
+required here [] = sym (and-true here)
 required here (b ∷ bs) = required (here && b) bs ∙ and_assoc here b (list_all (λ b. b) bs)
 
 optional : (here : Bool) (bs : List Bool) → all_taken may here bs ≡ (here || list_any (λ b. b) bs)
-optional here [] = sym (or_false here)
+optional here [] = sym (or-false here)
 optional here (b ∷ bs) = optional (here || b) bs ∙ or_assoc here b (list_any (λ b. b) bs)
 
 forbidden : (here : Bool) (bs : List Bool) → all_taken must_not here bs ≡ (here && not (list_any (λ b. b) bs))
-forbidden here [] = sym (and_true here)
+forbidden here [] = sym (and-true here)
 forbidden here (b ∷ bs) = forbidden (here && not b) bs ∙ and_none here b (list_any (λ b. b) bs)
 
 pub some_member : {X : Type 0} (x : X) (xs : List X) → is_empty (x ∷ xs) ≡ false
@@ -64,14 +49,8 @@ must_first : (rs fs os bs : List Bool) → bs ≡ rs → (not (is_empty rs) || i
 must_first rs fs os bs is free =
     forbidden (all_taken must true bs) fs
     ∙ ap (λ here. here && not (list_any (λ b. b) fs)) (required true bs ∙ ap (list_all (λ b. b)) is)
-    ∙ sym (and_true (list_all (λ b. b) rs && not (list_any (λ b. b) fs)))
+    ∙ sym (and-true (list_all (λ b. b) rs && not (list_any (λ b. b) fs)))
     ∙ ap (λ free. list_all (λ b. b) rs && not (list_any (λ b. b) fs) && free) (sym free)
-
-and_swapped : (a b : Bool) → (a && b) ≡ (b && a)
-and_swapped true true = refl
-and_swapped true false = refl
-and_swapped false true = refl
-and_swapped false false = refl
 
 -- optional answers, where none is required
 may_first : (rs fs os bs : List Bool) → bs ≡ os → is_empty rs ≡ true → is_empty os ≡ false → all_taken must_not (all_taken may false bs) fs ≡ group_matches rs fs os
@@ -79,7 +58,7 @@ may_first rs fs os bs is no_rs some_os =
     let any = list_any (λ b. b) in
     forbidden (all_taken may false bs) fs
     ∙ ap (λ here. here && not (any fs)) (optional false bs ∙ ap any is)
-    ∙ and_swapped (any os) (not (any fs))
+    ∙ and_comm (any os) (not (any fs))
     ∙ sym (ap₂ (λ all free. all && not (any fs) && free) (all_of_none rs no_rs) (ap₂ (λ a b. not a || b || any os) no_rs some_os))
 
 -- the need that comes first, by whether there are required and optional answers

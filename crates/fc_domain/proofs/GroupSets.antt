@@ -7,7 +7,7 @@ use Rattle.fc_spec.specs.Matching.{matches, answers, same_need}
 use Rattle.fc_spec.specs.Query.{Need, must, must_not, Clauses, group}
 use Rattle.fc_domain.specs.Grouping.{all_taken, first_need}
 use Rattle.fc_domain.proofs.GroupAnswers.{group_in_order}
-use Rattle.fc_domain.proofs.TakenSoFar.{map-same}
+use Rattle.fc_spec.proofs.MappedLists.{map-same}
 
 pub on_ok : {A E : Type 0} (r : Result A E) (P Q : Type 0) → (P → Q) → OnOk r P → OnOk r Q
 on_ok (Ok a) P Q f h = f h

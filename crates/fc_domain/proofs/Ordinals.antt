@@ -7,7 +7,8 @@ use Rattle.std.specs.List.{list_any}
 use Rattle.std.specs.Ordering.{is_lt, is_le}
 use Rattle.fc_spec.specs.Val.{Text, text_cmp, same_text}
 use Rattle.fc_spec.proofs.Counting.{count_by-cons}
-use Rattle.fc_domain.proofs.TextOrder.{same_is_equal, le-not_lt, lt-not_le, le_from_lt, lt_le, le_lt, lt_itself, le_itself}
+use Rattle.fc_spec.proofs.Texts.{equal}
+use Rattle.fc_domain.proofs.TextOrder.{le-not_lt, lt-not_le, le_from_lt, lt_le, le_lt, lt_itself, le_itself}
 
 -- ---- where one test passes, the other does
 count_le : {X : Type 0} (p q : X → Bool) (xs : List X) → ((x : X) → p x ≡ true → q x ≡ true) → count_by p xs ≤ count_by q xs
@@ -40,7 +41,7 @@ any_from_same t p [] passes found = cc
 any_from_same t p (u ∷ us) passes found = go (same_text t u) refl found (any_from_same t p us passes)
   where
     go : (b : Bool) → same_text t u ≡ b → (b || list_any (same_text t) us) ≡ true → (list_any (same_text t) us ≡ true → list_any p us ≡ true) → (p u || list_any p us) ≡ true
-    go true e f h = ap (λ b. b || list_any p us) (ap p (sym (same_is_equal t u e)) ∙ passes)
+    go true e f h = ap (λ b. b || list_any p us) (ap p (sym (equal t u e)) ∙ passes)
     go false e f h = or_right (p u) (list_any p us) (h f)
 
 nat_lt-not : (a b : ℕ) → nat_lt a b ≡ not (nat_le b a)

@@ -1,24 +1,12 @@
 -- Clauses that are taken one after another, at every document.
-use Rattle.std.proofs.Common.{◌≡◌, Bool, true, false, cond, List, [], ◌∷◌, map, length, refl, sym, ap, ap₂, ◌∙◌, arith}
+use Rattle.std.proofs.Common.{◌≡◌, Bool, true, false, cond, List, ◌∷◌, map, length, refl, sym, ap, ap₂, ◌∙◌}
 use Rattle.fc_docset.specs.Positions.{zip_with}
+use Rattle.fc_docset.proofs.BitLists.{length-zip_with, zip_with-map}
 use Rattle.fc_spec.specs.Document.{Document}
 use Rattle.fc_spec.specs.Matching.{matches, answers, same_need}
 use Rattle.fc_spec.specs.Query.{Need, Query, Clauses, no_clauses, clause}
+use Rattle.fc_spec.proofs.MappedLists.{map-same}
 use Rattle.fc_domain.specs.Grouping.{taken, all_taken}
-
--- ---- sets joined position by position
-pub length-zip_with : (join : Bool → Bool → Bool) (bits others : List Bool) → length bits ≡ length others → length (zip_with join bits others) ≡ length bits
-length-zip_with join [] others size = refl
-length-zip_with join (bit ∷ bits) [] size = cc
-length-zip_with join (bit ∷ bits) (other ∷ others) size = let rest = length-zip_with join bits others (omega arith) in omega arith
-
-zip_with-map : (join : Bool → Bool → Bool) (f g : Document → Bool) (ds : List Document) → zip_with join (map f ds) (map g ds) ≡ map (λ d. join (f d) (g d)) ds
-zip_with-map join f g [] = refl
-zip_with-map join f g (d ∷ ds) = ap (λ l. join (f d) (g d) ∷ l) (zip_with-map join f g ds)
-
-pub map-same : {X : Type 0} (f g : X → Bool) (xs : List X) → ((x : X) → f x ≡ g x) → map f xs ≡ map g xs
-map-same f g [] same = refl
-map-same f g (x ∷ xs) same = ap₂ (λ a l. a ∷ l) (same x) (map-same f g xs same)
 
 -- what stands now, with what is left, is what stood before, with the whole
 pub record IsTakenTo (ds : List Document) (need : Need) (left whole : Clauses) (before : Document → Bool) (new : List Bool) : Type 0 where

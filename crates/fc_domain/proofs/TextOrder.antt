@@ -6,18 +6,7 @@ use Rattle.std.specs.Ordering.{is_lt, is_le, is_eq, ordering_reverse}
 use Rattle.std.specs.declared.cmp.Ordering.{Ordering}
 use Rattle.std.specs.declared.cmp.Ordering.TheVariants.{Less, Equal, Greater}
 use Rattle.fc_spec.specs.Val.{Text, text_cmp, same_text}
-
-pub same_itself : (t : Text) → same_text t t ≡ true
-same_itself t = ap is_eq (tied_itself nat_list_cmp_total t)
-
-equal_by_is_eq : (o : Ordering) → is_eq o ≡ true → o ≡ Equal
-equal_by_is_eq Less h = cc
-equal_by_is_eq Equal h = refl
-equal_by_is_eq Greater h = cc
-
--- texts that are one are equal
-pub same_is_equal : (t u : Text) → same_text t u ≡ true → t ≡ u
-same_is_equal t u h = exact_bytes t u (equal_by_is_eq (text_cmp t u) h)
+use Rattle.fc_spec.proofs.Orderings.{Less-from_is_lt}
 
 not_lt : (o : Ordering) → is_le (ordering_reverse o) ≡ not (is_lt o)
 not_lt Less = refl
@@ -43,19 +32,14 @@ lt-not_le t u = ap is_lt (nat_list_cmp_total.antisymm t u) ∙ not_le (text_cmp 
 pub le_both_ways : (t u : Text) → (is_le (text_cmp t u) && is_le (text_cmp u t)) ≡ same_text t u
 le_both_ways t u = ap (λ o. is_le (text_cmp t u) && is_le o) (nat_list_cmp_total.antisymm u t) ∙ both_le (text_cmp t u)
 
-less_by_is_lt : (o : Ordering) → is_lt o ≡ true → o ≡ Less
-less_by_is_lt Less h = refl
-less_by_is_lt Equal h = cc
-less_by_is_lt Greater h = cc
-
 pub le_from_lt : (t u : Text) → is_lt (text_cmp t u) ≡ true → is_le (text_cmp t u) ≡ true
-le_from_lt t u h = ap is_le (less_by_is_lt (text_cmp t u) h)
+le_from_lt t u h = ap is_le (Less-from_is_lt (text_cmp t u) h)
 
 pub lt_le : (s t u : Text) → is_lt (text_cmp s t) ≡ true → is_le (text_cmp t u) ≡ true → is_lt (text_cmp s u) ≡ true
 lt_le s t u h k = go (text_cmp t u) refl k
   where
     go : (o : Ordering) → text_cmp t u ≡ o → is_le o ≡ true → is_lt (text_cmp s u) ≡ true
-    go Less e k = ap is_lt (nat_list_cmp_total.trans s t u (less_by_is_lt (text_cmp s t) h) e)
+    go Less e k = ap is_lt (nat_list_cmp_total.trans s t u (Less-from_is_lt (text_cmp s t) h) e)
     go Equal e k = ap (λ w. is_lt (text_cmp s w)) (sym (exact_bytes t u e)) ∙ h
     go Greater e k = cc
 
@@ -63,7 +47,7 @@ pub le_lt : (s t u : Text) → is_le (text_cmp s t) ≡ true → is_lt (text_cmp
 le_lt s t u h k = go (text_cmp s t) refl h
   where
     go : (o : Ordering) → text_cmp s t ≡ o → is_le o ≡ true → is_lt (text_cmp s u) ≡ true
-    go Less e h = ap is_lt (nat_list_cmp_total.trans s t u e (less_by_is_lt (text_cmp t u) k))
+    go Less e h = ap is_lt (nat_list_cmp_total.trans s t u e (Less-from_is_lt (text_cmp t u) k))
     go Equal e h = ap (λ w. is_lt (text_cmp w u)) (exact_bytes s t e) ∙ k
     go Greater e h = cc
 

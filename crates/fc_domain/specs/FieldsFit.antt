@@ -1,7 +1,9 @@
 -- Queries that fit columns.
-use Rattle.std.specs.Prelude.{◌≡◌, ◌<◌, List, length, slice_index_or, Bool, false}
-use Rattle.fc_spec.specs.Query.{Bound, unbounded, including, excluding, Query, all, has, is, between, group, Clauses, no_clauses, clause}
-use Rattle.fc_segment.specs.Building.{is_text}
+use Rattle.std.specs.Prelude.{◌≡◌, ℕ, ◌<◌, List, length, slice_index_or, Bool, false}
+use Rattle.fc_spec.specs.Columns.{is_text}
+use Rattle.fc_spec.specs.Query.{Bound, unbounded, including, excluding, Query, Clauses}
+use Rattle.fc_spec.specs.Val.{Val}
+use Rattle.fc_spec.specs.ValidQueries.{QueryFits, ClausesFit}
 
 -- the value is a text exactly where texts are held
 abbrev pub IsBoundOf : Bool → Bound → Type 0
@@ -9,16 +11,17 @@ IsBoundOf texts unbounded = Unit {0}
 IsBoundOf texts (including v) = is_text v ≡ texts
 IsBoundOf texts (excluding v) = is_text v ≡ texts
 
-abbrev mutual
-  -- for each field whether it holds texts: the query's fields are there, and each value and bound is a text exactly where its field holds texts
-  pub FitsFields : List Bool → Query → Type 0
-  FitsFields texts all = Unit {0}
-  FitsFields texts (has field) = field < length texts
-  FitsFields texts (is field v) = (field < length texts) × (is_text v ≡ slice_index_or texts field false)
-  FitsFields texts (between field low high) =
-      (field < length texts) × IsBoundOf (slice_index_or texts field false) low × IsBoundOf (slice_index_or texts field false) high
-  FitsFields texts (group cs) = AllFitFields texts cs
+-- for each field whether it holds texts: the field is there
+abbrev pub HasField : List Bool → ℕ → Type 0
+HasField texts field = field < length texts
 
-  pub AllFitFields : List Bool → Clauses → Type 0
-  AllFitFields texts no_clauses = Unit {0}
-  AllFitFields texts (clause need q cs) = FitsFields texts q × AllFitFields texts cs
+-- and the value is a text exactly where the field holds texts
+abbrev pub HasValue : List Bool → ℕ → Val → Type 0
+HasValue texts field v = HasField texts field × (is_text v ≡ slice_index_or texts field false)
+
+-- the query's fields are there, and each value and bound is a text exactly where its field holds texts
+abbrev pub FitsFields : List Bool → Query → Type 0
+FitsFields texts = QueryFits (HasField texts) (HasValue texts)
+
+abbrev pub AllFitFields : List Bool → Clauses → Type 0
+AllFitFields texts = ClausesFit (HasField texts) (HasValue texts)

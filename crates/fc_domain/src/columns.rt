@@ -5,7 +5,7 @@ ghost use Rattle.fc_spec.specs.Lists.{is_empty};
 ghost use Rattle.fc_spec.specs.Val.{has_val};
 ghost use Rattle.fc_base.specs.View.{val_view};
 ghost use Rattle.fc_query.specs.QueryView.{bound_view};
-ghost use Rattle.fc_segment.specs.Building.{is_text};
+ghost use Rattle.fc_spec.specs.Columns.{is_text};
 ghost use Rattle.fc_segment.specs.Columns.{column_values, is_text_column};
 ghost use Rattle.fc_domain.specs.FieldsFit.{IsBoundOf};
 ghost use Rattle.fc_domain.specs.Within.{has_meeting};

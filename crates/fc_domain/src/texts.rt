@@ -7,7 +7,7 @@ ghost use Rattle.fc_spec.specs.Val as definition;
 ghost use Rattle.fc_base.specs.View.{val_view};
 ghost use Rattle.fc_column.specs.Terms.{has_text, terms_below};
 ghost use Rattle.fc_query.specs.QueryView.{bound_view};
-ghost use Rattle.fc_segment.specs.Building.{is_text};
+ghost use Rattle.fc_spec.specs.Columns.{is_text};
 ghost use Rattle.fc_domain.specs.FieldsFit.{IsBoundOf};
 ghost use Rattle.fc_domain.specs.Within.{has_meeting};
 

@@ -1,5 +1,6 @@
 -- The front of a row whose characters pass a test, and what is left behind it.
 use Rattle.std.proofs.Common.{◌≡◌, ◌∙◌, ap, refl, sym, ℕ, suc, List, [], ◌∷◌, ◌++◌, take, drop, Bool, false, true, None, Some, ◌&&◌, arith, append_assoc}
+use Rattle.std.proofs.Math.Bool.{and_assoc}
 use Rattle.std.specs.Prelude.{slice_get}
 use Rattle.std.specs.Char.{encode_utf8}
 use Rattle.std.specs.List.{list_all, prefix_len, take_while}
@@ -28,10 +29,6 @@ left_goes_on p c cs e h = sym (ap (behind p) (first_and_rest c cs e) ∙ ap (λ 
 pub text_goes_on : (p : Character → Bool) (c : Character) (cs : List Character) (text : List ℕ) → slice_get cs 0 ≡ Some c → p c ≡ true
     → (text ++ encode_utf8 (code c)) ++ text_of (take_while p (drop 1 cs)) ≡ text ++ text_of (take_while p cs)
 text_goes_on p c cs text e h = append_assoc text (encode_utf8 (code c)) (text_of (take_while p (drop 1 cs))) ∙ ap (λ ds. text ++ text_of ds) (sym (front_goes_on p c cs e h))
-
-and_assoc : (a b c : Bool) → ((a && b) && c) ≡ (a && (b && c))
-and_assoc true b c = refl
-and_assoc false b c = refl
 
 pub plain_goes_on : (p : Character → Bool) (c : Character) (cs : List Character) (plain : Bool) → slice_get cs 0 ≡ Some c → p c ≡ true
     → ((plain && is_bare c) && list_all is_bare (take_while p (drop 1 cs))) ≡ (plain && list_all is_bare (take_while p cs))

@@ -11,7 +11,8 @@ use Rattle.fc_spec.specs.QueryTokens.{Range, Value, word, quoted, range, star}
 use Rattle.fc_spec.specs.QueryTrees.{Atom, plain, everything, nested, Group, no_more, clause}
 use Rattle.fc_spec.specs.QueryForms.{atom_nesting, nesting}
 use Rattle.fc_spec.specs.QueryMeaning.{written_value, bound_of, range_query, value_query, plain_query, field_under, grouped, clauses_query, atom_query, group_query, tree_query, mixes, has_unknown, need_of, next_operator}
-use Rattle.fc_spec.specs.ValidQueries.{is_of_type, IsFieldValue, IsFieldBound, FitsSchema, AllFitSchema, depth, clauses_depth, IsValidQuery}
+use Rattle.fc_spec.specs.ValidBlocks.{is_of_type}
+use Rattle.fc_spec.specs.ValidQueries.{IsFieldValue, IsFieldBound, FitsSchema, AllFitSchema, depth, clauses_depth, IsValidQuery}
 use Rattle.fc_spec.proofs.Present.{bound, either, mapped, weaker}
 
 -- an integer that a text spells has 64 bits

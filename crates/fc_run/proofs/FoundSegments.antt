@@ -11,7 +11,8 @@ use Rattle.fc_spec.specs.Base.{meets_base}
 use Rattle.fc_spec.specs.Document.{Document, Block, values_of}
 use Rattle.fc_spec.specs.Lists.{joined}
 use Rattle.fc_spec.specs.Request.{Request}
-use Rattle.fc_spec.specs.Totals.{documents_of, documents_in, document_total}
+use Rattle.fc_spec.specs.Totals.{documents_in, document_total}
+use Rattle.fc_spec.proofs.BlockTotals.{documents_in-append, document_total-append}
 use Rattle.fc_segment.specs.Segmented.{Segmented}
 use Rattle.fc_run.specs.Fitting.{AreDifferentIn}
 use Rattle.fc_run.specs.Found.{asked_values, Finds}
@@ -24,18 +25,12 @@ use Rattle.fc_run.proofs.TallySteps.{Counts-append, Counts-none, HasRoom-front, 
 
 -- ---- the documents of blocks and of others behind them
 
-documents_in-append : (bs cs : List Block) → documents_in (bs ++ cs) ≡ documents_in bs ++ documents_in cs
-documents_in-append bs cs = flat_map-append documents_of bs cs
-
 root_documents-append : (r : Request) (bs cs : List Block) → root_documents r (bs ++ cs) ≡ root_documents r bs ++ root_documents r cs
 root_documents-append r bs cs = ap (filter (meets_base r [])) (documents_in-append bs cs) ∙ filter-append (meets_base r []) (documents_in bs) (documents_in cs)
 
 asked_values-append : (facet : Option Facet) (ds es : List Document) → asked_values facet (ds ++ es) ≡ asked_values facet ds ++ asked_values facet es
 asked_values-append None ds es = refl
 asked_values-append (Some f) ds es = flat_map-append (λ d. values_of d f.1) ds es
-
-document_total-append : (bs cs : List Block) → document_total (bs ++ cs) ≡ document_total bs + document_total cs
-document_total-append bs cs = ap length (documents_in-append bs cs) ∙ length-append (documents_in bs) (documents_in cs)
 
 root_total : (r : Request) (bs : List Block) → length (root_documents r bs) ≤ document_total bs
 root_total r bs = omega (arith, length-filter (meets_base r []) (documents_in bs), count_by-le-length (meets_base r []) (documents_in bs))

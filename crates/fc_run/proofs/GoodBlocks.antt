@@ -2,21 +2,20 @@
 use Rattle.std.proofs.Common.{◌≡◌, ℕ, suc, ◌+◌, ◌<◌, ◌≤◌, List, [], ◌∷◌, length, get_or, All, Bool, true, false, cond, refl, sym, ◌∙◌, ap, subst, inl, inr, arith}
 use Rattle.std.specs.Prelude.{AllPairs}
 use Rattle.std.specs.List.{count_by}
-use Rattle.std.specs.Ordering.{is_lt}
+use Rattle.std.specs.List.Sorted.{IsStrictlySortedBy}
 use Rattle.std.specs.declared.cmp.Ordering.TheVariants.{Less}
 use Rattle.std.proofs.lemmas.Bool.{cases_lt}
 use Rattle.std.proofs.lemmas.List.{get_or_past}
-use Rattle.std.proofs.lemmas.List.Concat.{flat_map-cons}
-use Rattle.std.proofs.lemmas.List.Elements.{All-append, All-cons, All-nil, All-head, All-tail, All-weaker}
-use Rattle.std.proofs.lemmas.List.Sums.{sum_by-cons}
+use Rattle.std.proofs.lemmas.List.Elements.{All-weaker}
 use Rattle.std.proofs.lemmas.Option.{slice_get-get_or}
 use Rattle.fc_spec.specs.Val.{Val, val_cmp, same_val, has_val}
 use Rattle.fc_spec.specs.Document.{Document, Block, values_of}
 use Rattle.fc_spec.specs.Schema.{string, Field, Schema}
-use Rattle.fc_spec.specs.Totals.{documents_of, documents_in}
+use Rattle.fc_spec.specs.Totals.{documents_in}
 use Rattle.fc_spec.specs.ValidBlocks.{IsBlockOf, IsDocumentOf}
-use Rattle.fc_spec.proofs.Members.{Every}
-use Rattle.fc_spec.proofs.Ascending.{IsAscending, is_under, not_among}
+use Rattle.fc_spec.proofs.Ascending.{IsUnder, not_among}
+use Rattle.fc_spec.proofs.BlockTotals.{valid_documents}
+use Rattle.fc_spec.proofs.Counting.{count_by-cons}
 use Rattle.fc_spec.proofs.ValOrder.{same_val_exact}
 use Rattle.fc_run.specs.Fitting.{AreDifferentIn}
 use Rattle.fc_run.specs.PlainReply.{AreDifferent}
@@ -24,22 +23,24 @@ use Rattle.fc_run.proofs.TallyCounts.{list_any-false}
 
 -- ---- ascending values
 
-all_above : (v : Val) (vs : List Val) → ((j : ℕ) (d : Val) → j < length vs → val_cmp v (get_or vs j d) ≡ Less) → Every (is_under v) vs
+all_above : (v : Val) (vs : List Val) → ((j : ℕ) (d : Val) → j < length vs → val_cmp v (get_or vs j d) ≡ Less) → IsUnder v vs
 all_above v [] above = tt
-all_above v (w ∷ ws) above = (ap is_lt (above 0 v (omega arith)), all_above v ws (λ j d within. above (suc j) d (omega arith)))
+all_above v (w ∷ ws) above = (above 0 v (omega arith), all_above v ws (λ j d within. above (suc j) d (omega arith)))
 
-by_recursion : (vs : List Val) → AllPairs (λ low high. val_cmp low high ≡ Less) vs → IsAscending vs
+by_recursion : (vs : List Val) → AllPairs (λ low high. val_cmp low high ≡ Less) vs → IsStrictlySortedBy val_cmp vs
+unfolding IsStrictlySortedBy
 by_recursion [] pairs = tt
 by_recursion (v ∷ vs) pairs =
     (all_above v vs (λ j d within. pairs 0 (suc j) d (omega arith) (omega arith)), by_recursion vs (λ i j d before within. pairs (suc i) (suc j) d (omega arith) (omega arith)))
 
 -- ascending values are different
-different_ascending : (vs : List Val) → IsAscending vs → AreDifferent vs
+different_ascending : (vs : List Val) → IsStrictlySortedBy val_cmp vs → AreDifferent vs
+unfolding IsStrictlySortedBy
 different_ascending [] a v = omega arith
 different_ascending (w ∷ ws) a v = go (same_val v w) refl (different_ascending ws a.1 v)
   where
     cons : count_by (same_val v) (w ∷ ws) ≡ cond (same_val v w) 1 0 + count_by (same_val v) ws
-    cons = sum_by-cons (λ y. cond (same_val v y) 1 0) w ws
+    cons = count_by-cons (same_val v) w ws
 
     go : (b : Bool) → same_val v w ≡ b → count_by (same_val v) ws ≤ 1 → count_by (same_val v) (w ∷ ws) ≤ 1
     go true e ih =
@@ -62,13 +63,5 @@ different_values s d field valid =
       | inr beyond ↦ subst AreDifferent (sym (get_or_past d field [] (let lists = valid.lists in omega arith))) no_values
     ]
 
-documents_valid : (s : Schema) (blocks : List Block) → All (IsBlockOf s) blocks → All (IsDocumentOf s) (documents_in blocks)
-documents_valid s [] valid = All-nil (IsDocumentOf s)
-documents_valid s (b ∷ bs) valid =
-    let first = All-head (IsBlockOf s) b bs valid in
-    let parent = All-cons (IsDocumentOf s) b.parent [] first.parent (All-nil (IsDocumentOf s)) in
-    rw (flat_map-cons documents_of b bs)
-    (All-append (IsDocumentOf s) (documents_of b) (documents_in bs) (All-append (IsDocumentOf s) b.children (b.parent ∷ []) first.children parent) (documents_valid s bs (All-tail (IsBlockOf s) b bs valid)))
-
 pub blocks_different : (s : Schema) (blocks : List Block) → All (IsBlockOf s) blocks → AreDifferentIn blocks
-blocks_different s blocks valid field = All-weaker (IsDocumentOf s) (λ d. AreDifferent (values_of d field)) (λ d document. different_values s d field document) (documents_in blocks) (documents_valid s blocks valid)
+blocks_different s blocks valid field = All-weaker (IsDocumentOf s) (λ d. AreDifferent (values_of d field)) (λ d document. different_values s d field document) (documents_in blocks) (valid_documents s blocks valid)

@@ -1,18 +1,18 @@
 -- What a search asks of an index, and what a commit asks of it.
-use Rattle.std.proofs.Common.{◌≡◌, ◌+◌, ◌<◌, ◌≤◌, List, [], ◌∷◌, ◌++◌, length, All, Option, None, Some, IfSome, sym, ap, subst, arith, length-append}
+use Rattle.std.proofs.Common.{◌≡◌, ◌+◌, ◌<◌, ◌≤◌, List, [], ◌∷◌, ◌++◌, length, All, Option, None, Some, IfSome, sym, ap, subst, arith}
 use Rattle.std.proofs.lemmas.List.{length-map}
-use Rattle.std.proofs.lemmas.List.Concat.{flat_map-append}
 use Rattle.std.proofs.lemmas.List.Elements.{All-cons, All-nil, All-head, All-tail, All-weaker}
 use Rattle.fc_spec.specs.Document.{Block}
-use Rattle.fc_spec.specs.Schema.{Schema}
+use Rattle.fc_spec.specs.Schema.{Schema, holds_texts, texts_held}
 use Rattle.fc_spec.specs.Lists.{joined}
-use Rattle.fc_spec.specs.Totals.{documents_of, documents_in, document_total}
-use Rattle.fc_spec.specs.ValidBlocks.{holds_texts, IsBlockOf}
+use Rattle.fc_spec.specs.Totals.{document_total}
+use Rattle.fc_spec.specs.ValidBlocks.{IsBlockOf}
 use Rattle.fc_spec.specs.ValidQueries.{IsValidQuery}
+use Rattle.fc_spec.proofs.BlockTotals.{document_total-append}
 use Rattle.fc_query.specs.QueryView.{query_view}
 use Rattle.fc_domain.specs.FieldsFit.{FitsFields}
 use Rattle.fc_domain.proofs.SchemaFits.{fields_fit, texts_held}
-use Rattle.fc_run.specs.Fitting.{AreDifferentIn, Fits}
+use Rattle.fc_run.specs.Fitting.{AreDifferentIn, Fits, IsValidRequest}
 use Rattle.fc_script.specs.ValidRequests.{IsValidRequest}
 use Rattle.fc_run.specs.Running.{blocks_in, shard_view, HasKinds, IsIndexOf}
 use Rattle.fc_script.specs.declared.request.facet.Facet.{Facet}
@@ -30,12 +30,6 @@ All-end : {X : Type 0} (P : X → Type 0) (xs ys : List X) → All P (xs ++ ys) 
 All-end P [] ys all = all
 All-end P (x ∷ xs) ys all = All-end P xs ys (All-tail P x (xs ++ ys) all)
 
-parts_total : (xs ys : List Block) → document_total (xs ++ ys) ≡ document_total xs + document_total ys
-parts_total xs ys =
-    let split = ap (λ ds. length ds) (flat_map-append documents_of xs ys) in
-    let both = length-append (documents_in xs) (documents_in ys) in
-    omega arith
-
 -- ---- a commit
 
 pub waiting_valid : (s : Schema) (shard : Shard) → IsIndexOf s shard → All (IsBlockOf s) (shard_view shard).waiting
@@ -43,7 +37,7 @@ waiting_valid s shard index = All-end (IsBlockOf s) (joined (shard_view shard).c
 
 pub waiting_few : (s : Schema) (shard : Shard) → IsIndexOf s shard → document_total (shard_view shard).waiting ≤ 1_048_576
 waiting_few s shard index =
-    let total = parts_total (joined (shard_view shard).committed) (shard_view shard).waiting in
+    let total = document_total-append (joined (shard_view shard).committed) (shard_view shard).waiting in
     let few = index.few in
     omega arith
 
@@ -54,7 +48,7 @@ committed_different s shard index = blocks_different s (joined (shard_view shard
 
 pub committed_few : (s : Schema) (shard : Shard) → IsIndexOf s shard → document_total (joined (shard_view shard).committed) ≤ 1_048_576
 committed_few s shard index =
-    let total = parts_total (joined (shard_view shard).committed) (shard_view shard).waiting in
+    let total = document_total-append (joined (shard_view shard).committed) (shard_view shard).waiting in
     let few = index.few in
     omega arith
 
@@ -80,5 +74,5 @@ pub index_now : (s : Schema) (shard : Shard) (more all : List Block) → HasKind
 index_now s shard more all kinds is valid few = record {
   kinds = kinds;
   blocks = All-front (IsBlockOf s) (blocks_in (shard_view shard)) more (subst (All (IsBlockOf s)) (sym is) valid);
-  few = let total = parts_total (blocks_in (shard_view shard)) more in let same = ap document_total is in omega arith;
+  few = let total = document_total-append (blocks_in (shard_view shard)) more in let same = ap document_total is in omega arith;
 }

@@ -1,7 +1,6 @@
 pub mod DistinctValues
 pub mod GoodBlocks
 pub mod IndexPremises
-pub mod IndexOrder
 pub mod NoFloats
 pub mod PlainKeys
 pub mod PlainPlaces

@@ -1,8 +1,8 @@
 -- What depends on the number of earlier lines that pass a test is told line by line.
 use Rattle.std.proofs.Common.{◌≡◌, ℕ, ◌+◌, ◌≤◌, List, [], ◌∷◌, ◌++◌, length, take, Bool, true, false, cond, count_by, Option, None, Some, refl, sym, ◌∙◌, ap, arith, append_assoc, length-append}
 use Rattle.std.specs.List.{filter_map, cons_option, enumerate_from}
-use Rattle.std.proofs.lemmas.List.Sums.{sum_by_push, sum_by-cons}
 use Rattle.fc_spec.specs.Script.{Line, earlier}
+use Rattle.fc_spec.proofs.Counting.{count_by-cons, count_by-push}
 
 -- the number with one more where the test passes
 abbrev pub counted : Bool → ℕ → ℕ
@@ -42,10 +42,10 @@ first_counted true n = omega arith
 first_counted false n = omega arith
 
 pub count_first : {A : Type 0} (test : Line A → Bool) (x : Line A) (xs : List (Line A)) → count_by test (x ∷ xs) ≡ counted (test x) (count_by test xs)
-count_first test x xs = sum_by-cons (λ y. cond (test y) 1 0) x xs ∙ first_counted (test x) (count_by test xs)
+count_first test x xs = count_by-cons test x xs ∙ first_counted (test x) (count_by test xs)
 
 pub one_more : {A : Type 0} (test : Line A → Bool) (front : List (Line A)) (x : Line A) → count_by test (front ++ x ∷ []) ≡ counted (test x) (count_by test front)
-one_more test front x = sum_by_push (λ y. cond (test y) 1 0) front x ∙ last_counted (test x) (count_by test front)
+one_more test front x = count_by-push test front x ∙ last_counted (test x) (count_by test front)
 
 counted_sum : (b : Bool) (c n : ℕ) → counted b c + n ≡ c + counted b n
 counted_sum true c n = omega arith
@@ -88,7 +88,7 @@ count_by_numbered p test front [] = refl
 count_by_numbered p test front (x ∷ xs) =
     let rest = sym (λ i. count_by (λ n. p (earlier test (moved front x xs i) n.0) n.1) (enumerate_from (length_moved front x i) xs))
     ∙ count_by_numbered p test (front ++ x ∷ []) xs ∙ ap (λ c. walk_count p test c xs) (one_more test front x) in
-    sum_by-cons (λ n. cond (p (earlier test (front ++ x ∷ xs) n.0) n.1) 1 0) (length front, x) (enumerate_from (length front + 1) xs)
+    count_by-cons (λ n. p (earlier test (front ++ x ∷ xs) n.0) n.1) (length front, x) (enumerate_from (length front + 1) xs)
     ∙ (λ i. cond (p (earlier_here test front (x ∷ xs) i) x) 1 0 + rest i) ∙ first_counted (p (count_by test front) x) _
 
 -- ---- two lists of lines

@@ -1,12 +1,12 @@
 -- The keys that a terms facet without a limit prints in index order: the different values of its field, each once.
-use Rattle.std.specs.Prelude.{◌≡◌, ℕ, suc, List, [], ◌∷◌, ◌++◌, length, map, Bool, true, false, cond, not, ◌||◌, nat_le, None, AllPairs}
-use Rattle.std.specs.List.{filter, list_any, AllByRecursion}
+use Rattle.std.specs.Prelude.{◌≡◌, ℕ, suc, List, [], ◌∷◌, ◌++◌, length, map, true, not, ◌||◌, nat_le, None, AllPairs}
+use Rattle.std.specs.List.{list_any, AllByRecursion}
 use Rattle.std.specs.List.Sorted.{IsStrictlySortedBy}
 use Rattle.std.specs.Ordering.{is_lt, ordering_then}
 use Rattle.std.specs.declared.cmp.Ordering.TheVariants.{Less}
 use Rattle.std.proofs.Common.{refl, sym, ◌∙◌, ap, arith, append-nil}
 use Rattle.std.proofs.Math.Bool.{and-true}
-use Rattle.std.proofs.lemmas.Bool.{ne_eqb, le-leb}
+use Rattle.std.proofs.lemmas.Bool.{le-leb}
 use Rattle.std.proofs.lemmas.List.Elements.{All-weaker, All-from_recursion, recursion_from_All}
 use Rattle.std.proofs.lemmas.List.Folds.{list_any-append}
 use Rattle.std.proofs.lemmas.List.Kept.{AllPairs-cons}
@@ -16,30 +16,18 @@ use Rattle.fc_spec.specs.Val.{Val, val_cmp, same_val, has_val, distinct}
 use Rattle.fc_spec.specs.Document.{values_of}
 use Rattle.fc_spec.specs.Lists.{is_empty}
 use Rattle.fc_spec.specs.World.{Place}
-use Rattle.fc_spec.specs.Request.{by_index, Terms, terms}
+use Rattle.fc_spec.specs.Request.{terms}
 use Rattle.fc_spec.specs.Buckets.{value, in_bucket}
 use Rattle.fc_spec.specs.Statistics.{pair_values, stats_over}
 use Rattle.fc_spec.specs.Ranks.{Entry, is_ahead, page}
 use Rattle.fc_spec.specs.Values.{value_places, values_in, entries_in}
 use Rattle.fc_spec.specs.Printed.{terms_keys}
 use Rattle.fc_spec.specs.SortingLaw.{IsSortOf, PagesAreCuts}
-use Rattle.fc_run.proofs.IndexOrder.{same_val_equiv}
-use Rattle.fc_run.proofs.DistinctValues.{has_val-distinct, distinct_ascends}
-
--- the facet over every value of the field
-abbrev pub every_value : ℕ → Terms
-every_value field = record {
-  field = field;
-  offset = 0;
-  limit = None;
-  sort = record { by = by_index; descending = false };
-  mincount = 1;
-  missing = false;
-  prefix = None;
-  refine = false;
-  overrequest = 0;
-  overrefine = 0;
-}
+use Rattle.fc_run.specs.Requests.{every_value}
+use Rattle.fc_spec.proofs.Ascending.{has_val-distinct, distinct_ascends}
+use Rattle.fc_spec.proofs.FoundValues.{not-is_empty-filter}
+use Rattle.fc_spec.proofs.Members.{filter_every}
+use Rattle.fc_spec.proofs.ValOrder.{same_val_equiv}
 
 -- the entry of a value in some places
 abbrev entry_in : ℕ → List Place → Val → Entry
@@ -49,15 +37,6 @@ entry_in field Q v = record { val = v; stats = stats_over [] (value_places (ever
 le_one-length : {X : Type 0} (xs : List X) → not (is_empty xs) ≡ true → nat_le 1 (length xs) ≡ true
 le_one-length [] h = cc
 le_one-length (x ∷ xs) h = le-leb 1 (suc (length xs)) (omega arith)
-
--- some member passes exactly where the filter is not empty
-not-is_empty-filter : {X : Type 0} (q : X → Bool) (xs : List X) → not (is_empty (filter q xs)) ≡ list_any q xs
-not-is_empty-filter q [] = refl
-not-is_empty-filter q (x ∷ xs) = go (q x) (not-is_empty-filter q xs)
-  where
-    go : (b : Bool) → not (is_empty (filter q xs)) ≡ list_any q xs → not (is_empty (cond b (x ∷ filter q xs) (filter q xs))) ≡ (b || list_any q xs)
-    go true ih = ap not (ne_eqb (suc (length (filter q xs))) 0 (λ e. omega arith))
-    go false ih = ih
 
 -- some place's document has the value exactly where it is among the values of all
 has_val-pair_values : (field : ℕ) (v : Val) (Q : List Place) → list_any (λ p. in_bucket (terms (every_value field)) (value v) p.document) Q ≡ has_val v (pair_values field Q)
@@ -77,13 +56,8 @@ all_found field Q =
     let HasPlace : Val → Type 0 = λ v. not (is_empty (value_places (every_value field) v Q)) ≡ true in
     recursion_from_All HasPlace D (All-weaker (λ v. has_val v D ≡ true) HasPlace (λ v h. found field Q v ∙ h) D (All-is_member same_val_equiv D))
 
--- a filter that each member passes keeps all
-filter_all : {X : Type 0} (q : X → Bool) (xs : List X) → AllByRecursion (λ x. q x ≡ true) xs → filter q xs ≡ xs
-filter_all q [] h = refl
-filter_all q (x ∷ xs) h = ap (λ b. cond b (x ∷ filter q xs) (filter q xs)) h.0 ∙ ap (λ ys. x ∷ ys) (filter_all q xs h.1)
-
 values_in_are : (field : ℕ) (Q : List Place) → values_in (every_value field) Q ≡ distinct (pair_values field Q)
-values_in_are field Q = filter_all (λ v. not (is_empty (value_places (every_value field) v Q))) (distinct (pair_values field Q)) (all_found field Q)
+values_in_are field Q = filter_every (λ v. not (is_empty (value_places (every_value field) v Q))) (distinct (pair_values field Q)) (all_found field Q)
 
 -- each entry counts at least one place
 all_counted : (field : ℕ) (Q : List Place) (vs : List Val) → AllByRecursion (λ v. not (is_empty (value_places (every_value field) v Q)) ≡ true) vs
@@ -117,7 +91,7 @@ terms_keys_are pages field Q =
     let V = map (entry_in field Q) D in
     let sorted : IsSortOf t.sort V V = record { members = IsPermutation-refl V; ahead = all_ahead field Q D (distinct_ascends (pair_values field Q)) } in
     ap (λ vs. terms_keys t (map (entry_in field Q) vs)) (values_in_are field Q)
-    ∙ ap (λ es. map (λ e. value e.val) (page t.sort 0 None es) ++ []) (filter_all (λ e. nat_le 1 e.stats.count) V (all_counted field Q D (all_found field Q)))
+    ∙ ap (λ es. map (λ e. value e.val) (page t.sort 0 None es) ++ []) (filter_every (λ e. nat_le 1 e.stats.count) V (all_counted field Q D (all_found field Q)))
     ∙ append-nil (map (λ e. value e.val) (page t.sort 0 None V))
     ∙ ap (map (λ e. value e.val)) (pages t.sort 0 None V V sorted)
     ∙ keys_of_entries field Q D

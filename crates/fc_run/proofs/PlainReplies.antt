@@ -20,10 +20,12 @@ use Rattle.fc_spec.specs.Printed.{terms_keys}
 use Rattle.fc_spec.specs.SortingLaw.{PagesAreCuts}
 use Rattle.fc_spec.specs.WithoutLimits.{IsExactWithoutLimits}
 use Rattle.fc_script.specs.Requests.{one_facet}
-use Rattle.fc_run.specs.PlainReply.{root_documents, documents_with, value_counts, counted_row, counted_reply, IsPlainOnOneShard}
+use Rattle.fc_run.specs.PlainReply.{root_documents, documents_with, value_counts, counted_row, counted_reply, IsPlainOnOneShard, built_request}
 use Rattle.fc_script.specs.Requests.{built_request}
 use Rattle.fc_run.proofs.PlainPlaces.{documents_at, documents_at-places, flat_map-documents_at, documents_at-filter, filter_true}
 use Rattle.fc_run.proofs.PlainKeys.{every_value, terms_keys_are}
+use Rattle.fc_spec.proofs.Counting.{filter-all}
+use Rattle.fc_spec.proofs.PlacedDocuments.{documents_at, documents_at-places}
 
 -- the number of places of a value is that of the documents that have it
 length-value_places : (field : ℕ) (v : Val) (Q : List Place) → length (value_places (every_value field) v Q) ≡ documents_with field (documents_at Q) v
@@ -43,7 +45,7 @@ row_is field Q (v ∷ vs) = λ i. part listed (bucket (Some v) (length-value_pla
 facets_are : PagesAreCuts → (r : Request) (W : World) (name : Text) (field : ℕ) (Q : List Place)
     → exact_facets r W (one_facet name field) Q ≡ cond (length Q == 0) no_facets (many name (counted_row (value_counts field (documents_at Q))) no_facets)
 facets_are pages r W name field Q =
-    (λ i. cond (and-true (length Q == 0) i) no_facets (printed (filter_true Q i)))
+    (λ i. cond (and-true (length Q == 0) i) no_facets (printed (filter-all Q i)))
     ∙ ap (λ row. cond (length Q == 0) no_facets (many name row no_facets)) row
   where
     t : Terms

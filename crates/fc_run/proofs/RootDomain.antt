@@ -6,11 +6,13 @@ use Rattle.std.proofs.Math.Bool.{and-true, and_assoc}
 use Rattle.std.proofs.lemmas.List.{take_all, take_more}
 use Rattle.std.proofs.lemmas.List.Folds.{list_all-append}
 use Rattle.fc_docset.specs.Positions.{zip_with}
+use Rattle.fc_docset.proofs.BitLists.{zip_with-map}
 use Rattle.fc_spec.specs.Val.{Text, same_text}
 use Rattle.fc_spec.specs.Base.{meets_base}
 use Rattle.fc_spec.specs.Document.{Document}
 use Rattle.fc_spec.specs.Matching.{matches}
 use Rattle.fc_spec.specs.Query as definition
+use Rattle.fc_spec.proofs.MappedLists.{map-same}
 use Rattle.fc_query.specs.FilterView.{filter_view}
 use Rattle.fc_query.specs.QueryView.{query_view}
 use Rattle.fc_query.specs.declared.filter.Filter.{Filter}
@@ -21,21 +23,13 @@ use Rattle.fc_script.specs.declared.request.Request.{Request}
 abbrev pub meets_first : definition.Query → List Filter → Document → Bool
 meets_first q fs d = matches q d && list_all (λ f. matches (query_view f.query) d) fs
 
-map-same : {X Y : Type 0} (f g : X → Y) → ((x : X) → f x ≡ g x) → (xs : List X) → map f xs ≡ map g xs
-map-same f g same [] = refl
-map-same f g same (x ∷ xs) = λ i. same x i ∷ map-same f g same xs i
-
-zip_with-map : {X : Type 0} (join : Bool → Bool → Bool) (f g : X → Bool) (xs : List X) → zip_with join (map f xs) (map g xs) ≡ map (λ x. join (f x) (g x)) xs
-zip_with-map join f g [] = refl
-zip_with-map join f g (x ∷ xs) = ap (λ l. join (f x) (g x) ∷ l) (zip_with-map join f g xs)
-
 -- one more filter
 pub meets_first-more : (q : definition.Query) (fs : List Filter) (i : ℕ) (f : Filter) (ds : List Document) (docs kept : List Bool)
     → docs ≡ map (meets_first q (take i fs)) ds → kept ≡ map (matches (query_view f.query)) ds → i < length fs → f ≡ get_or fs i f
     → zip_with ◌&&◌ docs kept ≡ map (meets_first q (take (i + 1) fs)) ds
 meets_first-more q fs i f ds docs kept so_far is within at =
     (λ j. zip_with ◌&&◌ (so_far j) (is j)) ∙ zip_with-map ◌&&◌ (meets_first q (take i fs)) (matches (query_view f.query)) ds
-    ∙ map-same (λ d. meets_first q (take i fs) d && matches (query_view f.query) d) (meets_first q (take (i + 1) fs)) more ds
+    ∙ map-same (λ d. meets_first q (take i fs) d && matches (query_view f.query) d) (meets_first q (take (i + 1) fs)) ds more
   where
     more : (d : Document) → (meets_first q (take i fs) d && matches (query_view f.query) d) ≡ meets_first q (take (i + 1) fs) d
     more d =
@@ -60,4 +54,4 @@ pub meets_first-all : (r : Request) (i : ℕ) (ds : List Document) (docs : List 
     → length r.filters.items ≤ i → docs ≡ map (meets_base (request_view r) []) ds
 meets_first-all r i ds docs so_far past =
     so_far ∙ ap (λ fs. map (meets_first (query_view r.query) fs) ds) (take_all i r.filters.items past)
-    ∙ map-same (meets_first (query_view r.query) r.filters.items) (meets_base (request_view r) []) (λ d. ap (λ b. matches (query_view r.query) d && b) (each_filter d r.filters.items)) ds
+    ∙ map-same (meets_first (query_view r.query) r.filters.items) (meets_base (request_view r) []) ds (λ d. ap (λ b. matches (query_view r.query) d && b) (each_filter d r.filters.items))

@@ -9,12 +9,15 @@ use Rattle.std.proofs.Common.{refl, sym, ◌∙◌, ap, subst, arith, zero-add}
 use Rattle.std.proofs.lemmas.Bool.{or_parts}
 use Rattle.std.proofs.lemmas.List.Concat.{flat_map-append}
 use Rattle.std.proofs.lemmas.List.Elements.{All-head, All-tail}
-use Rattle.std.proofs.lemmas.List.Sums.{sum_by-append, sum_by-cons, count_by-le-length}
+use Rattle.std.proofs.lemmas.List.Sums.{sum_by-append, count_by-le-length}
 use Rattle.fc_spec.specs.Val as definition
 use Rattle.fc_spec.specs.Val.{val_cmp, same_val, has_val, distinct}
 use Rattle.fc_spec.specs.Document.{Document, values_of}
 use Rattle.fc_spec.specs.Totals.{documents_of, documents_in}
-use Rattle.fc_spec.proofs.ValOrder.{val_cmp_total, exact_val, same_val_exact}
+use Rattle.fc_spec.specs.ValOrder.{val_cmp_total}
+use Rattle.fc_spec.proofs.Ascending.{has_val-distinct, distinct_ascends}
+use Rattle.fc_spec.proofs.Counting.{count_by-cons}
+use Rattle.fc_spec.proofs.ValOrder.{exact_val, same_val_exact}
 use Rattle.fc_docs.specs.declared.block.Block.{Block}
 use Rattle.fc_docs.specs.View.{block_view}
 use Rattle.fc_run.specs.PlainReply.{values_at, documents_with, value_counts, AreDifferent, HaveDifferentValues}
@@ -22,22 +25,21 @@ use Rattle.fc_run.specs.declared.search.term.Term.{Term}
 use Rattle.fc_run.specs.Term.{term_view}
 use Rattle.fc_run.specs.Tally.{Tally, tally_view, key_cmp, with_more, Counts, HasRoom}
 use Rattle.fc_run.proofs.SameEntries.{same_entries}
-use Rattle.fc_run.proofs.DistinctValues.{has_val-distinct, distinct_ascends}
 
 -- a test that no member passes counts none, and one that some member passes counts one at least
 pub list_any-false : {X : Type 0} (p : X → Bool) (xs : List X) → list_any p xs ≡ false → count_by p xs ≡ 0
 list_any-false p [] h = refl
 list_any-false p (x ∷ xs) h =
     let parts = or_parts (p x) (list_any p xs) h in
-    sum_by-cons (λ y. cond (p y) 1 0) x xs ∙ rw (parts.0, list_any-false p xs parts.1)
+    count_by-cons p x xs ∙ rw (parts.0, list_any-false p xs parts.1)
 
 list_any-true : {X : Type 0} (p : X → Bool) (xs : List X) → list_any p xs ≡ true → 1 ≤ count_by p xs
 list_any-true p [] h = cc
 list_any-true p (x ∷ xs) h = go (p x) refl (list_any-true p xs)
   where
     go : (b : Bool) → p x ≡ b → (list_any p xs ≡ true → 1 ≤ count_by p xs) → 1 ≤ count_by p (x ∷ xs)
-    go true e ih = omega (arith, sum_by-cons (λ y. cond (p y) 1 0) x xs, ap {B = ℕ} (λ b. cond b 1 0) e)
-    go false e ih = omega (arith, sum_by-cons (λ y. cond (p y) 1 0) x xs, ap {B = ℕ} (λ b. cond b 1 0) e, ih (ap (λ b. b || list_any p xs) (sym e) ∙ h))
+    go true e ih = omega (arith, count_by-cons p x xs, ap {B = ℕ} (λ b. cond b 1 0) e)
+    go false e ih = omega (arith, count_by-cons p x xs, ap {B = ℕ} (λ b. cond b 1 0) e, ih (ap (λ b. b || list_any p xs) (sym e) ∙ h))
 
 -- what passes at most once counts as one or none
 count-at_most_once : {X : Type 0} (p : X → Bool) (xs : List X) → count_by p xs ≤ 1 → count_by p xs ≡ cond (list_any p xs) 1 0
@@ -66,7 +68,7 @@ count_by-values_at field (d ∷ ds) h v =
     let Differ : Document → Type 0 = λ e. AreDifferent (values_of e field) in
     sum_by-append (λ w. cond (same_val v w) 1 0) (values_of d field) (values_at field ds)
     ∙ (λ i. count-at_most_once (same_val v) (values_of d field) (All-head Differ d ds h v) i + count_by-values_at field ds (All-tail Differ d ds h) v i)
-    ∙ sym (sum_by-cons (λ e. cond (has_val v (values_of e field)) 1 0) d ds)
+    ∙ sym (count_by-cons (λ e. has_val v (values_of e field)) d ds)
 
 -- an empty tally has room for the values of documents
 pub HasRoom-start : (field : ℕ) (ds : List Document) → HaveDifferentValues field ds → length ds < 2 ^ 64 → (a : Tally) → a.entries ≡ [] → HasRoom a (values_at field ds)

@@ -8,12 +8,22 @@ use Rattle.std.proofs.lemmas.List.Concat.{flat_map-append}
 use Rattle.std.proofs.lemmas.List.Folds.{sum_by-replicate}
 use Rattle.std.proofs.lemmas.List.Sums.{sum_by-append}
 use Rattle.fc_spec.specs.Val as definition
-use Rattle.fc_spec.specs.Val.{val_cmp, same_val}
+use Rattle.fc_spec.specs.Val.{same_val}
 use Rattle.fc_run.specs.declared.search.term.Term.{Term}
+use Rattle.fc_run.specs.declared.search.term.Term.TheVariants.{Text, Long}
 use Rattle.fc_run.specs.Term.{term_view}
 use Rattle.fc_run.specs.Tally.{Tally, number_at, with_more, key_cmp, Counts, HasRoom}
-use Rattle.fc_spec.proofs.ValOrder.{same_val_itself, same_val_exact}
-use Rattle.fc_run.proofs.IndexOrder.{term_of, term_view-term_of, same_val_equiv}
+use Rattle.fc_spec.proofs.ValOrder.{same_val_itself, same_val_exact, same_val_equiv}
+
+-- a term that is seen as v
+term_of : definition.Val → Term
+term_of (definition.text t) = Text (record { ref_ptr = (0, 0); now = t })
+term_of (definition.long n) = Long n
+
+term_view-term_of : (v : definition.Val) → term_view (term_of v) ≡ v
+unfolding term_of
+term_view-term_of (definition.text t) = refl
+term_view-term_of (definition.long n) = refl
 
 -- a value stands n times in its n copies, and no other value does
 pub count_by-copies : (v w : definition.Val) (n : ℕ) → count_by (same_val v) (replicate n w) ≡ cond (same_val v w) n 0

@@ -11,7 +11,7 @@ use Rattle.fc_spec.specs.Columns.{IsAscending}
 use Rattle.fc_spec.proofs.MappedLists.{count_by-map}
 use Rattle.fc_spec.proofs.Counting.{count_by-none}
 use Rattle.fc_column.specs.Terms.{has_text}
-use Rattle.fc_domain.proofs.TextOrder.{same_is_equal}
+use Rattle.fc_spec.proofs.Texts.{equal}
 use Rattle.fc_run.proofs.TallySteps.{count_by-copies}
 use Rattle.fc_run.proofs.TallyCounts.{list_any-false}
 use Rattle.fc_run.proofs.SameCounts.{AreAlike}
@@ -52,7 +52,7 @@ module _ (ts : List Text) where
       go : (b : Bool) → same_text u term ≡ b → count_by (same_val (text u)) (flat_map (copies_in ts) terms) ≡ cond (has_text u terms) (count_by (same_text u) ts) 0
           → cond (same_text u term) (count_by (same_text term) ts) 0 + count_by (same_val (text u)) (flat_map (copies_in ts) terms) ≡ cond (same_text u term || has_text u terms) (count_by (same_text u) ts) 0
       go true e behind =
-          let is = same_is_equal u term e in
+          let is = equal u term e in
           let none = ap (λ t. has_text t terms) is ∙ not_behind term terms sorted in
           let number = ap {B = ℕ} (λ b. cond b (count_by (same_text term) ts) 0) e in
           let others = ap {B = ℕ} (λ b. cond b (count_by (same_text u) ts) 0) none in

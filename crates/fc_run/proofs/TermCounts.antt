@@ -20,18 +20,18 @@ use Rattle.fc_column.proofs.Ascents.{texts_ascend}
 use Rattle.fc_column.proofs.SortedTerms.{place_of_term}
 use Rattle.fc_column.proofs.TermLists.{has_text-terms_of, has_text-flat}
 use Rattle.fc_docset.specs.Positions.{positions}
-use Rattle.fc_domain.proofs.TextOrder.{same_itself, same_is_equal}
+use Rattle.fc_spec.proofs.Texts.{same_itself, equal}
 use Rattle.fc_run.specs.Tally.{picked_values}
-use Rattle.fc_run.proofs.DistinctValues.{distinct_ascends}
+use Rattle.fc_spec.proofs.Ascending.{distinct_ascends}
 use Rattle.fc_run.proofs.PickedValues.{picked_found, flat_map-positions, flat_map-of_map}
 
 -- ---- terms ascend
 insert_text : (t : Text) (vs : List Val) → All IsText vs → All IsText (insert_val (text t) vs)
-insert_text t [] all = All-cons IsText (text t) [] tt all
+insert_text t [] all = All-cons IsText (text t) [] refl all
 insert_text t (v ∷ vs) all = go (val_cmp (text t) v) (insert_text t vs (All-tail IsText v vs all))
   where
     go : (o : Ordering) → All IsText (insert_val (text t) vs) → All IsText (match_ordering o (text t ∷ v ∷ vs) (v ∷ vs) (v ∷ insert_val (text t) vs))
-    go Less behind = All-cons IsText (text t) (v ∷ vs) tt all
+    go Less behind = All-cons IsText (text t) (v ∷ vs) refl all
     go Equal behind = all
     go Greater behind = All-cons IsText v (insert_val (text t) vs) (All-head IsText v vs all) behind
 
@@ -69,7 +69,7 @@ module _ (terms : List Text) (sorted : IsAscending text_cmp terms) where
   ordinal_is k within t found =
       let place = Any-from_list_any (same_text t) terms found in
       let at : get_or terms place.0 [] ≡ t =
-      get_or_default terms place.0 [] place.1 place.2 ∙ place.3 ∙ sym (same_is_equal t place.1 place.4) in
+      get_or_default terms place.0 [] place.1 place.2 ∙ place.3 ∙ sym (equal t place.1 place.4) in
       ap (λ u. count_by (λ term. is_lt (text_cmp term u)) terms == k) (sym at)
       ∙ ap (λ n. n == k) (place_of_term terms sorted place.0 [] place.2)
       ∙ same_place place.0 k place.2 within ∙ ap (same_text (get_or terms k [])) at

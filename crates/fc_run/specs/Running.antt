@@ -3,13 +3,13 @@ use Rattle.std.specs.Prelude.{◌≡◌, ◌≤◌, List, [], ◌∷◌, ◌++�
 use Rattle.fc_spec.specs.Val.{Text}
 use Rattle.fc_spec.specs.Lists.{joined}
 use Rattle.fc_spec.specs.Document.{Block, Batch}
-use Rattle.fc_spec.specs.Schema.{Schema}
+use Rattle.fc_spec.specs.Schema.{Schema, texts_held}
 use Rattle.fc_spec.specs.Request.{Request}
 use Rattle.fc_spec.specs.Script.{add, commit, sync, asks}
 use Rattle.fc_spec.specs.Lines.{reply_line, error_line}
 use Rattle.fc_spec.specs.Outputs.{Replies}
 use Rattle.fc_spec.specs.Totals.{document_total}
-use Rattle.fc_spec.specs.ValidBlocks.{IsBlockOf, holds_texts}
+use Rattle.fc_spec.specs.ValidBlocks.{IsBlockOf}
 use Rattle.fc_docs.specs.View.{block_view}
 use Rattle.fc_script.specs.ReadSoFar.{AskedLine}
 use Rattle.fc_run.specs.declared.shard.Shard.{Shard}
@@ -67,7 +67,7 @@ shard_view shard = record { committed = map (λ segment. segment.blocks) shard.s
 
 -- each segment has a column of the right kind for each field
 abbrev pub HasKinds : Schema → Shard → Type 0
-HasKinds s shard = All (λ segment. segment.texts ≡ map (λ f. holds_texts f.kind) s.fields) shard.segments.items
+HasKinds s shard = All (λ segment. segment.texts ≡ texts_held s.fields) shard.segments.items
 
 -- so it has, its blocks are valid, and there are as few documents as a script may have
 pub record IsIndexOf (s : Schema) (shard : Shard) : Type 0 where

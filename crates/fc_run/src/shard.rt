@@ -1,6 +1,7 @@
 // The one shard of a script, as far as its lines were run.
 ghost use Rattle.std.specs.Prelude.{◌≡◌, ◌≤◌, [], ◌∷◌, ◌++◌, map, All, IfOk};
-ghost use Rattle.fc_spec.specs.ValidBlocks.{IsBlockOf, holds_texts};
+ghost use Rattle.fc_spec.specs.Schema.{texts_held};
+ghost use Rattle.fc_spec.specs.ValidBlocks.{IsBlockOf};
 ghost use Rattle.fc_spec.specs.Totals.{document_total};
 ghost use Rattle.fc_docs.specs.View.{block_view};
 
@@ -46,7 +47,7 @@ impl Shard {
         requires valid { All (IsBlockOf schema.now) (map block_view self.waiting.items) }
         requires few { document_total (map block_view self.waiting.items) ≤ 1_048_576 }
         ensures segments { IfOk result (λ shard. shard.segments.items ≡ self.segments.items ++ record {
-          texts = map (λ f. holds_texts f.kind) schema.now.fields;
+          texts = texts_held schema.now.fields;
           blocks = map block_view self.waiting.items;
         } ∷ []) }
         ensures waiting { IfOk result (λ shard. shard.waiting.items ≡ []) }

@@ -1,13 +1,12 @@
 -- The documents of one block more: what is counted then.
-use Rattle.std.proofs.Common.{◌≡◌, ℕ, ◌+◌, List, [], ◌∷◌, ◌++◌, length, get_or, Bool, true, false, not, ◌||◌, ◌&&◌, Some, None, is_some, Ok, Err, refl, sym, ◌∙◌, ap, append-nil}
-use Rattle.std.specs.Prelude.{nat_le, nat_abs}
-use Rattle.std.specs.List.{flat_map, list_all, list_any, range_with_len, sum_by}
+use Rattle.std.proofs.Common.{◌≡◌, ℕ, ◌+◌, List, [], ◌∷◌, ◌++◌, length, get_or, Bool, true, false, not, ◌||◌, ◌&&◌, Some, None, is_some, Ok, Err, refl, sym, ◌∙◌, ap}
+use Rattle.std.specs.Prelude.{nat_le}
+use Rattle.std.specs.List.{flat_map, list_all, list_any, range_with_len}
+use Rattle.std.proofs.lemmas.Bool.{or_parts}
 use Rattle.std.proofs.lemmas.List.Concat.{flat_map-append}
 use Rattle.std.proofs.lemmas.List.Folds.{list_any-append}
-use Rattle.std.proofs.lemmas.List.Sums.{sum_by-append}
 use Rattle.fc_spec.specs.Val.{Val, same_val, has_val}
 use Rattle.fc_spec.specs.Document.{Document, Block, values_of}
-use Rattle.fc_spec.specs.Columns.{longs_in}
 use Rattle.fc_spec.specs.Schema.{Schema}
 use Rattle.fc_spec.specs.ScriptFault.{LineFault, field_total, too_many_documents}
 use Rattle.fc_spec.specs.ScriptReading.{check_documents}
@@ -22,6 +21,7 @@ use Rattle.fc_script.proofs.NewIds.{among, by_test, new_among, not_by_test}
 
 pub documents_joined : (blocks : List Block) (b : Block) → documents_in (blocks ++ b ∷ []) ≡ documents_in blocks ++ documents_of b
 documents_joined blocks b = flat_map-append documents_of blocks (b ∷ []) ∙ ap (λ ds. documents_in blocks ++ ds) (append-nil (documents_of b))
+use Rattle.fc_spec.proofs.BlockTotals.{documents_in-push}
 
 -- ---- ids
 
@@ -43,15 +43,11 @@ none_known : (r : Bool) → r ≡ not (not r && not false)
 none_known true = refl
 none_known false = refl
 
-both_parts : (a b : Bool) → (a || b) ≡ false → (a ≡ false) × (b ≡ false)
-both_parts true b is = cc
-both_parts false b is = (refl, is)
-
 -- where nothing stands twice, something does with more values behind where these are not new
 has_repeat-append : (xs ys : List Val) → has_repeat xs ≡ false → has_repeat (xs ++ ys) ≡ not (are_new xs ys)
 has_repeat-append [] ys once = none_known (has_repeat ys) ∙ ap (λ m. not (not (has_repeat ys) && not m)) (sym (nothing_known ys))
 has_repeat-append (x ∷ xs) ys once =
-    let parts = both_parts (has_val x xs) (has_repeat xs) once in
+    let parts = or_parts (has_val x xs) (has_repeat xs) once in
     ap (λ h. h || has_repeat (xs ++ ys)) (list_any-append (same_val x) xs ys ∙ ap (λ h. h || has_val x ys) parts.0)
     ∙ ap (λ r. has_val x ys || r) (has_repeat-append xs ys parts.1)
     ∙ behind (has_val x ys) (has_repeat ys) (list_any (λ w. has_val w xs) ys)
@@ -60,18 +56,15 @@ has_repeat-append (x ∷ xs) ys once =
 -- whether an id stands twice
 repeats : (ids : List Val) (blocks : List Block) (b : Block) → AreIdsOf ids blocks → has_repeat (ids_in (documents_in blocks)) ≡ false → has_repeat (ids_in (documents_in (blocks ++ b ∷ []))) ≡ not (are_new ids (ids_of b))
 repeats ids blocks b are once =
-    ap (λ ds. has_repeat (ids_in ds)) (documents_joined blocks b) ∙ ap has_repeat (flat_map-append (λ d. values_of d 0) (documents_in blocks) (documents_of b))
+    ap (λ ds. has_repeat (ids_in ds)) (documents_in-push blocks b) ∙ ap has_repeat (flat_map-append (λ d. values_of d 0) (documents_in blocks) (documents_of b))
     ∙ has_repeat-append (ids_in (documents_in blocks)) (ids_of b) once
     ∙ ap (λ known. not (are_new known (ids_of b))) (sym (ids_joined blocks)) ∙ ap not (sym (new_among ids blocks b are))
 
 -- ---- sums
 
-sum-append : (ds more : List Document) (field : ℕ) → absolute_total (ds ++ more) field ≡ absolute_total ds field + absolute_total more field
-sum-append ds more field = sum_by-append (λ d. sum_by nat_abs (longs_in (values_of d field))) ds more
-
 pub sums_with : (sums : List ℕ) (blocks : List Block) (b : Block) (field : ℕ) → get_or sums field 0 ≡ absolute_total (documents_in blocks) field → get_or sums field 0 + absolute_total (documents_of b) field ≡ absolute_total (documents_in (blocks ++ b ∷ [])) field
 sums_with sums blocks b field is =
-    ap (λ n. n + absolute_total (documents_of b) field) is ∙ sym (sum-append (documents_in blocks) (documents_of b) field) ∙ ap (λ ds. absolute_total ds field) (sym (documents_joined blocks b))
+    ap (λ n. n + absolute_total (documents_of b) field) is ∙ sym (total-append (documents_in blocks) (documents_of b) field) ∙ ap (λ ds. absolute_total ds field) (sym (documents_in-push blocks b))
 
 pub fits_are : (s : Schema) (sums : List ℕ) (blocks : List Block) (b : Block) → length sums ≡ length s.fields → ((field : ℕ) → get_or sums field 0 ≡ absolute_total (documents_in blocks) field)
     → list_all (λ field. nat_le (get_or sums field 0 + absolute_total (documents_of b) field) total_limit) (range_with_len 0 (length sums)) ≡ sums_fit s (documents_in (blocks ++ b ∷ []))

@@ -1,9 +1,8 @@
 -- One line more behind the others: what is counted then.
-use Rattle.std.proofs.Common.{◌≡◌, ℕ, ◌+◌, ◌<◌, ◌≤◌, List, [], ◌∷◌, ◌++◌, length, get_or, Bool, false, cond, None, Some, Result, Vec, Global, refl, sym, ◌∙◌, ap, subst, append-nil, zero-add, arith}
+use Rattle.std.proofs.Common.{◌≡◌, ℕ, ◌+◌, ◌<◌, ◌≤◌, List, [], ◌∷◌, ◌++◌, length, get_or, Bool, false, cond, None, Some, Result, Vec, Global, refl, sym, ◌∙◌, ap, subst, append-nil, arith}
 use Rattle.std.specs.Prelude.{count_by, nat_le, Option, All}
 use Rattle.std.specs.List.{filter_map, list_all, range_with_len}
 use Rattle.std.proofs.lemmas.List.Elements.{All-append, All-cons, All-nil, filter_map-append}
-use Rattle.std.proofs.lemmas.List.Sums.{sum_by-append}
 use Rattle.fc_spec.specs.Val.{Text}
 use Rattle.fc_spec.specs.Document.{Block}
 use Rattle.fc_spec.specs.Request.{Request}
@@ -24,6 +23,7 @@ use Rattle.fc_script.specs.declared.counts.Counts.{Counts}
 use Rattle.fc_script.specs.declared.counts.documents.DocumentCounts.{DocumentCounts}
 use Rattle.fc_script.proofs.InRange.{same_below}
 use Rattle.fc_script.proofs.SessionOrder.{first_ones-append}
+use Rattle.fc_spec.proofs.Counting.{count_by-push}
 
 abbrev Lines : Type 0
 Lines = List AskedLine
@@ -31,10 +31,6 @@ Lines = List AskedLine
 -- what a search asks
 abbrev Asked : Type 0
 Asked = Result Request RequestFault
-
--- how many lines pass a test
-one_more : (p : AskedLine → Bool) (ls : Lines) (l : AskedLine) → count_by p (ls ++ l ∷ []) ≡ count_by p ls + cond (p l) 1 0
-one_more p ls l = sum_by-append (λ x. cond (p x) 1 0) ls (l ∷ []) ∙ ap (λ n. count_by p ls + n) (zero-add (cond (p l) 1 0))
 
 -- ---- blocks
 
@@ -51,18 +47,18 @@ more_is None s = refl
 more_is (Some n) s = refl
 
 pub commits-commit : (ls : Lines) (c : Option ℕ) (s : ℕ) → count_by (commits_shard s) (ls ++ commit c ∷ []) ≡ count_by (commits_shard s) ls + more_at c s
-commits-commit ls c s = one_more (commits_shard s) ls (commit c) ∙ ap (λ n. count_by (commits_shard s) ls + n) (more_is c s)
+commits-commit ls c s = count_by-push (commits_shard s) ls (commit c) ∙ ap (λ n. count_by (commits_shard s) ls + n) (more_is c s)
 
 pub commits-other : (ls : Lines) (l : AskedLine) (s : ℕ) → commits_shard s l ≡ false → count_by (commits_shard s) (ls ++ l ∷ []) ≡ count_by (commits_shard s) ls
-commits-other ls l s none = let more = one_more (commits_shard s) ls l in rw none at more ∙ omega arith
+commits-other ls l s none = let more = count_by-push (commits_shard s) ls l in rw none at more ∙ omega arith
 
 -- ---- syncs
 
 pub syncs-sync : (ls : Lines) → count_by is_sync (ls ++ sync ∷ []) ≡ count_by is_sync ls + 1
-syncs-sync ls = one_more is_sync ls sync
+syncs-sync ls = count_by-push is_sync ls sync
 
 pub syncs-other : (ls : Lines) (l : AskedLine) → is_sync l ≡ false → count_by is_sync (ls ++ l ∷ []) ≡ count_by is_sync ls
-syncs-other ls l none = let more = one_more is_sync ls l in rw none at more ∙ omega arith
+syncs-other ls l none = let more = count_by-push is_sync ls l in rw none at more ∙ omega arith
 
 -- ---- sessions
 

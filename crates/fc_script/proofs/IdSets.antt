@@ -1,5 +1,6 @@
 -- A set of ids, beside the lists of the values that it has.
 use Rattle.std.proofs.Common.{◌≡◌, List, [], ◌∷◌, map, Bool, true, false, not, cond, ◌||◌, Ok, Err, refl, sym, ◌∙◌, ap}
+use Rattle.std.proofs.Math.Bool.{or-false}
 use Rattle.std.specs.List.{list_any}
 use Rattle.std.specs.Ordering.{on}
 use Rattle.std.specs.BTreeMap.{is_at}
@@ -36,13 +37,9 @@ has_val-inserted : (id : Val) (old new : List Val) → HasOneMore id old new →
 has_val-inserted id old new more (text t) = inserted id (Text t) old new more
 has_val-inserted id old new more (long n) = inserted id (Long n) old new more
 
-or_false : (t : Bool) → (t || false) ≡ t
-or_false true = refl
-or_false false = refl
-
 -- a key is new where a set has none like it
 one_new : (id : Val) (ks : List Val) (added : Bool) → added ≡ not (list_any (is_at (on val_view val_cmp id)) ks) → are_new (map val_view ks) (val_view id ∷ []) ≡ added
-one_new id ks added is = ap not (or_false (has_val (val_view id) (map val_view ks)) ∙ sym (has_val-keys id ks)) ∙ sym is
+one_new id ks added is = ap not (or-false (has_val (val_view id) (map val_view ks)) ∙ sym (has_val-keys id ks)) ∙ sym is
 
 -- what an insert says of its key: whether it was new
 pub if_new-added : (key id : Val) (ks : List Val) (added : Bool) → key ≡ id → added ≡ not (list_any (is_at (on val_view val_cmp key)) ks) → if_new (map val_view ks) (val_view id ∷ []) ≡ cond added (Ok tt) (Err duplicate_id)
@@ -53,5 +50,5 @@ pub known_too : (key id : Val) (old new : List Val) → key ≡ id → HasOneMor
 known_too key id old new same more = record {
   members = λ v.
       has_val-inserted key old new more v ∙ ap (λ k. same_val v (val_view k) || has_val v (map val_view old)) same
-      ∙ ap (λ t. t || has_val v (map val_view old)) (sym (or_false (same_val v (val_view id))));
+      ∙ ap (λ t. t || has_val v (map val_view old)) (sym (or-false (same_val v (val_view id))));
 }

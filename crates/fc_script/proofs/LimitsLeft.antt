@@ -1,7 +1,6 @@
 -- A block behind those before it: what it leaves of the limits on documents and values.
-use Rattle.std.proofs.Common.{◌≡◌, ℕ, ◌+◌, ◌-◌, ◌≤◌, List, [], ◌∷◌, ◌++◌, length, Bool, true, false, cond, ◌&&◌, nat_le, Some, None, is_some, sym, refl, ◌∙◌, ap, arith, length-append, append-nil}
-use Rattle.std.specs.List.{flat_map, sum_by}
-use Rattle.std.proofs.lemmas.Grind.{flat_map-append}
+use Rattle.std.proofs.Common.{◌≡◌, ℕ, ◌+◌, ◌-◌, ◌≤◌, List, [], ◌∷◌, ◌++◌, length, Bool, true, false, cond, ◌&&◌, nat_le, Some, None, is_some, sym, refl, ◌∙◌, ap, arith}
+use Rattle.std.specs.List.{sum_by}
 use Rattle.std.proofs.lemmas.List.Sums.{sum_by-append}
 use Rattle.std.proofs.lemmas.Bool.{leb-true}
 use Rattle.std.proofs.lemmas.Bool.Decides.{nat_tests}
@@ -9,15 +8,10 @@ use Rattle.fc_spec.specs.Document.{Block}
 use Rattle.fc_spec.specs.Totals.{documents_in, documents_of, document_total, value_count, value_total}
 use Rattle.fc_spec.specs.ScriptTotals.{Limits, are_few}
 use Rattle.fc_script.specs.Left.{limits_after, limits_with}
+use Rattle.fc_spec.proofs.BlockTotals.{documents_in-push, document_total-push}
 
-documents_joined : (blocks : List Block) (b : Block) → flat_map documents_of (blocks ++ b ∷ []) ≡ flat_map documents_of blocks ++ documents_of b
-documents_joined blocks b = flat_map-append documents_of blocks (b ∷ []) ∙ ap (λ ds. flat_map documents_of blocks ++ ds) (append-nil (documents_of b))
-
-document_total-append : (blocks : List Block) (b : Block) → document_total (blocks ++ b ∷ []) ≡ document_total blocks + length (documents_of b)
-document_total-append blocks b = ap length (documents_joined blocks b) ∙ length-append (flat_map documents_of blocks) (documents_of b)
-
-value_total-append : (blocks : List Block) (b : Block) → value_total (blocks ++ b ∷ []) ≡ value_total blocks + value_count (documents_of b)
-value_total-append blocks b = ap value_count (documents_joined blocks b) ∙ sum_by-append (λ d. sum_by (λ vs. length vs) d) (flat_map documents_of blocks) (documents_of b)
+value_total-push : (blocks : List Block) (b : Block) → value_total (blocks ++ b ∷ []) ≡ value_total blocks + value_count (documents_of b)
+value_total-push blocks b = ap value_count (documents_in-push blocks b) ∙ sum_by-append (λ d. sum_by (λ vs. length vs) d) (documents_in blocks) (documents_of b)
 
 fits : (total left n : ℕ) → nat_le (total + n) (left + total) ≡ nat_le n left
 fits total left n = grind (arith, nat_tests)
@@ -29,8 +23,8 @@ is_some-cond false x = refl
 -- whether one more block is within the limits
 pub few-append : (left : Limits) (blocks : List Block) (b : Block) → are_few (limits_with left blocks) (documents_in (blocks ++ b ∷ [])) ≡ is_some (limits_after left b)
 few-append left blocks b =
-    ap (λ n. nat_le n (left.documents + document_total blocks) && nat_le (value_total (blocks ++ b ∷ [])) (left.values + value_total blocks)) (document_total-append blocks b)
-    ∙ ap (λ n. nat_le (document_total blocks + length (documents_of b)) (left.documents + document_total blocks) && nat_le n (left.values + value_total blocks)) (value_total-append blocks b)
+    ap (λ n. nat_le n (left.documents + document_total blocks) && nat_le (value_total (blocks ++ b ∷ [])) (left.values + value_total blocks)) (document_total-push blocks b)
+    ∙ ap (λ n. nat_le (document_total blocks + length (documents_of b)) (left.documents + document_total blocks) && nat_le n (left.values + value_total blocks)) (value_total-push blocks b)
     ∙ ap (λ t. t && nat_le (value_total blocks + value_count (documents_of b)) (left.values + value_total blocks)) (fits (document_total blocks) left.documents (length (documents_of b)))
     ∙ ap (λ t. nat_le (length (documents_of b)) left.documents && t) (fits (value_total blocks) left.values (value_count (documents_of b)))
     ∙ sym (is_some-cond _ _)
@@ -57,7 +51,7 @@ same_limits a b c d first second = ap (λ n. limits n c) first ∙ ap (λ n. lim
 pub limits_with-append : (left after : Limits) (blocks : List Block) (b : Block) → limits_after left b ≡ Some after → limits_with after (blocks ++ b ∷ []) ≡ limits_with left blocks
 limits_with-append left after blocks b is =
     let parts = taken _ _ left after (length (documents_of b)) (value_count (documents_of b)) refl refl is in
-    let documents = document_total-append blocks b in
-    let values = value_total-append blocks b in
+    let documents = document_total-push blocks b in
+    let values = value_total-push blocks b in
     same_limits (after.documents + document_total (blocks ++ b ∷ [])) (left.documents + document_total blocks) (after.values + value_total (blocks ++ b ∷ [])) (left.values + value_total blocks)
     (omega arith) (omega arith)

@@ -1,6 +1,7 @@
 -- Ids that become known one after another: which are new, and which are known then.
 use Rattle.std.proofs.Common.{◌≡◌, ℕ, suc, ◌+◌, ◌<◌, ◌≤◌, List, [], ◌∷◌, ◌++◌, length, take, drop, Bool, true, false, not, cond, ◌||◌, ◌&&◌, Result, Ok, Err, refl, sym, ◌∙◌, ap, get_or, drop-cons, append-nil}
 use Rattle.std.specs.List.{list_any, flat_map}
+use Rattle.std.proofs.Math.Bool.{or_comm}
 use Rattle.std.proofs.lemmas.Bool.{and_parts}
 use Rattle.std.proofs.lemmas.List.{take_all, take_more, take-append-drop}
 use Rattle.std.proofs.lemmas.List.Concat.{flat_map-append}
@@ -17,7 +18,7 @@ use Rattle.fc_script.specs.Ids.{ids_of, are_new, if_new, AreIdsOf, AreKnownToo}
 use Rattle.fc_script.specs.declared.line.fault.LineFault.{LineFault}
 use Rattle.std.specs.Cmp.{IsEquivalence}
 use Rattle.std.proofs.lemmas.Cmp.{eq_by_cmp_equiv}
-use Rattle.fc_spec.proofs.ValOrder.{val_cmp_total}
+use Rattle.fc_spec.proofs.ValOrder.{val_cmp_total, same_val_equiv}
 
 same_val_equiv : IsEquivalence same_val
 same_val_equiv = eq_by_cmp_equiv val_cmp_total
@@ -188,17 +189,11 @@ module _ {X : Type 0} (values : X → List Val) (old now : List Val) (xs : List 
 pub ids_are : (b : Block) → ids_of b ≡ flat_map (λ d. values_of d 0) b.children ++ values_of b.parent 0
 ids_are b = flat_map-append (λ d. values_of d 0) b.children (b.parent ∷ []) ∙ ap (λ l. flat_map (λ d. values_of d 0) b.children ++ l) (append-nil (values_of b.parent 0))
 
-swapped : (a b : Bool) → (a || b) ≡ (b || a)
-swapped true true = refl
-swapped true false = refl
-swapped false true = refl
-swapped false false = refl
-
 -- the ids with those of one more block
 pub ids_with : (old new : List Val) (blocks : List Block) (b : Block) → AreIdsOf old blocks → AreKnownToo (ids_of b) old new → AreIdsOf new (blocks ++ b ∷ [])
 ids_with old new blocks b are too = record {
   same = λ v.
-      too.members v ∙ ap (λ t. has_val v (ids_of b) || t) (are.same v) ∙ swapped (has_val v (ids_of b)) (has_val v (flat_map ids_of blocks))
+      too.members v ∙ ap (λ t. has_val v (ids_of b) || t) (are.same v) ∙ or_comm (has_val v (ids_of b)) (has_val v (flat_map ids_of blocks))
       ∙ sym (list_any-append (same_val v) (flat_map ids_of blocks) (ids_of b))
       ∙ ap (has_val v) (sym (flat_map-append ids_of blocks (b ∷ []) ∙ ap (λ l. flat_map ids_of blocks ++ l) (append-nil (ids_of b))));
 }

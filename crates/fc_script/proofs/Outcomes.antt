@@ -1,5 +1,6 @@
 -- Reading line by line gives the script's outcome.
 use Rattle.std.proofs.Common.{◌≡◌, ℕ, ◌<◌, List, [], ◌∷◌, ◌++◌, map, length, Bool, true, false, not, cond, ◌==◌, nat_lt, nat_le, Option, None, Some, Result, Ok, Err, is_err, refl, sym, ◌∙◌, ap, subst, arith}
+use Rattle.std.proofs.lemmas.Bool.{lt-ltb}
 use Rattle.std.proofs.lemmas.Bool.Decides.{nat_tests}
 use Rattle.std.proofs.lemmas.List.{map-append}
 use Rattle.serde_json.specs.Data.{Data}
@@ -37,9 +38,6 @@ said_next (Err e) say next = refl
 not_below : (n k : ℕ) → n < k → nat_lt k n ≡ false
 not_below n k below = grind (arith, nat_tests)
 
-is_below : (n k : ℕ) → n < k → nat_lt n k ≡ true
-is_below n k below = grind (arith, nat_tests)
-
 -- ---- the lines behind the schema
 
 module _ (limits : Limits) (s : Schema) where
@@ -65,7 +63,7 @@ module _ (limits : Limits) (s : Schema) where
   -- a line that is not built before each fault
   unbuilt_first : (n : ℕ) (r : Result (List (Line Data)) ScriptFault) → FailsBehind n r → Err (not_built_at n) ≡ lines_judged (Some n) r
   unbuilt_first n (Ok ls) behind = refl
-  unbuilt_first n (Err f) behind = rw (is_below n f.line behind) refl
+  unbuilt_first n (Err f) behind = rw (lt-ltb n f.line behind) refl
 
   -- a line that is both
   unbuilt_here : (n : ℕ) (e : LineFault) (test : Bool) → refused e ≡ not_built → ◌≡◌ {A = Result AskedScript FirstFault} (Err (not_built_at n)) (Err (cond test (not_built_at n) (fault_of (record { line = n; fault = e }))))

@@ -1,13 +1,9 @@
 -- The sessions of a script, one after another.
 use Rattle.std.proofs.Common.{◌≡◌, List, [], ◌∷◌, ◌++◌, Bool, true, false, not, cond, ◌||◌, refl, sym, ◌∙◌, ap, append-nil}
 use Rattle.std.specs.List.{list_any, filter}
-use Rattle.std.specs.Ordering.{is_eq, ordering_reverse}
-use Rattle.std.specs.declared.cmp.Ordering.{Ordering}
-use Rattle.std.specs.declared.cmp.Ordering.TheVariants.{Less, Equal, Greater}
-use Rattle.std.specs.Cmp.Lexicographic.{nat_list_cmp_total}
 use Rattle.std.proofs.lemmas.List.Elements.{filter-append}
-use Rattle.fc_base.proofs.Texts.{equal}
-use Rattle.fc_spec.specs.Val.{Text, same_text, text_cmp}
+use Rattle.fc_spec.proofs.Texts.{same_text_equiv, equal}
+use Rattle.fc_spec.specs.Val.{Text, same_text}
 use Rattle.fc_spec.specs.ScriptTotals.{first_ones}
 use Rattle.fc_script.specs.Sessions.{with_session}
 
@@ -26,14 +22,6 @@ kept : (u t : Text) (ts : List Text) (b : Bool) → same_text u t ≡ b → filt
 kept u t ts true is = filter-append (λ w. not (same_text u w)) ts (t ∷ []) ∙ rw is refl
 kept u t ts false is = filter-append (λ w. not (same_text u w)) ts (t ∷ []) ∙ rw is refl
 
-is_eq-reverse : (o : Ordering) → is_eq (ordering_reverse o) ≡ is_eq o
-is_eq-reverse Less = refl
-is_eq-reverse Equal = refl
-is_eq-reverse Greater = refl
-
-turned : (a b : Text) → same_text a b ≡ same_text b a
-turned a b = ap is_eq (nat_list_cmp_total.antisymm a b) ∙ is_eq-reverse (text_cmp b a)
-
 -- one more search
 pub first_ones-append : (ts : List Text) (t : Text) → first_ones (ts ++ t ∷ []) ≡ with_session (first_ones ts) t
 first_ones-append [] t = refl
@@ -45,7 +33,7 @@ first_ones-append (u ∷ ts) t =
 
     go : (b c : Bool) → same_text u t ≡ b → list_any (same_text t) (first_ones ts) ≡ c
         → u ∷ filter (λ w. not (same_text u w)) (cond (list_any (same_text t) (first_ones ts)) (first_ones ts) (first_ones ts ++ t ∷ [])) ≡ with_session (u ∷ others) t
-    go true true b_is c_is = rw (c_is, turned t u, b_is) refl
-    go true false b_is c_is = rw (c_is, turned t u, b_is) (ap (λ us. u ∷ us) (kept u t (first_ones ts) true b_is ∙ append-nil others))
-    go false true b_is c_is = rw (c_is, turned t u, b_is, still_among t u (first_ones ts) b_is, c_is) refl
-    go false false b_is c_is = rw (c_is, turned t u, b_is, still_among t u (first_ones ts) b_is, c_is) (ap (λ us. u ∷ us) (kept u t (first_ones ts) false b_is))
+    go true true b_is c_is = rw (c_is, same_text_equiv.symm t u, b_is) refl
+    go true false b_is c_is = rw (c_is, same_text_equiv.symm t u, b_is) (ap (λ us. u ∷ us) (kept u t (first_ones ts) true b_is ∙ append-nil others))
+    go false true b_is c_is = rw (c_is, same_text_equiv.symm t u, b_is, still_among t u (first_ones ts) b_is, c_is) refl
+    go false false b_is c_is = rw (c_is, same_text_equiv.symm t u, b_is, still_among t u (first_ones ts) b_is, c_is) (ap (λ us. u ∷ us) (kept u t (first_ones ts) false b_is))

@@ -1,7 +1,8 @@
 -- A script that was read is within its limits.
-use Rattle.std.proofs.Common.{◌≡◌, ◌+◌, List, length, Bool, true, refl, ◌∙◌, ap, arith}
-use Rattle.std.specs.Prelude.{nat_le, ◌&&◌, count_by}
+use Rattle.std.proofs.Common.{◌≡◌, ◌+◌, List, length, true, refl, ◌∙◌, ap, arith}
+use Rattle.std.specs.Prelude.{nat_le, count_by}
 use Rattle.std.specs.List.{filter_map}
+use Rattle.std.proofs.lemmas.Bool.{and_from}
 use Rattle.std.proofs.lemmas.Bool.Decides.{nat_tests}
 use Rattle.fc_spec.specs.Document.{Block}
 use Rattle.fc_spec.specs.Schema.{Schema}
@@ -16,10 +17,7 @@ use Rattle.fc_script.specs.declared.counts.Counts.{Counts}
 use Rattle.fc_script.proofs.InRange.{all_below}
 
 few_of : (left : Limits) (blocks : List Block) → are_few (limits_with left blocks) (documents_in blocks) ≡ true
-few_of left blocks = both (nat_le (document_total blocks) (left.documents + document_total blocks)) (nat_le (value_total blocks) (left.values + value_total blocks)) (grind (arith, nat_tests)) (grind (arith, nat_tests))
-  where
-    both : (a b : Bool) → a ≡ true → b ≡ true → (a && b) ≡ true
-    both a b a_is b_is = rw (a_is, b_is) refl
+few_of left blocks = and_from (nat_le (document_total blocks) (left.documents + document_total blocks)) (nat_le (value_total blocks) (left.values + value_total blocks)) (grind (arith, nat_tests)) (grind (arith, nat_tests))
 
 pub is_within : (limits : Limits) (s : Schema) (lines : List AskedLine) (c : Counts) → AreCounts limits s lines c → IsWithin limits (record { schema = s; lines = lines })
 is_within limits s lines c are = record {

@@ -7,17 +7,18 @@ use Rattle.fc_spec.specs.Val.{Text, same_text}
 use Rattle.fc_spec.specs.Schema.{Schema, field_named}
 use Rattle.fc_spec.specs.JsonObjects.{natural_in, only_names, has_members, has_text}
 use Rattle.fc_spec.specs.Query.{Query, all}
-use Rattle.fc_spec.specs.QueryTexts.{query_of}
-use Rattle.fc_spec.specs.FilterReading.{filter_of}
-use Rattle.fc_spec.specs.Request.{Kind, terms, stay, by_index, Nodes, no_nodes, facet, Filter, Request}
+use Rattle.fc_spec.specs.QueryTexts.{query_of, IsReadingOf}
+use Rattle.fc_spec.specs.FilterReading.{filter_of, filter_parts}
+use Rattle.fc_spec.specs.Request.{Kind, terms, stay, by_index, Nodes, no_nodes, facet, Filter, Request, Terms}
+use Rattle.fc_spec.specs.QueryFault.{QueryFault}
 use Rattle.fc_spec.specs.Walks.{◌>>=◌, unless, with_fault}
 use Rattle.fc_script.specs.Refusals.{Refused, not_built}
 
 -- ---- the facet
 
 -- every value of the field, in index order
-abbrev pub whole_terms : ℕ → Kind
-whole_terms field = terms (record {
+abbrev pub every_value : ℕ → Terms
+every_value field = record {
   field = field;
   offset = 0;
   limit = None;
@@ -28,11 +29,11 @@ whole_terms field = terms (record {
   refine = false;
   overrequest = 0;
   overrefine = 0;
-})
+}
 
 -- a facet of this name alone
 abbrev pub one_facet : Text → ℕ → Nodes
-one_facet name field = facet (record { name = name; change = record { exclude = []; block = stay; filters = [] }; kind = whole_terms field }) no_nodes no_nodes
+one_facet name field = facet (record { name = name; change = record { exclude = []; block = stay; filters = [] }; kind = terms (every_value field) }) no_nodes no_nodes
 
 -- a facet's name and its field
 abbrev pub Facet : Type 0

@@ -2,7 +2,8 @@
 use Rattle.std.proofs.Common.{◌≡◌, ◌+◌, List, [], ◌∷◌, ◌++◌, length, replicate, Bool, true, false, refl, sym, ap, ◌∙◌, arith}
 use Rattle.std.proofs.lemmas.List.{append-nil, append_assoc, length-append, length-replicate, length_push, replicate_more}
 use Rattle.fc_spec.specs.Document.{Document, Block}
-use Rattle.fc_spec.specs.Totals.{documents_of, documents_in, document_total}
+use Rattle.fc_spec.specs.Totals.{documents_in, document_total}
+use Rattle.fc_spec.proofs.BlockTotals.{document_total-cons}
 use Rattle.fc_segment.specs.Parents.{marks_of, parents_in}
 use Rattle.fc_segment.specs.Cut.{cut_behind, cut, ends_with_parent}
 
@@ -60,9 +61,6 @@ ends_with_parent-parents_in (b ∷ blocks) =
     ∙ ap (λ (answer : Bool). ends_with_parent answer (parents_in blocks)) (ends_with_parent-append true (replicate (length b.children) false) (true ∷ []))
     ∙ ends_with_parent-parents_in blocks
 
-pub length-documents_in-cons : (b : Block) (blocks : List Block) → document_total (b ∷ blocks) ≡ length b.children + 1 + document_total blocks
-length-documents_in-cons b blocks = length-append (documents_of b) (documents_in blocks) ∙ ap (λ n. n + document_total blocks) (length_push b.children b.parent)
-
 pub length-parents_in : (blocks : List Block) → length (parents_in blocks) ≡ document_total blocks
 length-parents_in [] = refl
 length-parents_in (b ∷ blocks) =
@@ -70,4 +68,4 @@ length-parents_in (b ∷ blocks) =
     ∙ ap (λ n. n + length (parents_in blocks)) (length_push (replicate (length b.children) false) true)
     ∙ ap (λ n. n + 1 + length (parents_in blocks)) (length-replicate (length b.children) false)
     ∙ ap (λ n. length b.children + 1 + n) (length-parents_in blocks)
-    ∙ sym (length-documents_in-cons b blocks)
+    ∙ sym (document_total-cons b blocks)

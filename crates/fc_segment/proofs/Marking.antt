@@ -3,10 +3,10 @@ use Rattle.std.proofs.Common.{◌≡◌, ℕ, suc, ◌+◌, ◌<◌, List, [], �
 use Rattle.std.proofs.lemmas.List.{append-nil, append_assoc, length-append, length_push, length-replicate, replicate-append-replicate, set_at, drop_more, map_more}
 use Rattle.std.proofs.lemmas.List.Concat.{flat_map-append}
 use Rattle.fc_spec.specs.Totals.{document_total}
+use Rattle.fc_spec.proofs.BlockTotals.{document_total-cons}
 use Rattle.fc_docs.specs.declared.block.Block.{Block}
 use Rattle.fc_docs.specs.View.{block_view}
 use Rattle.fc_segment.specs.Parents.{marks_of, parents_in}
-use Rattle.fc_segment.proofs.Cutting.{length-documents_in-cons}
 
 -- the documents from a block on
 pub document_total-drop : (blocks : List Block) (i : ℕ) (b : Block) → i < length blocks → b ≡ get_or blocks i b
@@ -14,7 +14,7 @@ pub document_total-drop : (blocks : List Block) (i : ℕ) (b : Block) → i < le
 document_total-drop blocks i b within is =
     ap (λ l. document_total (map block_view l)) (drop_more blocks i b within)
     ∙ ap (λ (c : Block). document_total (block_view c ∷ map block_view (drop (i + 1) blocks))) (sym is)
-    ∙ length-documents_in-cons (block_view b) (map block_view (drop (i + 1) blocks))
+    ∙ document_total-cons (block_view b) (map block_view (drop (i + 1) blocks))
 
 pub parents_in-take : (blocks : List Block) (i : ℕ) (b : Block) → i < length blocks → b ≡ get_or blocks i b
     → parents_in (map block_view (take (i + 1) blocks)) ≡ parents_in (map block_view (take i blocks)) ++ (replicate (length b.children.items) false ++ true ∷ [])

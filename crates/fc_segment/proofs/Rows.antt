@@ -1,43 +1,25 @@
 -- The rows of a column.
-use Rattle.std.proofs.Common.{◌≡◌, ℕ, ◌<◌, List, [], ◌∷◌, ◌++◌, length, get_or, map, All, IsTrue, Option, Some, None, option_map, ℤ, slice_get, true, false, refl, sym, ap, ◌∙◌, subst, arith}
+use Rattle.std.proofs.Common.{◌≡◌, ℕ, ◌<◌, List, [], ◌∷◌, ◌++◌, length, get_or, map, All, IsTrue, Option, Some, None, option_map, ℤ, slice_get, false, refl, sym, ap, ◌∙◌, subst, arith}
 use Rattle.std.proofs.lemmas.List.{map-append, get_or-map, length-map, get_or_append_left, get_or_push, length_push}
 use Rattle.std.proofs.lemmas.Option.{slice_get-get_or}
-use Rattle.std.proofs.lemmas.List.Elements.{All-nil, All-head, All-tail, All-append, All-push, All-map, All-weaker}
+use Rattle.std.proofs.lemmas.List.Elements.{All-map, All-weaker}
 use Rattle.fc_spec.specs.Val.{Text, Val, text, long}
 use Rattle.fc_spec.specs.Document.{Document, Block, values_of}
 use Rattle.fc_spec.specs.Totals.{documents_of, documents_in}
-use Rattle.fc_spec.specs.Columns.{texts_in, longs_in, column_of}
-use Rattle.fc_spec.specs.Schema.{FieldType, string, strings, plong, plongs, Field, Schema}
-use Rattle.fc_spec.specs.ValidBlocks.{holds_texts, is_value_of, AreValuesOf, IsDocumentOf, IsBlockOf}
+use Rattle.fc_spec.specs.Columns.{is_text, IsText, IsLong, texts_in, longs_in, column_of}
+use Rattle.fc_spec.specs.Schema.{FieldType, holds_texts, texts_held, Field, Schema}
+use Rattle.fc_spec.specs.ValidBlocks.{is_value_of, AreValuesOf, IsDocumentOf, IsBlockOf}
+use Rattle.fc_spec.proofs.BlockTotals.{valid_documents_of, valid_documents}
+use Rattle.fc_spec.proofs.ValueKinds.{kind_of_value, texts_whole, longs_whole}
 use Rattle.fc_docs.specs.declared.block.Block.{Block as Code}
 use Rattle.fc_docs.specs.View.{block_view}
-use Rattle.fc_segment.specs.Building.{is_text, IsRow}
+use Rattle.fc_segment.specs.Building.{IsRow}
 
--- ---- the documents of valid blocks are valid
-valid_documents_of : (s : Schema) (b : Block) → IsBlockOf s b → All (IsDocumentOf s) (documents_of b)
-valid_documents_of s b valid = All-push (IsDocumentOf s) b.children b.parent valid.children valid.parent
-
-valid_documents : (s : Schema) (blocks : List Block) → All (IsBlockOf s) blocks → All (IsDocumentOf s) (documents_in blocks)
-valid_documents s [] valid = All-nil (IsDocumentOf s)
-valid_documents s (b ∷ blocks) valid =
-    All-append (IsDocumentOf s) (documents_of b) (documents_in blocks)
-    (valid_documents_of s b (All-head (IsBlockOf s) b blocks valid))
-    (valid_documents s blocks (All-tail (IsBlockOf s) b blocks valid))
-
+-- ---- the documents of valid blocks
 pub length-valid_documents : (s : Schema) (blocks : List Block) → All (IsBlockOf s) blocks → All (λ d. length d ≡ length s.fields) (documents_in blocks)
 length-valid_documents s blocks valid = All-weaker (IsDocumentOf s) (λ d. length d ≡ length s.fields) (λ d is. is.lists) (documents_in blocks) (valid_documents s blocks valid)
 
 -- ---- values of a type are a row of its kind
-kind_of_value : (kind : FieldType) (v : Val) → IsTrue (is_value_of kind v) → is_text v ≡ holds_texts kind
-kind_of_value string (text t) is = refl
-kind_of_value string (long z) is = cc
-kind_of_value strings (text t) is = refl
-kind_of_value strings (long z) is = cc
-kind_of_value plong (text t) is = cc
-kind_of_value plong (long z) is = refl
-kind_of_value plongs (text t) is = cc
-kind_of_value plongs (long z) is = refl
-
 pub row_of_values : (kind : FieldType) (vs : List Val) → AreValuesOf kind vs → IsRow (holds_texts kind) vs
 row_of_values kind vs are = record {
   of_kind = All-weaker (λ v. IsTrue (is_value_of kind v)) (λ v. is_text v ≡ holds_texts kind) (kind_of_value kind) vs are.of_type;
@@ -58,7 +40,7 @@ field_of_kind fields field kind is = go (slice_get fields field) refl
     go (Some f) at = let some : Some f.kind ≡ Some kind = rw at at is in (f, at, (cc))
 
 pub holds_texts_at : (fields : List Field) (field : ℕ) (kind : FieldType) → field < length fields → option_map (λ f. f.kind) (slice_get fields field) ≡ Some kind
-    → get_or (map (λ f. holds_texts f.kind) fields) field false ≡ holds_texts kind
+    → get_or (texts_held fields) field false ≡ holds_texts kind
 holds_texts_at fields field kind below is =
     let found = field_of_kind fields field kind is in
     let at = slice_get-get_or fields field found.0 below in
@@ -74,24 +56,14 @@ rows_of_block s field kind blocks i b is valid within item =
     subst (λ k. All (IsRow (holds_texts k)) (column_of field (documents_of (block_view b)))) found.2
     (rows_of_documents s field found.0 (documents_of (block_view b)) found.1 (valid_documents_of s (block_view b) here))
 
--- ---- the texts or the integers of a row are the row
-texts_of_row : (vs : List Val) → All (λ v. is_text v ≡ true) vs → map text (texts_in vs) ≡ vs
-texts_of_row [] all = refl
-texts_of_row (text t ∷ vs) all = ap (λ l. text t ∷ l) (texts_of_row vs (All-tail (λ v. is_text v ≡ true) (text t) vs all))
-texts_of_row (long z ∷ vs) all = let h : false ≡ true = All-head (λ v. is_text v ≡ true) (long z) vs all in cc
-
-longs_of_row : (vs : List Val) → All (λ v. is_text v ≡ false) vs → map long (longs_in vs) ≡ vs
-longs_of_row [] all = refl
-longs_of_row (text t ∷ vs) all = let h : true ≡ false = All-head (λ v. is_text v ≡ false) (text t) vs all in cc
-longs_of_row (long z ∷ vs) all = ap (λ l. long z ∷ l) (longs_of_row vs (All-tail (λ v. is_text v ≡ false) (long z) vs all))
-
-pub texts_pushed : (old new : List (List Text)) (vs : List Val) → All (λ v. is_text v ≡ true) vs → new ≡ old ++ texts_in vs ∷ [] → map (map text) new ≡ map (map text) old ++ vs ∷ []
+-- ---- one more row
+pub texts_pushed : (old new : List (List Text)) (vs : List Val) → All IsText vs → new ≡ old ++ texts_in vs ∷ [] → map (map text) new ≡ map (map text) old ++ vs ∷ []
 texts_pushed old new vs all is =
-    ap (map (map text)) is ∙ map-append (map text) old (texts_in vs ∷ []) ∙ ap (λ row. map (map text) old ++ row ∷ []) (texts_of_row vs all)
+    ap (map (map text)) is ∙ map-append (map text) old (texts_in vs ∷ []) ∙ ap (λ row. map (map text) old ++ row ∷ []) (texts_whole vs all)
 
-pub longs_pushed : (old new : List (List ℤ)) (vs : List Val) → All (λ v. is_text v ≡ false) vs → new ≡ old ++ longs_in vs ∷ [] → map (map long) new ≡ map (map long) old ++ vs ∷ []
+pub longs_pushed : (old new : List (List ℤ)) (vs : List Val) → All IsLong vs → new ≡ old ++ longs_in vs ∷ [] → map (map long) new ≡ map (map long) old ++ vs ∷ []
 longs_pushed old new vs all is =
-    ap (map (map long)) is ∙ map-append (map long) old (longs_in vs ∷ []) ∙ ap (λ row. map (map long) old ++ row ∷ []) (longs_of_row vs all)
+    ap (map (map long)) is ∙ map-append (map long) old (longs_in vs ∷ []) ∙ ap (λ row. map (map long) old ++ row ∷ []) (longs_whole vs all)
 
 -- ---- the rows of one block
 pub row_of_child : (P : List Val → Type 0) (field : ℕ) (children : List Document) (parent : Document) (i : ℕ) (child : Document) → All P (column_of field (children ++ parent ∷ []))

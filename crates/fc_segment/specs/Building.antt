@@ -1,7 +1,7 @@
 -- What a column that is being made stands for.
 use Rattle.std.specs.Prelude.{◌≡◌, List, map, All, Bool, true, false}
 use Rattle.fc_spec.specs.Val as definition
-use Rattle.fc_spec.specs.Columns.{IsAscending}
+use Rattle.fc_spec.specs.Columns.{IsAscending, is_text}
 use Rattle.fc_segment.specs.declared.builder.Builder.{Builder}
 use Rattle.fc_segment.specs.declared.builder.Builder.TheVariants.{Text, Long}
 
@@ -13,10 +13,6 @@ values_built (Long b) = map (map definition.long) b
 abbrev pub builds_texts : Builder → Bool
 builds_texts (Text b) = true
 builds_texts (Long b) = false
-
-abbrev pub is_text : definition.Val → Bool
-is_text (definition.text t) = true
-is_text (definition.long z) = false
 
 -- different values in index order, all texts or all integers
 pub record IsRow (texts : Bool) (vs : List definition.Val) : Type 0 where

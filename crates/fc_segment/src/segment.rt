@@ -3,7 +3,8 @@ ghost use Rattle.std.specs.Prelude.{◌≡◌, ◌<◌, ◌≤◌, length, map, 
 ghost use Rattle.std.specs.List.{range_with_len};
 ghost use Rattle.fc_spec.specs.Columns.{column_of};
 ghost use Rattle.fc_spec.specs.Totals.{document_total, documents_in};
-ghost use Rattle.fc_spec.specs.ValidBlocks.{IsBlockOf, holds_texts};
+ghost use Rattle.fc_spec.specs.Schema.{texts_held};
+ghost use Rattle.fc_spec.specs.ValidBlocks.{IsBlockOf};
 ghost use Rattle.fc_docs.specs.View.{batch_view};
 ghost use Rattle.fc_segment.specs.Columns.{column_values, is_text_column};
 ghost use Rattle.fc_segment.specs.Parents.{parents_in};
@@ -43,7 +44,7 @@ impl Segment {
         requires valid { All (IsBlockOf schema.now) (batch_view batch.now) }
         requires few { document_total (batch_view batch.now) ≤ 1_048_576 }
         ensures { IfOk result (λ segment. segment ≡ record
-            { texts = map (λ f. holds_texts f.kind) schema.now.fields; blocks = batch_view batch.now }) }
+            { texts = texts_held schema.now.fields; blocks = batch_view batch.now }) }
     {
         Ok(Segment {
             parents: parents_of(alloc, &batch.blocks)?,
@@ -83,7 +84,7 @@ fn columns_of(alloc: Global, schema: &Schema, batch: &Batch) -> Result<Vec<Colum
         ≡ map (λ field. column_of field (documents_in (batch_view batch.now)))
         (range_with_len 0 (length schema.now.fields))) }
     ensures kinds { IfOk result (λ columns. map is_text_column columns.items
-        ≡ map (λ f. holds_texts f.kind) schema.now.fields) }
+        ≡ texts_held schema.now.fields) }
 {
     let mut columns = Vec::new(alloc);
     for field in 0..schema.fields() {
@@ -104,7 +105,7 @@ fn column_of(
     ensures values { IfOk result (λ column. column_values column
         ≡ column_of field.0 (documents_in (batch_view batch.now))) }
     ensures kind { IfOk result (λ column. is_text_column column
-        ≡ slice_index_or (map (λ f. holds_texts f.kind) schema.now.fields) field.0 false) }
+        ≡ slice_index_or (texts_held schema.now.fields) field.0 false) }
 {
     let mut builder = Builder::new(alloc, schema.field_type(field))?;
     for block in &batch.blocks {

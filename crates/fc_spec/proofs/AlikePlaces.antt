@@ -1,7 +1,7 @@
 -- What looks at documents alone is the same over places with other numbers.
 use Rattle.std.proofs.Common.{◌≡◌, List, [], ◌∷◌, ◌++◌, map, length, not, ◌==◌, refl, ◌∙◌, ap}
 use Rattle.std.specs.Prelude.{ℕ, pos}
-use Rattle.std.specs.List.{filter, filter_map}
+use Rattle.std.specs.List.{filter}
 use Rattle.std.proofs.lemmas.List.{length-map}
 use Rattle.fc_spec.specs.Val.{Val, distinct}
 use Rattle.fc_spec.specs.Document.{values_of}
@@ -9,7 +9,8 @@ use Rattle.fc_spec.specs.Lists.{is_empty}
 use Rattle.fc_spec.specs.World.{Place}
 use Rattle.fc_spec.specs.Request.{StatKind, sum, min, max, countvals, missing, Stat, Terms, Kind, terms, range, query}
 use Rattle.fc_spec.specs.Buckets.{Key, value, in_bucket, bucket_places}
-use Rattle.fc_spec.specs.Statistics.{number, extreme, pair_values, as_long, total_of, least_of, greatest_of, statistic_in, value_over, stats_over}
+use Rattle.fc_spec.specs.Columns.{longs_in}
+use Rattle.fc_spec.specs.Statistics.{number, extreme, pair_values, total_of, least_of, greatest_of, statistic_in, value_over, stats_over}
 use Rattle.fc_spec.specs.Values.{value_places, values_in, entries_in}
 use Rattle.fc_spec.specs.Printed.{terms_keys}
 use Rattle.fc_spec.specs.Exact.{exact_keys}
@@ -31,9 +32,9 @@ pair_values_renumbered n field (p ∷ ps) = ap (λ vs. values_of p.document fiel
 
 -- a statistic of a field
 statistic_renumbered : (n : Numbers) (kind : StatKind) (field : ℕ) (X : List Place) → statistic_in kind field (map (renumbered n) X) ≡ statistic_in kind field X
-statistic_renumbered n sum field X = ap (λ vs. number (total_of (filter_map as_long vs))) (pair_values_renumbered n field X)
-statistic_renumbered n min field X = ap (λ vs. extreme (least_of (filter_map as_long vs))) (pair_values_renumbered n field X)
-statistic_renumbered n max field X = ap (λ vs. extreme (greatest_of (filter_map as_long vs))) (pair_values_renumbered n field X)
+statistic_renumbered n sum field X = ap (λ vs. number (total_of (longs_in vs))) (pair_values_renumbered n field X)
+statistic_renumbered n min field X = ap (λ vs. extreme (least_of (longs_in vs))) (pair_values_renumbered n field X)
+statistic_renumbered n max field X = ap (λ vs. extreme (greatest_of (longs_in vs))) (pair_values_renumbered n field X)
 statistic_renumbered n countvals field X = ap (λ vs. number (pos (length vs))) (pair_values_renumbered n field X)
 statistic_renumbered n missing field X = ap (λ k. number (pos k)) (count_by-map (renumbered n) (λ p. is_empty (values_of p.document field)) X)
 

@@ -10,7 +10,8 @@ use Rattle.fc_spec.specs.Distributed.{printed_keys, carried}
 use Rattle.fc_spec.specs.Message.{Way}
 use Rattle.fc_spec.specs.Merged.{over_held}
 use Rattle.fc_spec.specs.Rounds.{told_in}
-use Rattle.fc_spec.specs.Lacks.{Lack, asks_again, want_of, each_of, wanted_values, wanted_at, facet_wanted, wanted, untold, own_depth, terms_depth}
+use Rattle.fc_spec.specs.Lacks.{Lack, want_of, each_of, wanted_values, wanted_at, facet_wanted, wanted, untold, own_depth, terms_depth}
+use Rattle.fc_spec.specs.Shape.{asks_again}
 use Rattle.fc_spec.specs.RoundsEnd.{NothingLacksBeyond}
 use Rattle.fc_spec.proofs.Members.{Member, filter_member}
 use Rattle.fc_spec.proofs.HeldFurther.{step_to}

@@ -7,8 +7,7 @@ use Rattle.fc_spec.specs.Request.{Terms, Kind, terms, range, query, DomainChange
 use Rattle.fc_spec.specs.Base.{base, meets_base}
 use Rattle.fc_spec.specs.Domain.{domain, moved, filtered}
 use Rattle.fc_spec.specs.Buckets.{Key, value, missing, gap, before, between, after, whole, in_bucket, bucket_places}
-use Rattle.fc_spec.specs.Paths.{is_refining}
-use Rattle.fc_spec.specs.Shape.{no_exclusions, outermost_exclusions}
+use Rattle.fc_spec.specs.Shape.{is_refining, no_exclusions, outermost_exclusions}
 use Rattle.fc_spec.specs.Reading.{over_places}
 use Rattle.fc_spec.specs.Distributed.{carried}
 use Rattle.fc_spec.proofs.Members.{Every, every_filter}

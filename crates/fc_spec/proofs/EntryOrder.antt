@@ -8,7 +8,7 @@ use Rattle.std.proofs.Common.{refl, ap}
 use Rattle.std.proofs.lemmas.Cmp.{int_cmp_total, nat_cmp_total}
 use Rattle.fc_spec.specs.Ranks.{Entry, key_cmp, entry_cmp, is_ahead, directed, present_first, statistic_of}
 use Rattle.fc_spec.specs.Request.{SortKey, by_count, by_index, by_statistic, Sort}
-use Rattle.fc_spec.proofs.ValOrder.{val_cmp_total}
+use Rattle.fc_spec.specs.ValOrder.{val_cmp_total}
 
 -- what reverses without a direction reverses with one
 directed_reversed : (descending : Bool) (o p : Ordering) → o ≡ ordering_reverse p → directed descending o ≡ ordering_reverse (directed descending p)

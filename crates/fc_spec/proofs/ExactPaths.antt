@@ -10,12 +10,12 @@ use Rattle.fc_spec.specs.Buckets.{Key, whole, is_key_of, bucket_places}
 use Rattle.fc_spec.specs.Statistics.{value_over, shown}
 use Rattle.fc_spec.specs.Reply.{bucket, Facets, spot_of, val_of, row_of, with_buckets}
 use Rattle.fc_spec.specs.Printed.{statistic_part, facet_part}
-use Rattle.fc_spec.specs.Paths.{Path, at_root, into, path_places, is_refining, is_refined}
+use Rattle.fc_spec.specs.Paths.{Path, at_root, into, path_places, is_refined}
 use Rattle.fc_spec.specs.Distributed.{carried, printed_keys, dist_buckets, dist_facets}
 use Rattle.fc_spec.specs.RefinedPaths.{IsBucketOf, IsSomeBucketOf, AreBucketsOf, IsFacetOf, AreFacetsOf, AreRefinedPathsExact}
 use Rattle.fc_spec.proofs.PrintedKeys.{every_printed_key}
 use Rattle.fc_spec.specs.Base.{root_domain, meets_base}
-use Rattle.fc_spec.specs.Shape.{no_exclusions, outermost_exclusions}
+use Rattle.fc_spec.specs.Shape.{is_refining, no_exclusions, outermost_exclusions}
 use Rattle.fc_spec.specs.Reading.{over_places}
 use Rattle.fc_spec.proofs.Members.{Every, every_filter}
 use Rattle.fc_spec.proofs.Shards.{is_on, every_on_shards, on_shards_every}

@@ -1,8 +1,10 @@
 -- The values that a terms facet finds in a set of places are those with a place there.
 use Rattle.std.proofs.Common.{◌≡◌, suc, arith, List, [], ◌∷◌, length, Bool, true, false, cond, not, ◌&&◌, ◌||◌, refl, sym, ◌∙◌, ap, subst}
 use Rattle.std.specs.List.{filter, list_any}
+use Rattle.std.specs.List.Sorted.{IsStrictlySortedBy}
 use Rattle.std.proofs.lemmas.Bool.{and_parts, and_from, ne_eqb}
-use Rattle.fc_spec.specs.Val.{Val, has_val, same_val, distinct}
+use Rattle.std.proofs.lemmas.List.Kept.{IsStrictlySortedBy-filter}
+use Rattle.fc_spec.specs.Val.{Val, val_cmp, has_val, same_val, distinct}
 use Rattle.fc_spec.specs.Document.{values_of}
 use Rattle.fc_spec.specs.Lists.{is_empty}
 use Rattle.fc_spec.specs.World.{Place}
@@ -12,7 +14,7 @@ use Rattle.fc_spec.specs.Statistics.{pair_values}
 use Rattle.fc_spec.specs.Values.{value_places, values_in}
 use Rattle.fc_spec.proofs.ValOrder.{same_val_exact}
 use Rattle.fc_spec.proofs.Members.{passing_member, any_by_member, same_tests, list_any-flat_map, list_any-filter}
-use Rattle.fc_spec.proofs.Ascending.{has_val-distinct, IsAscending, ascending-distinct, ascending-filter}
+use Rattle.fc_spec.proofs.Ascending.{has_val-distinct, distinct_ascends}
 
 -- whether the document is in the bucket of the value
 abbrev pub holds_value : Terms → Val → Place → Bool
@@ -56,5 +58,5 @@ has_val-values_in t v Y = list_any-filter (same_val v) found (distinct (pair_val
         (and_from (found r.0) (same_val v r.0) (subst (λ w. found w ≡ true) (same_val_exact v r.0 r.2) (found_is v ∙ h)) r.2)
 
 -- they ascend
-pub ascending-values_in : (t : Terms) (Y : List Place) → IsAscending (values_in t Y)
-ascending-values_in t Y = ascending-filter (λ v. not (is_empty (value_places t v Y))) (distinct (pair_values t.field Y)) (ascending-distinct (pair_values t.field Y))
+pub ascending-values_in : (t : Terms) (Y : List Place) → IsStrictlySortedBy val_cmp (values_in t Y)
+ascending-values_in t Y = IsStrictlySortedBy-filter val_cmp (λ v. not (is_empty (value_places t v Y))) (distinct (pair_values t.field Y)) (distinct_ascends (pair_values t.field Y))

@@ -1,16 +1,14 @@
 -- The first two shards joined into one: the numbers that places then have tell the same blocks and places apart.
-use Rattle.std.proofs.Common.{◌≡◌, ℕ, zero, suc, pred, ◌+◌, ◌<◌, List, [], ◌∷◌, length, Bool, true, ◌&&◌, ◌==◌, ap, arith}
+use Rattle.std.proofs.Common.{◌≡◌, ℕ, zero, suc, pred, ◌+◌, ◌<◌, List, length, Bool, true, ◌&&◌, ◌==◌, ap, arith}
 use Rattle.std.specs.Prelude.{nat_lt}
 use Rattle.std.proofs.lemmas.Bool.{and_parts, and_from, eqb-true, eq-eqb, ltb-true}
 use Rattle.fc_spec.specs.Document.{Block}
 use Rattle.fc_spec.specs.World.{Place, same_block}
+
+use Rattle.fc_spec.specs.Totals.{document_total}
+use Rattle.fc_spec.specs.Domain.{same_place}
 use Rattle.fc_spec.proofs.Members.{same_tests}
 use Rattle.fc_spec.proofs.Renumbered.{Numbers, renumbered}
-
--- how many documents the blocks have
-abbrev pub documents : List Block → ℕ
-documents [] = 0
-documents (x ∷ xs) = length x.children + 1 + documents xs
 
 -- what stands ahead of a shard in the joined one: n ahead of the second, nothing ahead of another
 abbrev pub ahead : ℕ → ℕ → ℕ
@@ -22,13 +20,13 @@ ahead n (suc (suc s)) = 0
 abbrev pub joining : List Block → Numbers
 joining A = record {
   shard = λ p. pred p.shard;
-  position = λ p. ahead (documents A) p.shard + p.position;
+  position = λ p. ahead (document_total A) p.shard + p.position;
   block = λ p. ahead (length A) p.shard + p.block;
 }
 
 -- a block and a position of the first shard are among these blocks
 abbrev pub fits_first : List Block → (shard block position : ℕ) → Bool
-fits_first A zero b p = nat_lt b (length A) && nat_lt p (documents A)
+fits_first A zero b p = nat_lt b (length A) && nat_lt p (document_total A)
 fits_first A (suc s) b p = true
 
 -- a place of the first shard is of these blocks
@@ -36,10 +34,10 @@ abbrev pub fits : List Block → Place → Bool
 fits A p = fits_first A p.shard p.block p.position
 
 -- what that says of the numbers
-fits_parts : (A : List Block) (s b p : ℕ) → fits_first A s b p ≡ true → (s ≡ 0 → b < length A) × (s ≡ 0 → p < documents A)
+fits_parts : (A : List Block) (s b p : ℕ) → fits_first A s b p ≡ true → (s ≡ 0 → b < length A) × (s ≡ 0 → p < document_total A)
 fits_parts A zero b p h =
-    let parts = and_parts (nat_lt b (length A)) (nat_lt p (documents A)) h in
-    ((λ e. ltb-true b (length A) parts.0), (λ e. ltb-true p (documents A) parts.1))
+    let parts = and_parts (nat_lt b (length A)) (nat_lt p (document_total A)) h in
+    ((λ e. ltb-true b (length A) parts.0), (λ e. ltb-true p (document_total A) parts.1))
 fits_parts A (suc s) b p h = ((λ e. absurd (omega arith)), (λ e. absurd (omega arith)))
 
 -- numbers that are one after joining were one before

@@ -4,23 +4,25 @@ use Rattle.std.proofs.lemmas.List.{map-append, append_assoc}
 use Rattle.fc_spec.specs.Document.{Document, Block}
 use Rattle.fc_spec.specs.World.{World, places, places_from, shard_places, block_places}
 use Rattle.fc_spec.proofs.Renumbered.{renumbered}
-use Rattle.fc_spec.proofs.JoinedNumbers.{documents, ahead, joining}
+use Rattle.fc_spec.specs.Totals.{document_total}
+use Rattle.fc_spec.proofs.BlockTotals.{document_total-cons}
+use Rattle.fc_spec.proofs.JoinedNumbers.{ahead, joining}
 
 -- the places of a block with the numbers after joining
 block_joining : (A : List Block) (s b p : ℕ) (ds : List Document) (d : Document)
-    → map (renumbered (joining A)) (block_places s b p ds d) ≡ block_places (pred s) (ahead (length A) s + b) (ahead (documents A) s + p) ds d
+    → map (renumbered (joining A)) (block_places s b p ds d) ≡ block_places (pred s) (ahead (length A) s + b) (ahead (document_total A) s + p) ds d
 block_joining A s b p [] d = refl
 block_joining A s b p (c ∷ cs) d =
-    let e : ahead (documents A) s + (p + 1) ≡ ahead (documents A) s + p + 1 = omega arith in
+    let e : ahead (document_total A) s + (p + 1) ≡ ahead (document_total A) s + p + 1 = omega arith in
     rw (block_joining A s b (p + 1) cs d, e) refl
 
 -- those of the blocks of a shard
 shard_joining : (A : List Block) (s b p : ℕ) (xs : List Block)
-    → map (renumbered (joining A)) (shard_places s b p xs) ≡ shard_places (pred s) (ahead (length A) s + b) (ahead (documents A) s + p) xs
+    → map (renumbered (joining A)) (shard_places s b p xs) ≡ shard_places (pred s) (ahead (length A) s + b) (ahead (document_total A) s + p) xs
 shard_joining A s b p [] = refl
 shard_joining A s b p (x ∷ xs) =
     let e : ahead (length A) s + (b + 1) ≡ ahead (length A) s + b + 1 = omega arith in
-    let f : ahead (documents A) s + (p + length x.children + 1) ≡ ahead (documents A) s + p + length x.children + 1 = omega arith in
+    let f : ahead (document_total A) s + (p + length x.children + 1) ≡ ahead (document_total A) s + p + length x.children + 1 = omega arith in
     rw (map-append, block_joining A s b p x.children x.parent, shard_joining A s (b + 1) (p + length x.children + 1) xs, e, f) refl
 
 -- those of the later shards
@@ -34,20 +36,20 @@ later_joining A s (x ∷ rest) =
     ∙ ap (λ ps. shard_places (suc s) 0 0 x ++ ps) (later_joining A (suc s) rest ∙ ap (λ k. places_from k rest) f)
 
 -- blocks behind blocks of one shard
-shard_places-append : (s b p : ℕ) (A B : List Block) → shard_places s b p (A ++ B) ≡ shard_places s b p A ++ shard_places s (b + length A) (p + documents A) B
+shard_places-append : (s b p : ℕ) (A B : List Block) → shard_places s b p (A ++ B) ≡ shard_places s b p A ++ shard_places s (b + length A) (p + document_total A) B
 shard_places-append s b p [] B =
     let e : b ≡ b + 0 = omega arith in
     let f : p ≡ p + 0 = omega arith in
     λ i. shard_places s (e i) (f i) B
 shard_places-append s b p (x ∷ xs) B =
     let e : b + 1 + length xs ≡ b + suc (length xs) = omega arith in
-    let f : p + length x.children + 1 + documents xs ≡ p + (length x.children + 1 + documents xs) = omega arith in
-    rw (shard_places-append s (b + 1) (p + length x.children + 1) xs B, e, f, append_assoc) refl
+    let f : p + length x.children + 1 + document_total xs ≡ p + document_total (x ∷ xs) = omega (arith, document_total-cons x xs) in
+    rw (shard_places-append s (b + 1) (p + length x.children + 1) xs B, e, append_assoc, f) refl
 
 -- all places of the joined world
 pub places_joining : (A B : List Block) (rest : World) → places ((A ++ B) ∷ rest) ≡ map (renumbered (joining A)) (places (A ∷ (B ∷ rest)))
 places_joining A B rest =
     let e : 0 + length A ≡ length A + 0 = omega arith in
-    let f : 0 + documents A ≡ documents A + 0 = omega arith in
+    let f : 0 + document_total A ≡ document_total A + 0 = omega arith in
     ap (λ ps. ps ++ places_from 1 rest) (shard_places-append 0 0 0 A B)
     ∙ rw (map-append, map-append, shard_joining A 0 0 0 A, shard_joining A 1 0 0 B, later_joining A 0 rest, append_assoc, e, f) refl

@@ -4,26 +4,29 @@ use Rattle.std.specs.Prelude.{nat_lt}
 use Rattle.std.proofs.lemmas.Bool.{and_from, lt-ltb}
 use Rattle.fc_spec.specs.Document.{Document, Block}
 use Rattle.fc_spec.specs.World.{World, places_from, shard_places, block_places}
+use Rattle.fc_spec.specs.Totals.{document_total}
+use Rattle.fc_spec.proofs.BlockTotals.{document_total-cons}
 use Rattle.fc_spec.proofs.Members.{Every, every_append}
 use Rattle.fc_spec.proofs.Renumbered.{Renumbering}
-use Rattle.fc_spec.proofs.JoinedNumbers.{documents, joining, fits_first, fits, same_blocks_joining}
+use Rattle.fc_spec.proofs.JoinedNumbers.{documents, joining, fits_first, fits, same_blocks_joining, same_places_joining}
 use Rattle.fc_spec.proofs.JoinedPlaces.{places_joining}
 
 -- numbers within the blocks
-numbers_fit : (A : List Block) (b p : ℕ) → b < length A → p < documents A → fits_first A 0 b p ≡ true
-numbers_fit A b p h k = and_from (nat_lt b (length A)) (nat_lt p (documents A)) (lt-ltb b (length A) h) (lt-ltb p (documents A) k)
+numbers_fit : (A : List Block) (b p : ℕ) → b < length A → p < document_total A → fits_first A 0 b p ≡ true
+numbers_fit A b p h k = and_from (nat_lt b (length A)) (nat_lt p (document_total A)) (lt-ltb b (length A) h) (lt-ltb p (document_total A) k)
 
 -- the places of a block of the first shard fit its blocks
-block_fits : (A : List Block) (b p : ℕ) (ds : List Document) (d : Document) → b < length A → p + length ds < documents A → Every (fits A) (block_places 0 b p ds d)
+block_fits : (A : List Block) (b p : ℕ) (ds : List Document) (d : Document) → b < length A → p + length ds < document_total A → Every (fits A) (block_places 0 b p ds d)
 block_fits A b p [] d h k = (numbers_fit A b p h (omega arith), tt)
 block_fits A b p (c ∷ cs) d h k = (numbers_fit A b p h (omega arith), block_fits A b (p + 1) cs d h (omega arith))
 
 -- so do those of its blocks from the number b on
-first_fits : (A : List Block) (b p : ℕ) (xs : List Block) → b + length xs ≤ length A → p + documents xs ≤ documents A → Every (fits A) (shard_places 0 b p xs)
+first_fits : (A : List Block) (b p : ℕ) (xs : List Block) → b + length xs ≤ length A → p + document_total xs ≤ document_total A → Every (fits A) (shard_places 0 b p xs)
 first_fits A b p [] h k = tt
 first_fits A b p (x ∷ xs) h k =
     every_append (fits A) (block_places 0 b p x.children x.parent) (shard_places 0 (b + 1) (p + length x.children + 1) xs)
-    (block_fits A b p x.children x.parent (omega arith) (omega arith)) (first_fits A (b + 1) (p + length x.children + 1) xs (omega arith) (omega arith))
+    (block_fits A b p x.children x.parent (omega arith) (omega (arith, document_total-cons x xs)))
+    (first_fits A (b + 1) (p + length x.children + 1) xs (omega arith) (omega (arith, document_total-cons x xs)))
 
 -- of a later shard nothing is asked: its blocks
 later_block_fits : (A : List Block) (s b p : ℕ) (ds : List Document) (d : Document) → Every (fits A) (block_places (suc s) b p ds d)

@@ -1,8 +1,7 @@
 -- Keys that compare alike are one.
 use Rattle.std.proofs.Common.{◌≡◌, true, refl, ap}
+use Rattle.std.specs.Cmp.{Equal-is}
 use Rattle.std.specs.Ordering.{is_eq, nat_cmp}
-use Rattle.std.specs.declared.cmp.Ordering.{Ordering}
-use Rattle.std.specs.declared.cmp.Ordering.TheVariants.{Less, Equal, Greater}
 use Rattle.std.proofs.lemmas.Bool.{false≢true}
 use Rattle.std.proofs.lemmas.Cmp.{nat_cmp_total, tied_itself}
 use Rattle.std.proofs.lemmas.Map.Lookups.{exact_unsigned}
@@ -10,14 +9,9 @@ use Rattle.fc_spec.specs.Buckets.{Key, value, missing, gap, before, between, aft
 use Rattle.fc_spec.specs.KeyOrder.{same_key}
 use Rattle.fc_spec.proofs.ValOrder.{same_val_exact, same_val_itself}
 
-is_equal : (o : Ordering) → is_eq o ≡ true → o ≡ Equal
-is_equal Less h = absurd (false≢true h)
-is_equal Equal h = refl
-is_equal Greater h = absurd (false≢true h)
-
 pub same_key_exact : (k l : Key) → same_key k l ≡ true → k ≡ l
 same_key_exact (value v) (value w) h = ap value (same_val_exact v w h)
-same_key_exact (gap i) (gap j) h = ap gap (exact_unsigned i j (is_equal (nat_cmp i j) h))
+same_key_exact (gap i) (gap j) h = ap gap (exact_unsigned i j ((Equal-is (nat_cmp i j)).0 h))
 same_key_exact missing missing h = refl
 same_key_exact before before h = refl
 same_key_exact between between h = refl

@@ -1,6 +1,11 @@
 pub mod Members
 pub mod Shards
 pub mod AllShards
+pub mod Orderings
+pub mod Texts
+pub mod BlockTotals
+pub mod ValueKinds
+pub mod PlacedDocuments
 pub mod ValOrder
 pub mod Ascending
 pub mod FoundValues

@@ -1,9 +1,14 @@
--- Filters, tests and counts over the image of a list.
+-- The image of a list, and filters, tests and counts over it.
 use Rattle.std.proofs.Common.{◌≡◌, List, [], ◌∷◌, map, Bool, true, false, cond, ◌||◌, refl, ◌∙◌, ap}
 use Rattle.std.specs.Prelude.{count_by}
 use Rattle.std.specs.List.{filter, list_any}
 use Rattle.fc_spec.proofs.Members.{Every}
 use Rattle.fc_spec.proofs.Counting.{count_by-cons}
+
+-- functions that agree
+pub map-same : {X Y : Type 0} (f g : X → Y) (xs : List X) → ((x : X) → f x ≡ g x) → map f xs ≡ map g xs
+map-same f g [] same = refl
+map-same f g (x ∷ xs) same = λ i. same x i ∷ map-same f g xs same i
 
 -- a filter of an image is the image of a filter, where the tests agree at each member
 pub filter-map : {X Y : Type 0} (f : X → Y) (known : X → Bool) (t : Y → Bool) (s : X → Bool) (xs : List X)

@@ -1,7 +1,8 @@
 -- Members of lists, tests of them, and filters.
 use Rattle.std.proofs.Common.{◌≡◌, ◌⊎◌, List, [], ◌∷◌, ◌++◌, map, Bool, true, false, cond, ◌||◌, ◌&&◌, refl, sym, ◌∙◌, ap, inl, inr}
-use Rattle.std.specs.List.{filter, list_any, flat_map}
+use Rattle.std.specs.List.{filter, list_any, flat_map, AllByRecursion}
 use Rattle.std.proofs.lemmas.Bool.{false≢true, or_cases, or_left, or_right}
+use Rattle.std.proofs.lemmas.List.Folds.{list_any-append}
 
 -- x is a member of the list
 abbrev pub Member : {X : Type 0} → X → List X → Type 0
@@ -10,8 +11,7 @@ Member x (y ∷ ys) = (x ≡ y) ⊎ Member x ys
 
 -- each member passes the test
 abbrev pub Every : {X : Type 0} → (X → Bool) → List X → Type 0
-Every p [] = Unit {0}
-Every p (x ∷ xs) = (p x ≡ true) × Every p xs
+Every p xs = AllByRecursion (λ x. p x ≡ true) xs
 
 pub every_from_members : {X : Type 0} (p : X → Bool) (xs : List X) → ((x : X) → Member x xs → p x ≡ true) → Every p xs
 every_from_members p [] h = tt
@@ -71,13 +71,10 @@ same_tests true b h k = sym (h refl)
 same_tests false true h k = k refl
 same_tests false false h k = refl
 
-or_assoc : (a b c : Bool) → (a || (b || c)) ≡ ((a || b) || c)
-or_assoc true b c = refl
-or_assoc false b c = refl
-
-pub list_any-append : {X : Type 0} (t : X → Bool) (xs ys : List X) → list_any t (xs ++ ys) ≡ (list_any t xs || list_any t ys)
-list_any-append t [] ys = refl
-list_any-append t (x ∷ xs) ys = ap (λ b. t x || b) (list_any-append t xs ys) ∙ or_assoc (t x) (list_any t xs) (list_any t ys)
+pub or_swap : (a b c : Bool) → (a || (b || c)) ≡ (b || (a || c))
+or_swap true true c = refl
+or_swap true false c = refl
+or_swap false b c = refl
 
 -- whether some member of some list passes
 pub list_any-flat_map : {X Y : Type 0} (t : Y → Bool) (f : X → List Y) (xs : List X) → list_any t (flat_map f xs) ≡ list_any (λ x. list_any t (f x)) xs

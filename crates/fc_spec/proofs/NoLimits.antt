@@ -10,8 +10,7 @@ use Rattle.fc_spec.specs.Buckets.{Key, bucket_places}
 use Rattle.fc_spec.specs.Statistics.{value_over, shown}
 use Rattle.fc_spec.specs.Reply.{bucket, with_buckets}
 use Rattle.fc_spec.specs.Printed.{terms_keys, statistic_part, facet_part}
-use Rattle.fc_spec.specs.Paths.{is_refining}
-use Rattle.fc_spec.specs.Shape.{has_no_limit, no_limits}
+use Rattle.fc_spec.specs.Shape.{has_no_limit, is_refining, no_limits}
 use Rattle.fc_spec.specs.Exact.{exact_keys, exact_facets}
 use Rattle.fc_spec.specs.Reading.{over_places}
 use Rattle.fc_spec.specs.Distributed.{carried, printed_keys, dist_facets}

@@ -1,5 +1,5 @@
 -- What shards offer is what their held buckets list.
-use Rattle.std.proofs.Common.{◌≡◌, ℕ, List, [], ◌∷◌, ◌++◌, map, Bool, true, false, cond, not, Some, is_some, refl, sym, ◌∙◌, ap, subst, inl, inr}
+use Rattle.std.proofs.Common.{◌≡◌, ℕ, List, [], ◌∷◌, ◌++◌, map, Bool, true, false, cond, not, Some, is_some, refl, sym, ◌∙◌, ap, append-nil, subst, inl, inr}
 use Rattle.std.specs.List.{AllByRecursion}
 use Rattle.std.proofs.lemmas.Bool.{false≢true}
 use Rattle.fc_spec.specs.Val.{Text, Val, has_val, same_val}
@@ -39,10 +39,6 @@ key_values-values : (vs : List Val) (rest : List Key) → key_values (map value 
 key_values-values [] rest = refl
 key_values-values (v ∷ vs) rest = ap (λ ws. v ∷ ws) (key_values-values vs rest)
 
-append_nothing : {X : Type 0} (xs : List X) → xs ++ [] ≡ xs
-append_nothing [] = refl
-append_nothing (x ∷ xs) = ap (λ ys. x ∷ ys) (append_nothing xs)
-
 -- missing is no value
 no_value_missing : (t : Terms) (Y : List Place) (b : Bool) → key_values (not_empty (terms t) Y (asked b missing)) ≡ []
 no_value_missing t Y false = refl
@@ -55,7 +51,7 @@ no_value_missing t Y true = go (not (is_empty (bucket_places (terms t) missing Y
 -- the values of an answer's keys are those offered
 key_values-answer_keys : (t : Terms) (inner : Nodes) (Y : List Place) (i : ℕ) → key_values (answer_keys (terms t) inner Y i) ≡ offered t inner Y i
 key_values-answer_keys t inner Y i =
-    key_values-values (offered t inner Y i) (not_empty (terms t) Y (asked t.missing missing)) ∙ ap (λ vs. offered t inner Y i ++ vs) (no_value_missing t Y t.missing) ∙ append_nothing (offered t inner Y i)
+    key_values-values (offered t inner Y i) (not_empty (terms t) Y (asked t.missing missing)) ∙ ap (λ vs. offered t inner Y i ++ vs) (no_value_missing t Y t.missing) ∙ append-nil (offered t inner Y i)
 
 -- what a shard offers depends on its part of the domain
 pub offered_local : (t : Terms) (inner : Nodes) (Y Z : List Place) (i : ℕ) → part i Y ≡ part i Z → offered t inner Y i ≡ offered t inner Z i

@@ -1,7 +1,8 @@
 -- A shard's answer is made from its own blocks, and its number plays no part.
-use Rattle.std.proofs.Common.{◌≡◌, ℕ, zero, suc, ◌+◌, ◌<◌, List, [], ◌∷◌, ◌++◌, map, length, Bool, true, false, cond, not, ◌||◌, ◌&&◌, ◌==◌, Option, None, Some, refl, sym, ◌∙◌, ap, subst, inl, inr, arith}
+use Rattle.std.proofs.Common.{◌≡◌, ℕ, zero, suc, ◌+◌, ◌<◌, List, [], ◌∷◌, ◌++◌, map, length, Bool, true, false, cond, not, ◌||◌, ◌&&◌, ◌==◌, Option, None, Some, refl, sym, ◌∙◌, ap, append-nil, subst, inl, inr, arith}
 use Rattle.std.specs.List.{filter, list_all, slice_get}
 use Rattle.std.proofs.lemmas.Bool.{false≢true, or_cases, eqb-true, eq-eqb, ne_eqb}
+use Rattle.std.proofs.lemmas.List.Elements.{filter-append}
 use Rattle.std.proofs.lemmas.List.{map-append}
 use Rattle.fc_spec.specs.Document.{Document, Block}
 use Rattle.fc_spec.specs.Lists.{is_empty}
@@ -24,14 +25,6 @@ use Rattle.fc_spec.proofs.Locality.{filter-filter, filter_twice, moved_local}
 use Rattle.fc_spec.proofs.Renumbered.{Numbers, renumbered, filter_renumbered}
 use Rattle.fc_spec.proofs.AlikePlaces.{length_renumbered, bucket_renumbered, stats_renumbered, entries_renumbered}
 use Rattle.fc_spec.proofs.HeldAnswers.{part}
-
-filter-append : {X : Type 0} (p : X → Bool) (xs ys : List X) → filter p (xs ++ ys) ≡ filter p xs ++ filter p ys
-filter-append p [] ys = refl
-filter-append p (x ∷ xs) ys = go (p x) (filter-append p xs ys)
-  where
-    go : (b : Bool) → filter p (xs ++ ys) ≡ filter p xs ++ filter p ys → cond b (x ∷ filter p (xs ++ ys)) (filter p (xs ++ ys)) ≡ cond b (x ∷ filter p xs) (filter p xs) ++ filter p ys
-    go true e = ap (λ zs. x ∷ zs) e
-    go false e = e
 
 -- all places of a block are on its shard, and none on another
 block_here : (i s b p : ℕ) (ds : List Document) (d : Document) → i ≡ s → on_shards (i ∷ []) (block_places s b p ds d) ≡ block_places s b p ds d
@@ -72,15 +65,11 @@ before_here i s [] h = refl
 before_here i s (b ∷ rest) h =
     filter-append (is_on (i ∷ [])) (shard_places s 0 0 b) (places_from (s + 1) rest) ∙ (λ j. shard_elsewhere i s 0 0 b (λ e. omega arith) j ++ before_here i (s + 1) rest (omega arith) j)
 
-append_nothing : {X : Type 0} (xs : List X) → xs ++ [] ≡ xs
-append_nothing [] = refl
-append_nothing (x ∷ xs) = ap (λ ys. x ∷ ys) (append_nothing xs)
-
 part_from : (i s k : ℕ) (W : World) → i ≡ s + k → on_shards (i ∷ []) (places_from s W) ≡ of_blocks i (slice_get W k)
 part_from i s k [] e = refl
 part_from i s zero (b ∷ rest) e =
     let same : i ≡ s = omega arith in
-    filter-append (is_on (i ∷ [])) (shard_places s 0 0 b) (places_from (s + 1) rest) ∙ (λ j. shard_here i s 0 0 b same j ++ before_here i (s + 1) rest (omega arith) j) ∙ append_nothing (shard_places s 0 0 b) ∙ ap (λ t. shard_places t 0 0 b) (sym same)
+    filter-append (is_on (i ∷ [])) (shard_places s 0 0 b) (places_from (s + 1) rest) ∙ (λ j. shard_here i s 0 0 b same j ++ before_here i (s + 1) rest (omega arith) j) ∙ append-nil (shard_places s 0 0 b) ∙ ap (λ t. shard_places t 0 0 b) (sym same)
 part_from i s (suc k) (b ∷ rest) e =
     filter-append (is_on (i ∷ [])) (shard_places s 0 0 b) (places_from (s + 1) rest) ∙ (λ j. shard_elsewhere i s 0 0 b (λ h. omega arith) j ++ part_from i (s + 1) k rest (omega arith) j)
 

@@ -15,8 +15,7 @@ use Rattle.fc_spec.specs.Chosen.{offering, known}
 use Rattle.fc_spec.specs.Message.{Way}
 use Rattle.fc_spec.specs.Answer.{not_empty, answer_keys, answer_domain, facet_at}
 use Rattle.fc_spec.specs.Held.{Bucket, Told, held}
-use Rattle.fc_spec.specs.Shape.{no_exclusions}
-use Rattle.fc_spec.specs.Lacks.{asks_again}
+use Rattle.fc_spec.specs.Shape.{no_exclusions, asks_again}
 use Rattle.fc_spec.proofs.Members.{Member, filter_member, member_of_filter}
 use Rattle.fc_spec.proofs.FoundValues.{holds_value, has_val-values_in, not-is_empty-filter}
 use Rattle.fc_spec.proofs.Unlimited.{offered_all}

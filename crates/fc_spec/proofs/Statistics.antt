@@ -1,15 +1,15 @@
 -- Statistics of joined lists of places.
 use Rattle.std.specs.Prelude.{◌≡◌, ℕ, pos, List, [], ◌∷◌, ◌++◌, map}
-use Rattle.std.specs.List.{filter_map}
 use Rattle.std.proofs.Common.{refl, ap, ◌∙◌, length-append}
 use Rattle.std.proofs.lemmas.Grind.{flat_map-append}
 use Rattle.std.proofs.lemmas.List.Elements.{filter_map-append}
 use Rattle.std.proofs.lemmas.List.Sums.{sum_by-append}
 use Rattle.std.proofs.Math.IntN.{+ℤ_comm}
+use Rattle.fc_spec.specs.Columns.{as_long, longs_in}
 use Rattle.fc_spec.specs.World.{Place}
 use Rattle.fc_spec.specs.Request.{StatKind, sum, min, max, countvals, missing, Stat}
 use Rattle.fc_spec.specs.Document.{values_of}
-use Rattle.fc_spec.specs.Statistics.{StatValue, extreme, number, shown, amount, as_long, pair_values, longs_of, statistic_in, value_over, combined_value}
+use Rattle.fc_spec.specs.Statistics.{StatValue, extreme, number, shown, amount, pair_values, longs_of, statistic_in, value_over, combined_value}
 use Rattle.fc_spec.specs.Combining.{combined_values}
 use Rattle.fc_spec.specs.CombiningLaw.{CombinesLists}
 use Rattle.fc_spec.proofs.LeastAndGreatest.{lesser_comm, greater_comm, least_of-append, greatest_of-append, total_of-append}
@@ -20,7 +20,7 @@ pair_values-append field = flat_map-append (λ (p : Place). values_of p.document
 
 -- the integers at joined lists of places
 longs_of-append : (field : ℕ) (X Y : List Place) → longs_of field (X ++ Y) ≡ longs_of field X ++ longs_of field Y
-longs_of-append field X Y = ap (filter_map as_long) (pair_values-append field X Y) ∙ filter_map-append as_long (pair_values field X) (pair_values field Y)
+longs_of-append field X Y = ap longs_in (pair_values-append field X Y) ∙ filter_map-append as_long (pair_values field X) (pair_values field Y)
 
 -- a statistic of joined lists
 pub statistic_in-append : (kind : StatKind) (field : ℕ) (X Y : List Place)

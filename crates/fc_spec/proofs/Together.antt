@@ -1,6 +1,7 @@
 -- The parts of a set of places on different shards, taken together.
-use Rattle.std.proofs.Common.{◌≡◌, ℕ, zero, suc, ◌+◌, ◌<◌, List, [], ◌∷◌, length, Bool, true, false, cond, ◌||◌, ◌==◌, refl, sym, ◌∙◌, ap, arith}
+use Rattle.std.proofs.Common.{◌≡◌, ℕ, zero, suc, ◌+◌, ◌<◌, List, [], ◌∷◌, length, Bool, true, false, cond, ◌==◌, refl, sym, ◌∙◌, ap, arith}
 use Rattle.std.specs.List.{filter, list_any, range_with_len, slice_index_or}
+use Rattle.std.proofs.Math.Bool.{or-false}
 use Rattle.std.proofs.lemmas.Bool.{false≢true, eqb-true, ne_eqb, or_from, or_parts}
 use Rattle.fc_spec.specs.Lists.{numbers_below}
 use Rattle.fc_spec.specs.World.{Place, on_shards}
@@ -16,14 +17,10 @@ abbrev pub IsDistinct : List ℕ → Type 0
 IsDistinct [] = Unit {0}
 IsDistinct (i ∷ H) = (list_any (λ j. j == i) H ≡ false) × IsDistinct H
 
-or_false : (b : Bool) → (b || false) ≡ b
-or_false true = refl
-or_false false = refl
-
 -- the statistics of the part on one more shard
 pub stats_on_more : (ss : List Stat) (i : ℕ) (H : List ℕ) (S : List Place) → list_any (λ j. j == i) H ≡ false → stats_over ss (on_shards (i ∷ H) S) ≡ combined ss (stats_over ss (part i S)) (stats_over ss (on_shards H S))
 stats_on_more ss i H S apart =
-    stats_over_parts ss (λ x. i == x.shard) (is_on H) disjoint S ∙ sym (λ k. combined ss (stats_over ss (filter (λ x. or_false (i == x.shard) k) S)) (stats_over ss (on_shards H S)))
+    stats_over_parts ss (λ x. i == x.shard) (is_on H) disjoint S ∙ sym (λ k. combined ss (stats_over ss (filter (λ x. or-false (i == x.shard) k) S)) (stats_over ss (on_shards H S)))
   where
     disjoint : (x : Place) → (i == x.shard) ≡ true → is_on H x ≡ true → ⊥
     disjoint x e on = false≢true (sym apart ∙ ap (λ s. list_any (λ j. j == s) H) (eqb-true i x.shard e) ∙ on)

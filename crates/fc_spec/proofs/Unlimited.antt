@@ -1,6 +1,6 @@
 -- A terms facet without a limit: every shard offers all that it has, and every value is chosen.
 use Rattle.std.proofs.Common.{◌≡◌, ℕ, ◌+◌, List, [], ◌∷◌, map, length, Bool, true, false, cond, ◌||◌, ◌==◌, None, refl, sym, ◌∙◌, ap, ◌⊎◌, inl, inr}
-use Rattle.std.specs.List.{filter, list_any, flat_map, enumerate_from}
+use Rattle.std.specs.List.{list_any, flat_map, enumerate_from}
 use Rattle.std.proofs.lemmas.Bool.{eqb-true, eq-eqb, false≢true}
 use Rattle.fc_spec.specs.Val.{Val, has_val, same_val, distinct}
 use Rattle.fc_spec.specs.World.{World, Place, on_shards}
@@ -11,17 +11,14 @@ use Rattle.fc_spec.specs.Values.{value_places, values_in, entries_in}
 use Rattle.fc_spec.specs.Reading.{stats_on, offered, over_places}
 use Rattle.fc_spec.specs.Chosen.{candidates, offering, entry_on, chosen, known, chosen_entries}
 use Rattle.fc_spec.proofs.Members.{Member, Every, every_from_members, every_member, every_filter, filter_member, member_of_filter, passing_member, any_by_member, same_tests, list_any-flat_map}
+use Rattle.fc_spec.proofs.Counting.{filter-all}
 use Rattle.fc_spec.proofs.Shards.{is_on, on_shards_every}
-use Rattle.fc_spec.proofs.Ascending.{has_val-distinct, ascending-distinct, same_ascending}
+use Rattle.fc_spec.proofs.Ascending.{has_val-distinct, distinct_ascends, same_ascending}
 use Rattle.fc_spec.proofs.FoundValues.{holds_value, has_val-values_in, ascending-values_in}
 
 -- every entry is below no bound
 pub below_no_rank : (s : Sort) (V : List Entry) → below_rank s None V ≡ V
-below_no_rank s V = filter_true V
-  where
-    filter_true : (xs : List Entry) → filter (λ e. true) xs ≡ xs
-    filter_true [] = refl
-    filter_true (x ∷ xs) = ap (λ ys. x ∷ ys) (filter_true xs)
+below_no_rank s V = filter-all V
 
 -- the values of the entries made for some values
 map-val : (stats : Val → Entry) → ((v : Val) → (stats v).val ≡ v) → (vs : List Val) → map (λ e. e.val) (map stats vs) ≡ vs
@@ -62,7 +59,7 @@ known_holds r W t inner H Y v why on = on_shards_every (known (over_places r W) 
 
 -- the candidates are the values found on all the shards together
 pub candidates_all : (r : Request) (W : World) (t : Terms) (inner : Nodes) (H : List ℕ) (Y : List Place) → t.limit ≡ None → Every (is_on H) Y → candidates (over_places r W) t inner H Y ≡ values_in t Y
-candidates_all r W t inner H Y none on = same_ascending (distinct (flat_map offers H)) (values_in t Y) (ascending-distinct (flat_map offers H)) (ascending-values_in t Y) same
+candidates_all r W t inner H Y none on = same_ascending (distinct (flat_map offers H)) (values_in t Y) (distinct_ascends (flat_map offers H)) (ascending-values_in t Y) same
   where
     offers : ℕ → List Val
     offers i = offered t inner Y i

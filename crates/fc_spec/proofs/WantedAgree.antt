@@ -12,7 +12,8 @@ use Rattle.fc_spec.specs.Message.{Way, way_of}
 use Rattle.fc_spec.specs.Answer.{facet_at}
 use Rattle.fc_spec.specs.Held.{Told, held}
 use Rattle.fc_spec.specs.Merged.{count_held, over_held}
-use Rattle.fc_spec.specs.Lacks.{Lack, asks_again, want_of, each_of, wanted_at, facet_wanted, wanted}
+use Rattle.fc_spec.specs.Lacks.{Lack, want_of, each_of, wanted_at, facet_wanted, wanted}
+use Rattle.fc_spec.specs.Shape.{asks_again}
 use Rattle.fc_spec.proofs.Members.{Member}
 use Rattle.fc_spec.proofs.HeldAnswers.{IsTold}
 use Rattle.fc_spec.proofs.HeldFurther.{step_to}

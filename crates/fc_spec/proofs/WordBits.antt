@@ -1,7 +1,7 @@
 -- The bits of words, after a word is changed.
 use Rattle.std.proofs.Common.{◌≡◌, ℕ, ◌+◌, ◌-◌, ◌*◌, ◌/◌, ◌%◌, ◌^◌, ◌<◌, ◌≤◌, ◌⊎◌, inl, inr, min, max, Bool, true, false, cond, not, ◌&&◌, ◌||◌, ◌==◌, nat_lt, List, length, get_or, set, replicate, refl, sym, ap, ap₂, ◌∙◌, arith, bit_and, bit_or, w64, mod-eq_of_lt, one-mul, eq-eqb, ne_eqb, lt-ltb, le-ltb}
 use Rattle.std.proofs.lemmas.List.{get_or-set_same, get_or-set_other, get_or-replicate, get_or_past, length-replicate}
-use Rattle.std.proofs.lemmas.Bool.{cases_eq, cases_lt}
+use Rattle.std.proofs.lemmas.Bool.{and_right, or_right, cases_eq, cases_lt}
 use Rattle.std.proofs.lemmas.Bool.Decides.{nat_tests}
 use Rattle.std.proofs.lemmas.Nat.{pow_below}
 use Rattle.std.proofs.lemmas.Nat.Bits.{bit_at_and, bit_at_or, bit_at_not, bit_at-lt, bit_at-zero, bit_at_set_same, bit_at_set_other, bit_at_ones, bit_at_ones_above}
@@ -72,13 +72,9 @@ unfolding has_bit
 has_bit_here words i k same = ap (λ j. bit_at (get_or words j 0) (k % 64) == 1) (sym same)
 
 -- ---- a bit is set
-or_right_false : (a b : Bool) → b ≡ false → (a || b) ≡ a
+pub or_right_false : (a b : Bool) → b ≡ false → (a || b) ≡ a
 or_right_false true b e = refl
 or_right_false false b e = e
-
-or_right_true : (a b : Bool) → b ≡ true → (a || b) ≡ true
-or_right_true true b e = refl
-or_right_true false b e = e
 
 -- the word of a position, with its bit set
 abbrev pub with_bit : List ℕ → ℕ → ℕ
@@ -94,7 +90,7 @@ has_bit-set_one words at k within = word (cases_eq (k / 64) (at / 64))
     bit : k / 64 ≡ at / 64 → ((k % 64 ≡ at % 64) ⊎ (k % 64 ≡ at % 64 → ⊥)) → (bit_at (with_bit words at) (k % 64) == 1) ≡ (has_bit words k || (k == at))
     bit same (inl here) =
         ap (λ b. b == 1) (ap (bit_at (with_bit words at)) here ∙ bit_at_set_same w64 (get_or words (at / 64) 0) (at % 64) small)
-        ∙ sym (or_right_true (has_bit words k) (k == at) (eq-eqb k at (same_position k at same here)))
+        ∙ sym (or_right (has_bit words k) (k == at) (eq-eqb k at (same_position k at same here)))
     bit same (inr other) =
         ap (λ b. b == 1) (bit_at_set_other w64 (get_or words (at / 64) 0) (at % 64) small (k % 64) other)
         ∙ has_bit_here words (at / 64) k same
@@ -107,10 +103,6 @@ has_bit-set_one words at k within = word (cases_eq (k / 64) (at / 64))
         ∙ sym (or_right_false (has_bit words k) (k == at) (ne_eqb k at (λ e. other (ap (λ n. n / 64) e))))
 
 -- ---- the bits from a position on are cleared
-pub and_right_false : (a b : Bool) → b ≡ false → (a && b) ≡ false
-and_right_false true b e = e
-and_right_false false b e = refl
-
 pub and_right_true : (a b : Bool) → b ≡ true → (a && b) ≡ a
 and_right_true true b e = e
 and_right_true false b e = refl
@@ -121,7 +113,7 @@ cleared_past words len k size whole = go (cases_lt k len)
     go : ((k < len) ⊎ (len ≤ k)) → has_bit words k ≡ (has_bit words k && nat_lt k len)
     go (inl within) = sym (and_right_true (has_bit words k) (nat_lt k len) (lt-ltb k len within))
     go (inr past) =
-        has_bit_past words k (omega arith) ∙ sym (and_right_false (has_bit words k) (nat_lt k len) (le-ltb k len past))
+        has_bit_past words k (omega arith) ∙ sym (and_right (has_bit words k) (nat_lt k len) (le-ltb k len past))
 
 pub one_shl : (u : ℕ) → u < 64 → 1 * 2 ^ u % 2 ^ 64 ≡ 2 ^ u
 one_shl u small = ap (λ n. n % 2 ^ 64) (one-mul (2 ^ u)) ∙ mod-eq_of_lt (pow_below u 64 small)
@@ -164,7 +156,7 @@ has_bit-cleared words len k size some = word (cases_eq (k / 64) (len / 64))
         go : ((k < len) ⊎ (len ≤ k)) → has_bit words k ≡ (has_bit words k && nat_lt k len)
         go (inl below) = sym (and_right_true (has_bit words k) (nat_lt k len) (lt-ltb k len below))
         go (inr past) =
-            has_bit_past words k (omega arith) ∙ sym (and_right_false (has_bit words k) (nat_lt k len) (le-ltb k len past))
+            has_bit_past words k (omega arith) ∙ sym (and_right (has_bit words k) (nat_lt k len) (le-ltb k len past))
 
 -- ---- words joined one by one
 pub has_bit_joined : (join : Bool → Bool → Bool) (new old others : List ℕ) → join false false ≡ false → length old ≡ length new → length others ≡ length new

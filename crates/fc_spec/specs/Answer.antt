@@ -7,6 +7,7 @@ use Rattle.fc_spec.specs.Request.{Kind, terms, range, query, Facet, Nodes, no_no
 use Rattle.fc_spec.specs.Base.{root_domain}
 use Rattle.fc_spec.specs.Domain.{domain}
 use Rattle.fc_spec.specs.Buckets.{Key, value, missing, whole, bucket_places}
+use Rattle.fc_spec.specs.Paths.{places_inside}
 use Rattle.fc_spec.specs.Statistics.{Stats, stats_over}
 use Rattle.fc_spec.specs.Printed.{asked, range_keys}
 use Rattle.fc_spec.specs.Reading.{offered}
@@ -67,7 +68,7 @@ pub record Spot : Type 0 where
 -- one step further in; a step that names no facet leads nowhere
 abbrev pub spot_in : Request → World → Key → List Place → Option (Facet × Nodes) → Spot
 spot_in r W key X None = record { nodes = no_nodes; places = [] }
-spot_in r W key X (Some f) = record { nodes = f.1; places = bucket_places (f.0).kind key (domain r W (f.0).change X) }
+spot_in r W key X (Some f) = record { nodes = f.1; places = places_inside r W f.0 key X }
 
 -- where a way leads, over all shards
 abbrev pub spot_at : Request → World → Way → Spot → Spot

@@ -1,30 +1,38 @@
 -- The values of one field, document by document.
-use Rattle.std.specs.Prelude.{◌≡◌, ℕ, ℤ, List, [], ◌∷◌, AllPairs, map}
+use Rattle.std.specs.Prelude.{◌≡◌, ℕ, ℤ, List, AllPairs, map, Bool, true, false, Option, None, Some}
+use Rattle.std.specs.List.{filter_map}
 use Rattle.std.specs.declared.cmp.Ordering.{Ordering}
 use Rattle.std.specs.declared.cmp.Ordering.TheVariants.{Less}
 use Rattle.fc_spec.specs.Val.{Text, Val, text, long}
 use Rattle.fc_spec.specs.Document.{Document, values_of}
 
 -- the kind of a value
+abbrev pub is_text : Val → Bool
+is_text (text t) = true
+is_text (long z) = false
+
 abbrev pub IsText : Val → Type 0
-IsText (text t) = Unit {0}
-IsText (long z) = ⊥
+IsText v = is_text v ≡ true
 
 abbrev pub IsLong : Val → Type 0
-IsLong (text t) = ⊥
-IsLong (long z) = Unit {0}
+IsLong v = is_text v ≡ false
+
+-- the text or the integer that a value is
+abbrev pub as_text : Val → Option Text
+as_text (text t) = Some t
+as_text (long z) = None
+
+abbrev pub as_long : Val → Option ℤ
+as_long (text t) = None
+as_long (long z) = Some z
 
 -- the texts among values
 abbrev pub texts_in : List Val → List Text
-texts_in [] = []
-texts_in (text t ∷ vs) = t ∷ texts_in vs
-texts_in (long z ∷ vs) = texts_in vs
+texts_in vs = filter_map as_text vs
 
 -- the integers among values
 abbrev pub longs_in : List Val → List ℤ
-longs_in [] = []
-longs_in (text t ∷ vs) = longs_in vs
-longs_in (long z ∷ vs) = z ∷ longs_in vs
+longs_in vs = filter_map as_long vs
 
 -- each stands before every later one, so they are different
 abbrev pub IsAscending : {X : Type 0} → (X → X → Ordering) → List X → Type 0

@@ -1,9 +1,10 @@
 -- What is still lacking: chosen values of which a shard has told nothing, by the depth of their terms facets.
-use Rattle.std.specs.Prelude.{ℕ, zero, suc, max, ◌+◌, List, [], ◌∷◌, ◌++◌, map, Bool, ◌&&◌, ◌==◌, is_none, is_some, if◌then◌else◌}
+use Rattle.std.specs.Prelude.{ℕ, zero, suc, max, ◌+◌, List, [], ◌∷◌, ◌++◌, map, Bool, ◌&&◌, ◌==◌, is_none, if◌then◌else◌}
 use Rattle.std.specs.List.{filter, flat_map}
 use Rattle.fc_spec.specs.Lists.{is_empty, numbers_below}
 use Rattle.fc_spec.specs.Request.{Terms, Kind, terms, Facet, Nodes, no_nodes, statistic, facet, Request}
 use Rattle.fc_spec.specs.Buckets.{Key, value}
+use Rattle.fc_spec.specs.Shape.{asks_again}
 use Rattle.fc_spec.specs.Chosen.{chosen}
 use Rattle.fc_spec.specs.Distributed.{printed_keys, carried}
 use Rattle.fc_spec.specs.Message.{Way, Want, way_of}
@@ -15,10 +16,6 @@ use Rattle.fc_spec.specs.Merged.{over_held}
 pub record Lack : Type 0 where
   pub shard : ℕ
   pub want : Want
-
--- the terms facet has refine and a limit
-abbrev pub asks_again : Terms → Bool
-asks_again t = t.refine && is_some t.limit
 
 -- the bucket of a key of the n-th node, in the bucket where a way leads
 abbrev pub want_of : Way → ℕ → Key → Want

@@ -1,4 +1,5 @@
 pub mod Val
+pub mod ValOrder
 pub mod Document
 pub mod Schema
 pub mod Query

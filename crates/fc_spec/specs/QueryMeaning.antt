@@ -1,9 +1,8 @@
 -- What a tree means for a schema, and its faults. Guide: Standard Query Parser, "Boolean Operators Supported by the Standard Query Parser", "Range Searches", "Existence Searches".
 use Rattle.std.specs.Prelude.{ℕ, Bool, true, false, ◌&&◌, ◌||◌, Option, None, Some, is_none, option_map, slice_get, Result, Err, ok_or, if◌then◌else◌}
 use Rattle.fc_spec.specs.Val.{Text, Val, text, long}
-use Rattle.fc_spec.specs.Schema.{FieldType, Schema, field_named}
+use Rattle.fc_spec.specs.Schema.{FieldType, holds_texts, Schema, field_named}
 use Rattle.fc_spec.specs.IntegerTexts.{long_of}
-use Rattle.fc_spec.specs.ValidBlocks.{holds_texts}
 use Rattle.fc_spec.specs.Query.{Bound, unbounded, including, excluding, Need, must, must_not, may, Query, all, has, is, between, group, Clauses, no_clauses, clause as query_clause}
 use Rattle.fc_spec.specs.QueryTokens.{Range, Value, word, quoted, range, star, Sign, plus, minus, exclamation, negation, Operator, and, or}
 use Rattle.fc_spec.specs.QueryTrees.{Atom, plain, everything, nested, Group, no_more, clause}

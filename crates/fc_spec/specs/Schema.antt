@@ -1,5 +1,5 @@
 -- Schemas. Guide: Fields and Schema Design, "Field Types".
-use Rattle.std.specs.Prelude.{ℕ, List, Option, position}
+use Rattle.std.specs.Prelude.{ℕ, List, Bool, true, false, Option, map, position}
 use Rattle.fc_spec.specs.Val.{Text, same_text}
 
 -- at most one text, texts, at most one integer, integers
@@ -8,6 +8,13 @@ pub data FieldType : Type 0 where
   strings : FieldType
   plong : FieldType
   plongs : FieldType
+
+-- a field of the type holds texts; else it holds integers
+abbrev pub holds_texts : FieldType → Bool
+holds_texts string = true
+holds_texts strings = true
+holds_texts plong = false
+holds_texts plongs = false
 
 -- a field
 pub record Field : Type 0 where
@@ -18,6 +25,10 @@ pub record Field : Type 0 where
 pub record Schema : Type 0 where
   pub shards : ℕ
   pub fields : List Field
+
+-- for each field whether it holds texts
+abbrev pub texts_held : List Field → List Bool
+texts_held fields = map (λ f. holds_texts f.kind) fields
 
 -- the number of the field of this name
 abbrev pub field_named : Schema → Text → Option ℕ

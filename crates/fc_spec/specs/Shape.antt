@@ -1,12 +1,25 @@
--- Where a request has limits and exclusions.
-use Rattle.std.specs.Prelude.{Bool, true, ◌&&◌, is_none}
+-- Where a request has limits, refinement and exclusions.
+use Rattle.std.specs.Prelude.{Bool, true, not, ◌&&◌, ◌||◌, is_some}
 use Rattle.fc_spec.specs.Lists.{is_empty}
-use Rattle.fc_spec.specs.Request.{Kind, terms, Nodes, no_nodes, statistic, facet}
+use Rattle.fc_spec.specs.Request.{Terms, Kind, terms, Nodes, no_nodes, statistic, facet}
+
+-- the terms facet has a limit
+abbrev pub has_limit : Terms → Bool
+has_limit t = is_some t.limit
 
 -- it is no terms facet with a limit
 abbrev pub has_no_limit : Kind → Bool
-has_no_limit (terms t) = is_none t.limit
+has_no_limit (terms t) = not (has_limit t)
 has_no_limit _ = true
+
+-- it is a terms facet that refines or has no limit, or a facet of another kind
+abbrev pub is_refining : Kind → Bool
+is_refining (terms t) = t.refine || has_no_limit (terms t)
+is_refining _ = true
+
+-- the terms facet has refine and a limit
+abbrev pub asks_again : Terms → Bool
+asks_again t = t.refine && has_limit t
 
 -- no terms facet among the nodes, at any depth, has a limit
 abbrev pub no_limits : Nodes → Bool

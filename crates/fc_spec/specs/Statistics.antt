@@ -1,9 +1,10 @@
 -- Statistics of sets of places. Guide: JSON Facet API, "Stat Facet Functions".
-use Rattle.std.specs.Prelude.{ℕ, ℤ, pos, ◌+ℤ◌, List, [], ◌∷◌, map, length, Option, None, Some, count_by}
+use Rattle.std.specs.Prelude.{ℕ, ℤ, pos, ◌+ℤ◌, List, [], ◌∷◌, map, length, Option, None, Some, count_by, unwrap_or}
 use Rattle.std.specs.List.{flat_map, filter_map}
 use Rattle.std.specs.Int.{int_min, int_max}
-use Rattle.fc_spec.specs.Val.{Val, text, long}
+use Rattle.fc_spec.specs.Val.{Val}
 use Rattle.fc_spec.specs.Document.{values_of}
+use Rattle.fc_spec.specs.Columns.{longs_in}
 use Rattle.fc_spec.specs.Lists.{is_empty}
 use Rattle.fc_spec.specs.World.{Place}
 use Rattle.fc_spec.specs.Request.{StatKind, sum, min, max, countvals, missing, Stat}
@@ -22,14 +23,9 @@ pub record Stats : Type 0 where
 abbrev pub pair_values : ℕ → List Place → List Val
 pair_values field X = flat_map (λ p. values_of p.document field) X
 
--- the integer that a value is
-abbrev pub as_long : Val → Option ℤ
-as_long (long n) = Some n
-as_long (text t) = None
-
 -- the integers among the values of the pairs: in an integer field, all of them
 abbrev pub longs_of : ℕ → List Place → List ℤ
-longs_of field X = filter_map as_long (pair_values field X)
+longs_of field X = longs_in (pair_values field X)
 
 -- all added up
 abbrev pub total_of : List ℤ → ℤ

@@ -1,26 +1,21 @@
 -- Blocks that are valid for a schema.
-use Rattle.std.specs.Prelude.{◌≡◌, ℕ, List, length, Bool, true, false, All, IsTrue, Some, slice_get}
+use Rattle.std.specs.Prelude.{◌≡◌, ℕ, List, length, Bool, not, ◌&&◌, All, IsTrue, Some, slice_get}
 use Rattle.fc_spec.specs.Val.{Val, text, long, val_cmp}
 use Rattle.fc_spec.specs.Columns.{IsAscending}
 use Rattle.fc_spec.specs.Document.{Document, values_of, Block}
-use Rattle.fc_spec.specs.Schema.{FieldType, string, strings, plong, plongs, Field, Schema}
+use Rattle.fc_spec.specs.Schema.{FieldType, holds_texts, Field, Schema}
 use Rattle.fc_spec.specs.IntegerTexts.{is_long}
 use Rattle.fc_spec.specs.BlockReading.{is_term, takes}
 
--- the field holds texts; else it holds integers
-abbrev pub holds_texts : FieldType → Bool
-holds_texts string = true
-holds_texts strings = true
-holds_texts plong = false
-holds_texts plongs = false
+-- a text for a field of texts, an integer of 64 bits signed for a field of integers
+abbrev pub is_of_type : FieldType → Val → Bool
+is_of_type kind (text t) = holds_texts kind
+is_of_type kind (long z) = not (holds_texts kind) && is_long z
 
--- a text of at most 32,766 bytes in a field of texts, an integer of 64 bits signed in a field of integers
+-- such a value, a text of at most 32,766 bytes
 abbrev pub is_value_of : FieldType → Val → Bool
-is_value_of string (text t) = is_term t
-is_value_of strings (text t) = is_term t
-is_value_of plong (long z) = is_long z
-is_value_of plongs (long z) = is_long z
-is_value_of _ _ = false
+is_value_of kind (text t) = is_of_type kind (text t) && is_term t
+is_value_of kind (long z) = is_of_type kind (long z)
 
 -- values of the type, different and in index order, at most one where the type has at most one
 pub record AreValuesOf (kind : FieldType) (vs : List Val) : Type 0 where

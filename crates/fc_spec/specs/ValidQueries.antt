@@ -1,37 +1,45 @@
 -- Queries that are valid for a schema.
-use Rattle.std.specs.Prelude.{ℕ, suc, ◌<◌, ◌≤◌, max, length, Bool, not, ◌&&◌, IsTrue, IsSomeAnd, slice_get}
-use Rattle.fc_spec.specs.Val.{Val, text, long}
-use Rattle.fc_spec.specs.Schema.{FieldType, Schema}
-use Rattle.fc_spec.specs.IntegerTexts.{is_long}
-use Rattle.fc_spec.specs.ValidBlocks.{holds_texts}
+use Rattle.std.specs.Prelude.{ℕ, suc, ◌<◌, ◌≤◌, max, length, IsTrue, IsSomeAnd, slice_get}
+use Rattle.fc_spec.specs.Val.{Val}
+use Rattle.fc_spec.specs.Schema.{Schema}
+use Rattle.fc_spec.specs.ValidBlocks.{is_of_type}
 use Rattle.fc_spec.specs.Query.{Bound, unbounded, including, excluding, Query, all, has, is, between, group, Clauses, no_clauses, clause}
-
--- a text for a field of texts, an integer of 64 bits signed for a field of integers
-abbrev pub is_of_type : FieldType → Val → Bool
-is_of_type kind (text t) = holds_texts kind
-is_of_type kind (long z) = not (holds_texts kind) && is_long z
 
 -- the field is there, and the value is of its type
 abbrev pub IsFieldValue : Schema → (field : ℕ) → Val → Type 0
 IsFieldValue s field v = IsSomeAnd (slice_get s.fields field) (λ f. IsTrue (is_of_type f.kind v))
 
-abbrev pub IsFieldBound : Schema → (field : ℕ) → Bound → Type 0
-IsFieldBound s field unbounded = field < length s.fields
-IsFieldBound s field (including v) = IsFieldValue s field v
-IsFieldBound s field (excluding v) = IsFieldValue s field v
+-- the bound is a value of the field, or there is none and the field is there
+abbrev pub BoundFits : (HasField : ℕ → Type 0) → (HasValue : ℕ → Val → Type 0) → (field : ℕ) → Bound → Type 0
+BoundFits HasField HasValue field unbounded = HasField field
+BoundFits HasField HasValue field (including v) = HasValue field v
+BoundFits HasField HasValue field (excluding v) = HasValue field v
 
 abbrev mutual
-  -- its fields are there, and its values are of their types
-  pub FitsSchema : Schema → Query → Type 0
-  FitsSchema s all = Unit {0}
-  FitsSchema s (has field) = field < length s.fields
-  FitsSchema s (is field v) = IsFieldValue s field v
-  FitsSchema s (between field low high) = IsFieldBound s field low × IsFieldBound s field high
-  FitsSchema s (group cs) = AllFitSchema s cs
+  -- its fields are there, and its values and bounds are values of their fields
+  pub QueryFits : (HasField : ℕ → Type 0) → (HasValue : ℕ → Val → Type 0) → Query → Type 0
+  QueryFits HasField HasValue all = Unit {0}
+  QueryFits HasField HasValue (has field) = HasField field
+  QueryFits HasField HasValue (is field v) = HasValue field v
+  QueryFits HasField HasValue (between field low high) = BoundFits HasField HasValue field low × BoundFits HasField HasValue field high
+  QueryFits HasField HasValue (group cs) = ClausesFit HasField HasValue cs
 
-  pub AllFitSchema : Schema → Clauses → Type 0
-  AllFitSchema s no_clauses = Unit {0}
-  AllFitSchema s (clause need q cs) = FitsSchema s q × AllFitSchema s cs
+  pub ClausesFit : (HasField : ℕ → Type 0) → (HasValue : ℕ → Val → Type 0) → Clauses → Type 0
+  ClausesFit HasField HasValue no_clauses = Unit {0}
+  ClausesFit HasField HasValue (clause need q cs) = QueryFits HasField HasValue q × ClausesFit HasField HasValue cs
+
+abbrev pub IsField : Schema → ℕ → Type 0
+IsField s field = field < length s.fields
+
+abbrev pub IsFieldBound : Schema → (field : ℕ) → Bound → Type 0
+IsFieldBound s = BoundFits (IsField s) (IsFieldValue s)
+
+-- its fields are there, and its values are of their types
+abbrev pub FitsSchema : Schema → Query → Type 0
+FitsSchema s = QueryFits (IsField s) (IsFieldValue s)
+
+abbrev pub AllFitSchema : Schema → Clauses → Type 0
+AllFitSchema s = ClausesFit (IsField s) (IsFieldValue s)
 
 abbrev mutual
   -- how many groups stand within one another

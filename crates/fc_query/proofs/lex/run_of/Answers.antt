@@ -1,4 +1,5 @@
-use Rattle.std.proofs.Common.{◌≡◌, ◌∙◌, ◌++◌, ◌&&◌, [], List, Bool, sym, ap, refl, true, false, append-nil, string_bytes}
+use Rattle.std.proofs.Common.{◌≡◌, ◌∙◌, ◌++◌, ◌&&◌, [], List, Bool, sym, ap, true, false, append-nil, string_bytes}
+use Rattle.std.proofs.Math.Bool.{and-true}
 use Rattle.std.specs.Char.{encode_utf8}
 use Rattle.std.specs.List.{list_all, take_while}
 use Rattle.fc_spec.specs.QueryCharacters.{Character, code, behind, is_bare, text_of}
@@ -27,10 +28,6 @@ loop-first-preserved c =
       left = ap (behind test) c.advance.ensures ∙ left_goes_on test first c.loop-first.cursor here goes ∙ c.loop-first.invariant.left;
     }
 
-and_true : (b : Bool) → (b && true) ≡ b
-and_true true = refl
-and_true false = refl
-
 -- nothing of the run is left
 whole : (test : Character → Bool) (run : Run) (old cs : List Character) → take_while test cs ≡ [] → behind test cs ≡ cs
     → string_bytes run.text ++ text_of (take_while test cs) ≡ text_of (take_while test old)
@@ -39,7 +36,7 @@ whole : (test : Character → Bool) (run : Run) (old cs : List Character) → ta
     → IsRun test run old cs
 whole test run old cs none same text plain left = record {
   text = sym (ap (λ ds. string_bytes run.text ++ text_of ds) none ∙ append-nil (string_bytes run.text)) ∙ text;
-  plain = sym (ap (λ ds. run.plain && list_all is_bare ds) none ∙ and_true run.plain) ∙ plain;
+  plain = sym (ap (λ ds. run.plain && list_all is_bare ds) none ∙ and-true run.plain) ∙ plain;
   left = sym same ∙ left;
 }
 

@@ -2,7 +2,7 @@ use Rattle.std.proofs.Common.{◌≡◌, map, take}
 use Rattle.std.specs.List.{range_with_len}
 use Rattle.fc_spec.specs.Columns.{column_of}
 use Rattle.fc_spec.specs.Totals.{documents_in}
-use Rattle.fc_spec.specs.ValidBlocks.{holds_texts}
+use Rattle.fc_spec.specs.Schema.{texts_held}
 use Rattle.fc_docs.specs.View.{batch_view}
 use Rattle.fc_segment.specs.Columns.{column_values, is_text_column}
 use Rattle.fc_segment.proofs.segment.columns_of.Given as goal
@@ -10,5 +10,5 @@ use Rattle.fc_segment.proofs.segment.columns_of.Given as goal
 abbrev pub invariant-loop-field : goal.invariant-loop-field
 invariant-loop-field l = record {
   values : map column_values l.columns.items ≡ map (λ field. column_of field (documents_in (batch_view l.batch))) (range_with_len 0 l.field);
-  kinds : map is_text_column l.columns.items ≡ take l.field (map (λ f. holds_texts f.kind) l.schema.fields);
+  kinds : map is_text_column l.columns.items ≡ take l.field (texts_held l.schema.fields);
 }

@@ -1,13 +1,12 @@
 use Rattle.std.proofs.Common.{◌≡◌, ◌+◌, List, [], ◌∷◌, ◌++◌, length, map, All, sym, ap, ◌∙◌, subst, arith}
-use Rattle.std.proofs.lemmas.List.{length-append, map_push}
+use Rattle.std.proofs.lemmas.List.{map_push}
 use Rattle.std.proofs.lemmas.List.Elements.{All-push}
-use Rattle.std.proofs.lemmas.List.Concat.{flat_map-append}
 use Rattle.fc_spec.specs.Schema.{Schema}
-use Rattle.fc_spec.specs.Totals.{documents_of, documents_in, document_total}
+use Rattle.fc_spec.specs.Totals.{document_total}
 use Rattle.fc_spec.specs.ValidBlocks.{IsBlockOf}
 use Rattle.fc_docs.specs.declared.block.Block.{Block}
 use Rattle.fc_docs.specs.View.{block_view}
-use Rattle.fc_segment.proofs.Cutting.{length-documents_in-cons}
+use Rattle.fc_spec.proofs.BlockTotals.{document_total-append, document_total-cons}
 use Rattle.fc_segment.proofs.tests.batch_of.Goals as goal
 
 -- one more block
@@ -15,9 +14,8 @@ document_total-push : (blocks : List Block) (b : Block) → document_total (map 
 document_total-push blocks b =
     let before = map block_view blocks in
     ap document_total (map_push block_view blocks b)
-    ∙ ap length (flat_map-append documents_of before (block_view b ∷ []))
-    ∙ length-append (documents_in before) (documents_in (block_view b ∷ []))
-    ∙ ap (λ n. document_total before + n) (length-documents_in-cons (block_view b) [])
+    ∙ document_total-append before (block_view b ∷ [])
+    ∙ ap (λ n. document_total before + n) (document_total-cons (block_view b) [])
 
 valid-push : (s : Schema) (blocks : List Block) (b : Block) → All (IsBlockOf s) (map block_view blocks) → IsBlockOf s (block_view b) → All (IsBlockOf s) (map block_view (blocks ++ b ∷ []))
 valid-push s blocks b before here = subst (All (IsBlockOf s)) (sym (map_push block_view blocks b)) (All-push (IsBlockOf s) (map block_view blocks) (block_view b) before here)

@@ -1,5 +1,7 @@
-use Rattle.std.proofs.Common.{◌≡◌, ℕ, ◌++◌, ◌∷◌, [], true, true≢false, take, All, map, subst, subst₂, sym, ap, ◌∙◌, arith}
+use Rattle.std.proofs.Common.{◌≡◌, ◌++◌, ◌∷◌, [], true, take, All, map, subst, subst₂, sym, ap, ◌∙◌, arith}
+use Rattle.std.proofs.lemmas.Bool.{false≢true}
 use Rattle.std.proofs.lemmas.List.{take_all}
+use Rattle.std.proofs.lemmas.List.Elements.{All-push}
 use Rattle.std.specs.List.{list_any}
 use Rattle.fc_base.specs.View.{val_view}
 use Rattle.fc_spec.specs.Val.{text_cmp}
@@ -7,14 +9,14 @@ use Rattle.fc_spec.specs.Columns.{IsText, IsAscending, texts_in}
 use Rattle.fc_column.specs.Terms.{has_text}
 use Rattle.fc_column.specs.Numbering.{has_number, text_numbered}
 use Rattle.fc_column.proofs.ValueLists.{texts_more, holds_of_value}
-use Rattle.fc_column.proofs.Ascents.{texts_ascend, All-push}
-use Rattle.fc_column.proofs.Grown.{Grown, grown_more, still_numbered, still_ascending, rows_more, used_more}
+use Rattle.fc_column.proofs.Ascents.{texts_ascend}
+use Rattle.fc_column.proofs.Grown.{Grown, grown_more, still_numbered, rows_more, used_more, left_half}
 use Rattle.fc_column.proofs.builder.TextBuilder.push_doc.Goals as goal
 
 pub unreachable-requires : goal.unreachable-requires
 unreachable-requires c =
-    subst (λ v. IsText (val_view v)) c.in_default.is
-    (holds_of_value IsText c.args.values.now c.loop-value.value-index c.value-item.result c.loop-value-test.true c.value-item.is c.requires.texts)
+    false≢true (subst (λ v. IsText (val_view v)) c.in_default.is
+    (holds_of_value IsText c.args.values.now c.loop-value.value-index c.value-item.result c.loop-value-test.true c.value-item.is c.requires.texts))
 
 pub loop-value-preserved : goal.loop-value-preserved
 loop-value-preserved c =
@@ -35,57 +37,20 @@ loop-value-preserved c =
 
 pub invariant_of-self : goal.invariant_of-self
 invariant_of-self c =
-    let builder = c.self.inside in
-    let old = builder.numbers.entries in
-    let new = c.number_of.new.numbers.entries in
     let grown = c.loop-value.invariant.2 in
-    let kept = c.self.invariant in
-    let others : (n : ℕ) → has_number n old ≡ true → has_number n new ≡ true = λ n was. c.number_of.ensures.others n (grown.others n was) in
-    let same : (n : ℕ) → has_number n old ≡ true → text_numbered new n ≡ text_numbered old n = λ n was. c.number_of.ensures.other_texts n (grown.others n was) ∙ grown.other_texts n was in
-    let rows = c.loop-value.invariant.1 in
-    record {
-      numbering = c.number_of.ensures.numbering;
-      numbered = subst (All (All (λ n. has_number n new ≡ true))) (sym rows) (still_numbered old new builder.rows.rows kept.numbered others);
-      ascending = subst (λ l. All (IsAscending text_cmp) (map (map (text_numbered new)) l)) (sym rows) (still_ascending old new builder.rows.rows kept.numbered same kept.ascending);
-      used = λ whole. absurd (true≢false (sym c.loop-value.invariant.0 ∙ whole));
-      whole = λ whole. absurd (true≢false (sym c.loop-value.invariant.0 ∙ whole));
-    }
+    left_half c.self.inside _ c.self.invariant c.number_of.ensures.numbering (λ n was. c.number_of.ensures.others n (grown.others n was))
+    (λ n was. c.number_of.ensures.other_texts n (grown.others n was) ∙ grown.other_texts n was) c.loop-value.invariant.1 c.loop-value.invariant.0
 
 pub invariant_of-self-in_err-push : goal.invariant_of-self-in_err-push
 invariant_of-self-in_err-push c =
-    let builder = c.self.inside in
-    let old = builder.numbers.entries in
-    let new = c.number_of.new.numbers.entries in
     let grown = c.loop-value.invariant.2 in
-    let kept = c.self.invariant in
-    let others : (n : ℕ) → has_number n old ≡ true → has_number n new ≡ true = λ n was. c.number_of.ensures.others n (grown.others n was) in
-    let same : (n : ℕ) → has_number n old ≡ true → text_numbered new n ≡ text_numbered old n = λ n was. c.number_of.ensures.other_texts n (grown.others n was) ∙ grown.other_texts n was in
-    let rows = ap (λ laid. laid.rows) c.in_err-push.ensures.err ∙ c.loop-value.invariant.1 in
-    record {
-      numbering = c.number_of.ensures.numbering;
-      numbered = subst (All (All (λ n. has_number n new ≡ true))) (sym rows) (still_numbered old new builder.rows.rows kept.numbered others);
-      ascending = subst (λ l. All (IsAscending text_cmp) (map (map (text_numbered new)) l)) (sym rows) (still_ascending old new builder.rows.rows kept.numbered same kept.ascending);
-      used = λ whole. absurd (true≢false (sym c.loop-value.invariant.0 ∙ whole));
-      whole = λ whole. absurd (true≢false (sym c.loop-value.invariant.0 ∙ whole));
-    }
+    left_half c.self.inside _ c.self.invariant c.number_of.ensures.numbering (λ n was. c.number_of.ensures.others n (grown.others n was))
+    (λ n was. c.number_of.ensures.other_texts n (grown.others n was) ∙ grown.other_texts n was) (ap (λ laid. laid.rows) c.in_err-push.ensures.err ∙ c.loop-value.invariant.1) c.loop-value.invariant.0
 
 pub invariant_of-self-in_err-end_row : goal.invariant_of-self-in_err-end_row
 invariant_of-self-in_err-end_row c =
-    let builder = c.self.inside in
-    let old = builder.numbers.entries in
-    let new = c.loop-value.self-inside.numbers.entries in
     let grown = c.loop-value.invariant.2 in
-    let kept = c.self.invariant in
-    let others : (n : ℕ) → has_number n old ≡ true → has_number n new ≡ true = λ n was. grown.others n was in
-    let same : (n : ℕ) → has_number n old ≡ true → text_numbered new n ≡ text_numbered old n = λ n was. grown.other_texts n was in
-    let rows = ap (λ laid. laid.rows) c.in_err-end_row.ensures.err ∙ c.loop-value.invariant.1 in
-    record {
-      numbering = grown.numbering;
-      numbered = subst (All (All (λ n. has_number n new ≡ true))) (sym rows) (still_numbered old new builder.rows.rows kept.numbered others);
-      ascending = subst (λ l. All (IsAscending text_cmp) (map (map (text_numbered new)) l)) (sym rows) (still_ascending old new builder.rows.rows kept.numbered same kept.ascending);
-      used = λ whole. absurd (true≢false (sym c.loop-value.invariant.0 ∙ whole));
-      whole = λ whole. absurd (true≢false (sym c.loop-value.invariant.0 ∙ whole));
-    }
+    left_half c.self.inside _ c.self.invariant grown.numbering grown.others grown.other_texts (ap (λ laid. laid.rows) c.in_err-end_row.ensures.err ∙ c.loop-value.invariant.1) c.loop-value.invariant.0
 
 pub invariant_of-self-2 : goal.invariant_of-self-2
 invariant_of-self-2 c =

@@ -1,10 +1,11 @@
 use Rattle.std.proofs.Common.{◌≡◌, ◌++◌, ◌∷◌, [], true≢false, All, map, w64, to_z, of_z, subst, sym, ap, ap₂, ◌∙◌, arith, rules}
 use Rattle.std.proofs.lemmas.List.{take_all}
+use Rattle.std.proofs.lemmas.List.Elements.{All-push}
 use Rattle.std.specs.Ordering.{int_cmp}
 use Rattle.fc_base.specs.View.{val_view}
 use Rattle.fc_spec.specs.Columns.{IsLong, IsAscending, longs_in}
 use Rattle.fc_column.proofs.ValueLists.{longs_more, holds_of_value}
-use Rattle.fc_column.proofs.Ascents.{longs_ascend, All-push}
+use Rattle.fc_column.proofs.Ascents.{longs_ascend}
 use Rattle.fc_column.proofs.long.LongBuilder.push_doc.Goals as goal
 
 pub loop-value-preserved : goal.loop-value-preserved
@@ -19,8 +20,8 @@ loop-value-preserved c =
 
 pub unreachable-requires : goal.unreachable-requires
 unreachable-requires c =
-    subst (λ v. IsLong (val_view v)) c.in_default.is
-    (holds_of_value IsLong c.args.values.now c.loop-value.value-index c.value-item.result c.loop-value-test.true c.value-item.is c.requires.longs)
+    true≢false (subst (λ v. IsLong (val_view v)) c.in_default.is
+    (holds_of_value IsLong c.args.values.now c.loop-value.value-index c.value-item.result c.loop-value-test.true c.value-item.is c.requires.longs))
 
 pub invariant_of-self : goal.invariant_of-self
 invariant_of-self c = record {

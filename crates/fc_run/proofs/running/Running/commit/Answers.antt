@@ -1,6 +1,6 @@
-use Rattle.std.proofs.Common.{◌≡◌, map, refl}
+use Rattle.std.proofs.Common.{◌≡◌, refl}
 use Rattle.std.proofs.lemmas.List.Elements.{All-push}
-use Rattle.fc_spec.specs.ValidBlocks.{holds_texts}
+use Rattle.fc_spec.specs.Schema.{texts_held}
 use Rattle.fc_run.proofs.IndexPremises.{waiting_valid}
 use Rattle.fc_run.proofs.running.Running.commit.Goals as goal
 
@@ -9,5 +9,5 @@ commit-requires-clause-valid c = waiting_valid c.args.schema.now c.args.self.sha
 
 pub returns-clause-kinds : goal.returns-clause-kinds
 returns-clause-kinds c =
-    let texts = map (λ f. holds_texts f.kind) c.args.schema.now.fields in
+    let texts = texts_held c.args.schema.now.fields in
     rw c.in_ok-commit.ensures.segments (All-push (λ segment. segment.texts ≡ texts) c.args.self.shard.segments.items _ c.requires.kinds refl)

@@ -1,4 +1,6 @@
-use Rattle.std.proofs.Common.{refl, take_all, option_map}
+use Rattle.std.proofs.Common.{refl, sym, subst, take_all, option_map}
+use Rattle.fc_segment.specs.Segmented.{Segmented}
+use Rattle.fc_run.specs.Fitting.{Fits}
 use Rattle.fc_run.specs.Found.{Finds}
 use Rattle.fc_run.specs.PlainReply.{root_documents}
 use Rattle.fc_script.specs.View.{facet_view, request_view}
@@ -8,6 +10,10 @@ use Rattle.fc_run.proofs.search.found.find.Goals as goal
 pub loop-segment-init : goal.loop-segment-init
 loop-segment-init c =
     searched_none (request_view c.args.request.now) (option_map facet_view c.args.request.now.facet) (record { count = 0; tally = c.new.result }) refl c.new.ensures.empty (blocks_of c.args.segments.now) c.requires.different c.requires.few
+
+pub with-requires-clause-fits : goal.with-requires-clause-fits
+with-requires-clause-fits c =
+    subst (λ (segment : Segmented). Fits segment.texts c.args.request.now) (sym c.segment-item.is) (c.requires.fits c.loop-segment.segment-index c.segment-item.result c.loop-segment-test.true)
 
 pub with-requires-clause-few : goal.with-requires-clause-few
 with-requires-clause-few c =

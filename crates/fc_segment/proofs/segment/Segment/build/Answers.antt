@@ -1,6 +1,5 @@
-use Rattle.std.proofs.Common.{map, length}
-use Rattle.fc_spec.specs.Schema.{Field}
-use Rattle.fc_spec.specs.ValidBlocks.{holds_texts}
+use Rattle.std.proofs.Common.{length}
+use Rattle.fc_spec.specs.Schema.{texts_held}
 use Rattle.fc_docs.specs.View.{batch_view}
 use Rattle.fc_segment.specs.declared.segment.Segment.TheInside.{Inside}
 use Rattle.fc_segment.proofs.Rows.{length-valid_documents}
@@ -23,5 +22,5 @@ returns c =
       parents = rw (← c.deref.ensures.value) c.in_ok-parents_of.ensures;
       columns = c.in_ok-columns_of.ensures.values;
     } in
-    made_segment (map (λ (f : Field). holds_texts f.kind) c.args.schema.now.fields) (batch_view c.args.batch.now) (length c.args.schema.now.fields) made is c.in_ok-columns_of.ensures.kinds
+    made_segment (texts_held c.args.schema.now.fields) (batch_view c.args.batch.now) (length c.args.schema.now.fields) made is c.in_ok-columns_of.ensures.kinds
     (length-valid_documents c.args.schema.now (batch_view c.args.batch.now) c.requires.valid)
