@@ -1,6 +1,6 @@
 // Queries on the segment of one block.
-ghost use Rattle.std.specs.Prelude.{◌≡◌, map, IfOk};
-ghost use Rattle.fc_spec.specs.ValidBlocks.{holds_texts};
+ghost use Rattle.std.specs.Prelude.{◌≡◌, IfOk};
+ghost use Rattle.fc_spec.specs.Schema.{texts_held};
 
 use super::*;
 use fc_base::Schema;
@@ -68,7 +68,7 @@ const MATCHES: [(&str, u64); 36] = [
 
 fn segment_of(rt: &impl Abort, alloc: Global, schema: &Schema) -> Result<Segment, Fail>
     ensures { IfOk result (λ segment.
-        segment.texts ≡ map (λ f. holds_texts f.kind) schema.now.fields) }
+        segment.texts ≡ texts_held schema.now.fields) }
 {
     let block = read_block(alloc, schema, &Value::from_str(alloc, BLOCK)?)?;
     assert!(rt; block.children.len() < 5);
@@ -78,7 +78,7 @@ fn segment_of(rt: &impl Abort, alloc: Global, schema: &Schema) -> Result<Segment
 
 // The positions that match a query.
 fn matching(alloc: Global, schema: &Schema, segment: &Segment, text: &str) -> Result<DocSet, Fail>
-    requires { segment.now.texts ≡ map (λ f. holds_texts f.kind) schema.now.fields }
+    requires { segment.now.texts ≡ texts_held schema.now.fields }
 {
     let query = parse(alloc, schema, text)?;
     let mut set = DocSet::empty(alloc, segment.doc_count())?;

@@ -6,7 +6,6 @@ use Rattle.fc_spec.specs.Document.{Block}
 use Rattle.fc_spec.specs.World.{Place, same_block}
 
 use Rattle.fc_spec.specs.Totals.{document_total}
-use Rattle.fc_spec.specs.Domain.{same_place}
 use Rattle.fc_spec.proofs.Members.{same_tests}
 use Rattle.fc_spec.proofs.Renumbered.{Numbers, renumbered}
 

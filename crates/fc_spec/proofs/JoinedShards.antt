@@ -8,7 +8,7 @@ use Rattle.fc_spec.specs.Totals.{document_total}
 use Rattle.fc_spec.proofs.BlockTotals.{document_total-cons}
 use Rattle.fc_spec.proofs.Members.{Every, every_append}
 use Rattle.fc_spec.proofs.Renumbered.{Renumbering}
-use Rattle.fc_spec.proofs.JoinedNumbers.{documents, joining, fits_first, fits, same_blocks_joining, same_places_joining}
+use Rattle.fc_spec.proofs.JoinedNumbers.{joining, fits_first, fits, same_blocks_joining}
 use Rattle.fc_spec.proofs.JoinedPlaces.{places_joining}
 
 -- numbers within the blocks

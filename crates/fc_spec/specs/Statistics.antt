@@ -1,6 +1,6 @@
 -- Statistics of sets of places. Guide: JSON Facet API, "Stat Facet Functions".
-use Rattle.std.specs.Prelude.{ℕ, ℤ, pos, ◌+ℤ◌, List, [], ◌∷◌, map, length, Option, None, Some, count_by, unwrap_or}
-use Rattle.std.specs.List.{flat_map, filter_map}
+use Rattle.std.specs.Prelude.{ℕ, ℤ, pos, ◌+ℤ◌, List, [], ◌∷◌, map, length, Option, None, Some, count_by}
+use Rattle.std.specs.List.{flat_map}
 use Rattle.std.specs.Int.{int_min, int_max}
 use Rattle.fc_spec.specs.Val.{Val}
 use Rattle.fc_spec.specs.Document.{values_of}
