@@ -6,10 +6,10 @@ use Rattle.std.proofs.lemmas.List.Folds.{Any-from_list_any}
 use Rattle.std.proofs.lemmas.Map.Keys.{Less-from_sorted}
 use Rattle.std.specs.List.{AllPairs, list_any, flat_map}
 use Rattle.std.specs.List.Sorted.{IsStrictlySortedBy}
-use Rattle.std.specs.declared.cmp.Ordering.TheVariants.{Less}
 use Rattle.fc_spec.specs.Val.{Text, Val, text, long, text_cmp, val_cmp, has_val, distinct}
 use Rattle.fc_spec.specs.Columns.{IsAscending, texts_in}
-use Rattle.fc_spec.proofs.Ascending.{IsUnder, has_val-distinct, same_ascending, distinct_ascends}
+use Rattle.fc_spec.proofs.Ascending.{has_val-distinct, same_ascending, distinct_ascends}
+use Rattle.fc_spec.proofs.SortedLists.{sorted_from_ascending, sorted-map}
 use Rattle.fc_column.specs.Terms.{terms_of, has_text}
 use Rattle.fc_column.specs.Dictionary.{term_at}
 use Rattle.fc_column.specs.Numbering.{has_number, text_numbered, IsNumbering}
@@ -94,17 +94,8 @@ ranks_within entries terms ranks rows has k d inside j e within =
     (has k d (omega arith) j e (omega arith)).within
 
 -- ---- the terms are the column's
-all_under : (t : Text) (terms : List Text) → ((k : ℕ) (d : Text) → k < length terms → text_cmp t (get_or terms k d) ≡ Less) → IsUnder (text t) (map text terms)
-all_under t [] above = tt
-all_under t (u ∷ terms) above = (above 0 t (omega arith), all_under t terms (λ k d inside. above (suc k) d (omega arith)))
-
 ascending_values : (terms : List Text) → IsAscending text_cmp terms → IsStrictlySortedBy val_cmp (map text terms)
-unfolding IsStrictlySortedBy
-ascending_values [] ascending = tt
-ascending_values (t ∷ terms) ascending = (
-  all_under t terms (λ k d inside. ascending 0 (suc k) d (omega arith) (omega arith)),
-  ascending_values terms (λ i j d before inside. ascending (suc i) (suc j) d (omega arith) (omega arith)),
-)
+ascending_values terms ascending = sorted-map text val_cmp terms (sorted_from_ascending text_cmp terms ascending)
 
 no_long : (z : _) (terms : List Text) → has_val (long z) (map text terms) ≡ false
 no_long z [] = refl

@@ -1,10 +1,9 @@
 -- Values that were sorted, and of which equal ones were dropped, are the different values.
 use Rattle.std.proofs.Common.{◌≡◌, List, [], ◌∷◌, map, Bool, true, false, cond, ◌||◌, refl, sym, ◌∙◌, ap}
-use Rattle.std.specs.List.{All, AllByRecursion, dedup, dedup_from, list_any}
+use Rattle.std.specs.List.{All, dedup, dedup_from, list_any}
 use Rattle.std.specs.List.Retain.{IsFiltered, DiffersFromLast}
 use Rattle.std.specs.List.Sorted.{IsPermutation, IsSorted, IsStrictlySortedBy}
 use Rattle.std.specs.Ordering.{on}
-use Rattle.std.specs.declared.cmp.Ordering.TheVariants.{Less}
 use Rattle.std.proofs.Math.Bool.{or_self_left}
 use Rattle.std.proofs.lemmas.List.Elements.{All-map}
 use Rattle.std.proofs.lemmas.List.Filters.{All-dedup, dedup_is}
@@ -14,7 +13,8 @@ use Rattle.std.proofs.lemmas.Map.Keys.{Less-from_sorted}
 use Rattle.fc_spec.specs.Val as definition
 use Rattle.fc_spec.specs.Val.{val_cmp, same_val, has_val, distinct}
 use Rattle.fc_spec.specs.Columns.{IsAscending}
-use Rattle.fc_spec.proofs.Ascending.{IsUnder, same_ascending, distinct_ascends, has_val-distinct}
+use Rattle.fc_spec.proofs.Ascending.{same_ascending, distinct_ascends, has_val-distinct}
+use Rattle.fc_spec.proofs.SortedLists.{sorted-map}
 use Rattle.fc_spec.proofs.ValOrder.{same_val_exact}
 use Rattle.fc_base.specs.declared.value.Val.{Val}
 use Rattle.fc_base.specs.ValOrder.{vals_total}
@@ -54,22 +54,13 @@ same_values v xs ys zs h =
 strictly : (xs ys zs : List Val) → AreSorted xs ys zs → IsStrictlySortedBy (on val_view val_cmp) zs
 strictly xs ys zs h = rw (dedup_is (on val_view same_val) ys zs h.kept) (IsStrictlySortedBy-dedup vals_total (λ x y. refl) ys h.sorted)
 
-all_under : (x : Val) (xs : List Val) → AllByRecursion (λ y. on val_view val_cmp x y ≡ Less) xs → IsUnder (val_view x) (map val_view xs)
-all_under x [] above = tt
-all_under x (y ∷ ys) above = (above.0, all_under x ys above.1)
-
-views_ascend : (xs : List Val) → IsStrictlySortedBy (on val_view val_cmp) xs → IsStrictlySortedBy val_cmp (map val_view xs)
-unfolding IsStrictlySortedBy
-views_ascend [] sorted = tt
-views_ascend (x ∷ xs) sorted = (all_under x xs sorted.0, views_ascend xs sorted.1)
-
 pub are_distinct : (xs ys zs : List Val) → AreSorted xs ys zs → map val_view zs ≡ distinct (map val_view xs)
 are_distinct xs ys zs h =
-    same_ascending (map val_view zs) (distinct (map val_view xs)) (views_ascend zs (strictly xs ys zs h)) (distinct_ascends (map val_view xs))
+    same_ascending (map val_view zs) (distinct (map val_view xs)) (sorted-map val_view val_cmp zs (strictly xs ys zs h)) (distinct_ascends (map val_view xs))
     (λ v. same_values v xs ys zs h ∙ sym (has_val-distinct v (map val_view xs)))
 
 pub ascend : (xs ys zs : List Val) → AreSorted xs ys zs → IsAscending val_cmp (map val_view zs)
-ascend xs ys zs h = λ i j d before within. Less-from_sorted val_cmp (map val_view zs) i j d (views_ascend zs (strictly xs ys zs h)) before within
+ascend xs ys zs h = λ i j d before within. Less-from_sorted val_cmp (map val_view zs) i j d (sorted-map val_view val_cmp zs (strictly xs ys zs h)) before within
 
 pub still_all : (P : definition.Val → Type 0) (xs ys zs : List Val) → AreSorted xs ys zs → All (λ x. P (val_view x)) xs → All P (map val_view zs)
 still_all P xs ys zs h all =

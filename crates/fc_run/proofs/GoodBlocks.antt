@@ -1,9 +1,7 @@
 -- No document of a valid block has a value twice in a field.
-use Rattle.std.proofs.Common.{◌≡◌, ℕ, suc, ◌+◌, ◌<◌, ◌≤◌, List, [], ◌∷◌, length, get_or, All, Bool, true, false, cond, refl, sym, ◌∙◌, ap, subst, inl, inr, arith}
-use Rattle.std.specs.Prelude.{AllPairs}
+use Rattle.std.proofs.Common.{◌≡◌, ℕ, ◌+◌, ◌≤◌, List, [], ◌∷◌, length, get_or, All, Bool, true, false, cond, refl, sym, ◌∙◌, ap, subst, inl, inr, arith}
 use Rattle.std.specs.List.{count_by}
 use Rattle.std.specs.List.Sorted.{IsStrictlySortedBy}
-use Rattle.std.specs.declared.cmp.Ordering.TheVariants.{Less}
 use Rattle.std.proofs.lemmas.Bool.{cases_lt}
 use Rattle.std.proofs.lemmas.List.{get_or_past}
 use Rattle.std.proofs.lemmas.List.Elements.{All-weaker}
@@ -13,25 +11,16 @@ use Rattle.fc_spec.specs.Document.{Document, Block, values_of}
 use Rattle.fc_spec.specs.Schema.{string, Field, Schema}
 use Rattle.fc_spec.specs.Totals.{documents_in}
 use Rattle.fc_spec.specs.ValidBlocks.{IsBlockOf, IsDocumentOf}
-use Rattle.fc_spec.proofs.Ascending.{IsUnder, not_among}
+use Rattle.fc_spec.proofs.Ascending.{not_among}
 use Rattle.fc_spec.proofs.BlockTotals.{valid_documents}
 use Rattle.fc_spec.proofs.Counting.{count_by-cons}
+use Rattle.fc_spec.proofs.SortedLists.{sorted_from_ascending}
 use Rattle.fc_spec.proofs.ValOrder.{same_val_exact}
 use Rattle.fc_run.specs.Fitting.{AreDifferentIn}
 use Rattle.fc_run.specs.PlainReply.{AreDifferent}
 use Rattle.fc_run.proofs.TallyCounts.{list_any-false}
 
 -- ---- ascending values
-
-all_above : (v : Val) (vs : List Val) → ((j : ℕ) (d : Val) → j < length vs → val_cmp v (get_or vs j d) ≡ Less) → IsUnder v vs
-all_above v [] above = tt
-all_above v (w ∷ ws) above = (above 0 v (omega arith), all_above v ws (λ j d within. above (suc j) d (omega arith)))
-
-by_recursion : (vs : List Val) → AllPairs (λ low high. val_cmp low high ≡ Less) vs → IsStrictlySortedBy val_cmp vs
-unfolding IsStrictlySortedBy
-by_recursion [] pairs = tt
-by_recursion (v ∷ vs) pairs =
-    (all_above v vs (λ j d within. pairs 0 (suc j) d (omega arith) (omega arith)), by_recursion vs (λ i j d before within. pairs (suc i) (suc j) d (omega arith) (omega arith)))
 
 -- ascending values are different
 different_ascending : (vs : List Val) → IsStrictlySortedBy val_cmp vs → AreDifferent vs
@@ -59,7 +48,7 @@ some_field = record { name = []; kind = string }
 different_values : (s : Schema) (d : Document) (field : ℕ) → IsDocumentOf s d → AreDifferent (values_of d field)
 different_values s d field valid =
     elim (cases_lt field (length s.fields)) [
-      | inl below ↦ different_ascending (values_of d field) (by_recursion (values_of d field) (valid.values field (get_or s.fields field some_field) (slice_get-get_or s.fields field some_field below)).ascending)
+      | inl below ↦ different_ascending (values_of d field) (sorted_from_ascending val_cmp (values_of d field) (valid.values field (get_or s.fields field some_field) (slice_get-get_or s.fields field some_field below)).ascending)
       | inr beyond ↦ subst AreDifferent (sym (get_or_past d field [] (let lists = valid.lists in omega arith))) no_values
     ]
 

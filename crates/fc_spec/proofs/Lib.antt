@@ -2,6 +2,7 @@ pub mod Members
 pub mod Shards
 pub mod AllShards
 pub mod Orderings
+pub mod SortedLists
 pub mod Texts
 pub mod BlockTotals
 pub mod ValueKinds
