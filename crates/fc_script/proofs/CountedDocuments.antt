@@ -16,12 +16,8 @@ use Rattle.fc_script.specs.Ids.{ids_of, are_new, if_new, AreIdsOf}
 use Rattle.fc_script.specs.Left.{limits_after, limits_with}
 use Rattle.fc_script.proofs.LimitsLeft.{few-append}
 use Rattle.fc_script.proofs.NewIds.{among, by_test, new_among, not_by_test}
-
--- ---- documents
-
-pub documents_joined : (blocks : List Block) (b : Block) → documents_in (blocks ++ b ∷ []) ≡ documents_in blocks ++ documents_of b
-documents_joined blocks b = flat_map-append documents_of blocks (b ∷ []) ∙ ap (λ ds. documents_in blocks ++ ds) (append-nil (documents_of b))
 use Rattle.fc_spec.proofs.BlockTotals.{documents_in-push}
+use Rattle.fc_script.proofs.SumsOfBlocks.{total-append}
 
 -- ---- ids
 

@@ -16,12 +16,7 @@ use Rattle.fc_spec.specs.ScriptFault.{duplicate_id}
 use Rattle.fc_script.specs.ScriptView.{line_fault_view}
 use Rattle.fc_script.specs.Ids.{ids_of, are_new, if_new, AreIdsOf, AreKnownToo}
 use Rattle.fc_script.specs.declared.line.fault.LineFault.{LineFault}
-use Rattle.std.specs.Cmp.{IsEquivalence}
-use Rattle.std.proofs.lemmas.Cmp.{eq_by_cmp_equiv}
-use Rattle.fc_spec.proofs.ValOrder.{val_cmp_total, same_val_equiv}
-
-same_val_equiv : IsEquivalence same_val
-same_val_equiv = eq_by_cmp_equiv val_cmp_total
+use Rattle.fc_spec.proofs.ValOrder.{same_val_equiv}
 
 -- ---- tests of lists
 

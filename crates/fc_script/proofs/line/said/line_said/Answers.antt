@@ -1,5 +1,4 @@
 use Rattle.std.proofs.Common.{refl}
-use Rattle.fc_base.proofs.Texts.{differs}
 use Rattle.fc_script.proofs.line.said.line_said.Goals as goal
 use Rattle.fc_spec.proofs.Texts.{differs}
 
