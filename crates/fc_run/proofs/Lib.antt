@@ -1,4 +1,3 @@
-pub mod DistinctValues
 pub mod GoodBlocks
 pub mod IndexPremises
 pub mod NoFloats
