@@ -1,7 +1,6 @@
 use super::*;
 use crate::telling::{schema, tell};
 use std::fmt::Write;
-use std::process::Abort;
 use std::test::Fail;
 
 // The query of a text, or the text of its fault.
@@ -15,8 +14,9 @@ fn told(alloc: Global, schema: &Schema, text: &str) -> Result<String, Fail> {
     Ok(out)
 }
 
-// Words, escapes and quotes
-const WORDS: &[(&str, &str)] = &[
+// Each text with its query, or the text of its fault.
+const QUERIES: &[(&str, &str)] = &[
+    // words, escapes and quotes
     ("cat:a", "1:a"),
     (" \t\r\ncat : a ", "1:a"),
     ("cat:a-b+c", "1:a-b+c"),
@@ -35,10 +35,7 @@ const WORDS: &[(&str, &str)] = &[
     ("cat:a^2", "query-syntax"),
     ("cat:/a/", "query-syntax"),
     ("cat:a?", "query-syntax"),
-];
-
-// Integers, and `-` directly behind a colon
-const INTEGERS: &[(&str, &str)] = &[
+    // integers, and `-` directly behind a colon
     ("n:5", "2:#5"),
     ("n:-5", "2:#-5"),
     (r"n:\-5", "2:#-5"),
@@ -50,10 +47,7 @@ const INTEGERS: &[(&str, &str)] = &[
     ("n:5.0", "bad-value"),
     ("n:9223372036854775808", "bad-value"),
     (r#"n:"""#, "bad-value"),
-];
-
-// Stars
-const STARS: &[(&str, &str)] = &[
+    // stars
     ("*:*", "all"),
     ("* : *", "all"),
     ("cat:*", "1:*"),
@@ -69,10 +63,7 @@ const STARS: &[(&str, &str)] = &[
     ("*:a", "query-syntax"),
     ("*:-5", "query-syntax"),
     ("*", "query-syntax"),
-];
-
-// Ranges
-const RANGES: &[(&str, &str)] = &[
+    // ranges
     ("cat:[a TO b]", "1[=a =b]"),
     ("cat:{a TO b]", "1[/a =b]"),
     ("cat:[a TO b}", "1[=a /b]"),
@@ -89,10 +80,7 @@ const RANGES: &[(&str, &str)] = &[
     (r#"cat:["a"TO b]"#, "query-syntax"),
     ("cat:[a TO b", "query-syntax"),
     ("cat:[a* TO b]", "query-syntax"),
-];
-
-// Clauses, signs and operators
-const CLAUSES: &[(&str, &str)] = &[
+    // clauses, signs and operators
     ("cat:a n:1", "(?1:a?2:#1)"),
     ("+cat:a -n:1 !n:2 NOT n:3", "(+1:a-2:#1-2:#2-2:#3)"),
     ("- cat:a", "(-1:a)"),
@@ -110,10 +98,7 @@ const CLAUSES: &[(&str, &str)] = &[
     ("cat:a AND OR n:1", "query-syntax"),
     ("+-cat:a", "query-syntax"),
     ("NOT", "query-syntax"),
-];
-
-// Groups, and groups of a field
-const GROUPS: &[(&str, &str)] = &[
+    // groups, and groups of a field
     ("((cat:a))", "1:a"),
     ("(cat:a n:1) -n:2", "(?(?1:a?2:#1)-2:#2)"),
     ("NOT (cat:a)", "(-1:a)"),
@@ -131,10 +116,7 @@ const GROUPS: &[(&str, &str)] = &[
     ("cat:a)", "query-syntax"),
     ("(a)", "query-syntax"),
     ("cat:(a) b", "query-syntax"),
-];
-
-// The first kind of fault that stands anywhere
-const FIRST_FAULTS: &[(&str, &str)] = &[
+    // the first kind of fault that stands anywhere
     ("dog:a", "unknown-field"),
     ("dog:(cat:a)", "unknown-field"),
     ("n:a dog:b", "unknown-field"),
@@ -142,46 +124,26 @@ const FIRST_FAULTS: &[(&str, &str)] = &[
     ("cat:a AND (n:1 OR n:2)", "(+1:a+(?2:#1?2:#2))"),
     ("dog:a AND n:b OR n:c ]", "query-syntax"),
     ("{!tag=A}cat:a", "query-syntax"),
+    // parentheses nest to a limit
+    (
+        "((((((((((((((((((((((((((((((((((((((((((((((((((((((((((((((((cat:a))))))))))))))))))))))))))))))))))))))))))))))))))))))))))))))))",
+        "1:a",
+    ),
+    (
+        "(((((((((((((((((((((((((((((((((((((((((((((((((((((((((((((((((cat:a)))))))))))))))))))))))))))))))))))))))))))))))))))))))))))))))))",
+        "query-syntax",
+    ),
 ];
 
-// Each text has the query, or the fault, beside it.
-fn check(rt: &(impl Abort + Alloc<A = Global>), cases: &[(&str, &str)]) -> Result<(), Fail> {
+#[test]
+fn texts_have_queries_or_faults(rt: HostRuntime) -> Result<(), Fail> {
     let alloc = rt.alloc();
     let schema = schema(alloc)?;
-    for (text, expected) in cases {
+    for (text, expected) in QUERIES {
         assert_eq!(rt;
             told(alloc, &schema, text)?.as_str(),
             *expected,
             "at {text}"
-        );
-    }
-    Ok(())
-}
-
-#[test]
-fn texts_have_queries_or_faults(rt: HostRuntime) -> Result<(), Fail> {
-    check(&rt, WORDS)?;
-    check(&rt, INTEGERS)?;
-    check(&rt, STARS)?;
-    check(&rt, RANGES)?;
-    check(&rt, CLAUSES)?;
-    check(&rt, GROUPS)?;
-    check(&rt, FIRST_FAULTS)?;
-    Ok(())
-}
-
-#[test]
-fn parentheses_nest_to_a_limit(rt: HostRuntime) -> Result<(), Fail> {
-    let alloc = rt.alloc();
-    let schema = schema(alloc)?;
-    for (depth, expected) in [(64, "1:a"), (65, "query-syntax")] {
-        let open = "(".repeat(alloc, depth)?;
-        let close = ")".repeat(alloc, depth)?;
-        let text = format!(in alloc; "{open}cat:a{close}")?;
-        assert_eq!(rt;
-            told(alloc, &schema, &text)?.as_str(),
-            expected,
-            "at {depth}"
         );
     }
     Ok(())
