@@ -11,8 +11,8 @@ use Rattle.fc_spec.specs.ValidQueries.{IsValidQuery}
 use Rattle.fc_spec.proofs.BlockTotals.{document_total-append}
 use Rattle.fc_query.specs.QueryView.{query_view}
 use Rattle.fc_domain.specs.FieldsFit.{FitsFields}
-use Rattle.fc_domain.proofs.SchemaFits.{fields_fit, texts_held}
-use Rattle.fc_run.specs.Fitting.{AreDifferentIn, Fits, IsValidRequest}
+use Rattle.fc_domain.proofs.SchemaFits.{fields_fit}
+use Rattle.fc_run.specs.Fitting.{AreDifferentIn, Fits}
 use Rattle.fc_script.specs.ValidRequests.{IsValidRequest}
 use Rattle.fc_run.specs.Running.{blocks_in, shard_view, HasKinds, IsIndexOf}
 use Rattle.fc_script.specs.declared.request.facet.Facet.{Facet}

@@ -23,7 +23,7 @@ use Rattle.fc_spec.specs.Ranks.{Entry, is_ahead, page}
 use Rattle.fc_spec.specs.Values.{value_places, values_in, entries_in}
 use Rattle.fc_spec.specs.Printed.{terms_keys}
 use Rattle.fc_spec.specs.SortingLaw.{IsSortOf, PagesAreCuts}
-use Rattle.fc_run.specs.Requests.{every_value}
+use Rattle.fc_script.specs.Requests.{every_value}
 use Rattle.fc_spec.proofs.Ascending.{has_val-distinct, distinct_ascends}
 use Rattle.fc_spec.proofs.FoundValues.{not-is_empty-filter}
 use Rattle.fc_spec.proofs.Members.{filter_every}

@@ -19,11 +19,11 @@ use Rattle.fc_spec.specs.Values.{value_places, entries_in}
 use Rattle.fc_spec.specs.Printed.{terms_keys}
 use Rattle.fc_spec.specs.SortingLaw.{PagesAreCuts}
 use Rattle.fc_spec.specs.WithoutLimits.{IsExactWithoutLimits}
-use Rattle.fc_script.specs.Requests.{one_facet}
-use Rattle.fc_run.specs.PlainReply.{root_documents, documents_with, value_counts, counted_row, counted_reply, IsPlainOnOneShard, built_request}
+use Rattle.fc_script.specs.Requests.{every_value, one_facet}
+use Rattle.fc_run.specs.PlainReply.{root_documents, documents_with, value_counts, counted_row, counted_reply, IsPlainOnOneShard}
 use Rattle.fc_script.specs.Requests.{built_request}
-use Rattle.fc_run.proofs.PlainPlaces.{documents_at, documents_at-places, flat_map-documents_at, documents_at-filter, filter_true}
-use Rattle.fc_run.proofs.PlainKeys.{every_value, terms_keys_are}
+use Rattle.fc_run.proofs.PlainPlaces.{flat_map-documents_at, documents_at-filter}
+use Rattle.fc_run.proofs.PlainKeys.{terms_keys_are}
 use Rattle.fc_spec.proofs.Counting.{filter-all}
 use Rattle.fc_spec.proofs.PlacedDocuments.{documents_at, documents_at-places}
 
