@@ -24,18 +24,22 @@ mod tests {
 
     #[test]
     fn each_status(rt: HostRuntime) {
-        for (status, line) in [
-            (Status::Done, None),
+        for (status, code, line) in [
+            (Status::Done, 0, None),
             (
                 Status::Usage,
+                64,
                 Some("usage: facets [--workers N] [--demo N]"),
             ),
-            (Status::Script, Some("facets: the script has a fault")),
-            (Status::Read, Some("facets: reading failed")),
-            (Status::Memory, Some("facets: no memory")),
-            (Status::Write, Some("facets: writing failed")),
+            (Status::Script, 65, Some("facets: the script has a fault")),
+            (Status::Read, 66, Some("facets: reading failed")),
+            (Status::Memory, 71, Some("facets: no memory")),
+            (Status::Write, 73, Some("facets: writing failed")),
         ] {
-            assert_eq!(rt; complaint(status), line);
+            assert!(rt;
+                complaint(status) == line && status.code() == code,
+                "{status:?}"
+            );
         }
     }
 }

@@ -82,6 +82,3 @@ pub fn run<S: Source, K: Sink>(
         Err(WantMemory) => Status::Memory,
     }
 }
-
-#[cfg(test)]
-mod tests;

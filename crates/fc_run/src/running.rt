@@ -28,7 +28,7 @@ struct Running {
 }
 
 impl Running {
-    // Before the first line.
+    // Nothing is indexed or written before the first line.
     fn new(alloc: Global) -> Running
         ensures shard { shard_view result.shard ≡ nothing }
         ensures segments { result.shard.segments.items ≡ [] }
@@ -40,7 +40,7 @@ impl Running {
         }
     }
 
-    // With a block behind the others.
+    // Runs an add: its block stands behind the others.
     fn add(self, block: Block) -> Result<Running, WantMemory>
         ensures shard { IfOk result (λ running. shard_view running.shard
             ≡ with_block (shard_view self.shard) (block_view block)) }
@@ -55,7 +55,7 @@ impl Running {
         })
     }
 
-    // With the blocks behind the last commit as one more segment.
+    // Runs a commit: the blocks behind the last one are one more segment.
     fn commit(self, alloc: Global, schema: &Schema) -> Result<Running, WantMemory>
         requires { IsIndexOf schema.now self.shard }
         ensures shard { IfOk result (λ running. shard_view running.shard
@@ -70,7 +70,7 @@ impl Running {
         })
     }
 
-    // Writes the line of a search over every commit so far.
+    // Runs a search: writes its line over every commit so far.
     fn search(self, alloc: Global, session: &Name, request: &Request) -> Result<Running, WantMemory>
         requires fits { All (λ segment. Fits segment.texts request.now) self.shard.segments.items }
         requires different { AreDifferentIn (joined (shard_view self.shard).committed) }
@@ -85,7 +85,7 @@ impl Running {
         Ok(Running { shard, text })
     }
 
-    // Behind one more line.
+    // Runs one more line.
     fn run(self, alloc: Global, schema: &Schema, line: Line) -> Result<Running, WantMemory>
         requires index { IsIndexOf schema.now self.shard }
         requires asked { IsAskedOf schema.now line }

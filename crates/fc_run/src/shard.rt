@@ -18,7 +18,7 @@ pub(crate) struct Shard {
 }
 
 impl Shard {
-    /// Before the first line.
+    /// A shard before the first line.
     pub(crate) fn new(alloc: Global) -> Shard
         ensures segments { result.segments.items ≡ [] }
         ensures waiting { result.waiting.items ≡ [] }
@@ -29,7 +29,7 @@ impl Shard {
         }
     }
 
-    /// With a block behind the others.
+    /// The shard with a block behind the others.
     pub(crate) fn add(self, block: Block) -> Result<Shard, WantMemory>
         ensures segments { IfOk result (λ shard. shard.segments.items ≡ self.segments.items) }
         ensures waiting { IfOk result (λ shard. shard.waiting.items ≡ self.waiting.items ++ block ∷ []) }
@@ -42,7 +42,7 @@ impl Shard {
         Ok(Shard { segments, waiting })
     }
 
-    /// With the blocks behind the last commit as one more segment.
+    /// The shard with the blocks behind the last commit as one more segment.
     pub(crate) fn commit(self, alloc: Global, schema: &Schema) -> Result<Shard, WantMemory>
         requires valid { All (IsBlockOf schema.now) (map block_view self.waiting.items) }
         requires few { document_total (map block_view self.waiting.items) ≤ 1_048_576 }

@@ -7,7 +7,7 @@ pub mod IdSets
 pub mod InRange
 pub mod LimitsLeft
 pub mod LineOrder
-pub mod LookedInto
+pub mod FacetObjects
 pub mod NewIds
 pub mod NotBuiltFaults
 pub mod Outcomes

@@ -36,7 +36,7 @@ pub(crate) struct Counts {
 }
 
 impl Counts {
-    /// Of no line.
+    /// What is counted over no line.
     pub(crate) fn new(alloc: Global, schema: &Schema, limits: Limits) -> Result<Counts, WantMemory>
         ensures { IfOk result (AreCounts (limits_view limits) schema.now []) }
     {
@@ -48,7 +48,7 @@ impl Counts {
         })
     }
 
-    /// With one line more: what it counts stays within its limit.
+    /// What is counted over one line more, where that stays within its limit.
     pub(crate) fn with(
         self,
         alloc: Global,

@@ -10,8 +10,6 @@ mod read;
 mod reading;
 mod refusal;
 mod request;
-#[cfg(test)]
-mod tests;
 
 pub use fault::{Fault, FirstFault};
 pub use limits::{Limits, SCRIPT_LIMIT, SCRIPT_LIMITS};

@@ -7,7 +7,7 @@ pub struct Limits {
     pub values: u64,
 }
 
-/// No more bytes in a script.
+/// The most bytes of a script.
 pub const SCRIPT_LIMIT: usize = 67_108_864;
 
 /// The limits of every script.

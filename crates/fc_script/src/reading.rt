@@ -29,7 +29,7 @@ pub(crate) struct Reading {
 impl Reading {
     ghost use Rattle.fc_script.specs.ReadView.{reading_view, IsRead};
 
-    /// The schema alone.
+    /// A script of which the schema alone has been read.
     pub(crate) fn new(alloc: Global, limits: Limits, schema: Schema) -> Result<Reading, WantMemory>
         ensures view { IfOk result (λ r. reading_view r ≡ record { limits = limits_view limits; schema = schema; lines = [] }) }
         ensures read { IfOk result IsRead }
@@ -43,7 +43,7 @@ impl Reading {
         })
     }
 
-    // With a line behind the others.
+    // The script so far, with a line behind the others.
     fn with_line(self, alloc: Global, line: Line) -> Result<Reading, Refusal<Fault>>
         requires valid { IsLineOf self.schema (line_view line) }
         requires asked { IsAskedOf self.schema line }
@@ -70,7 +70,7 @@ impl Reading {
         })
     }
 
-    // With a line of the script.
+    // The script so far, with what this text says as one more line.
     fn with_text(self, alloc: Global, text: &[u8]) -> Result<Reading, Refusal<Fault>>
         ensures answer { Answers reading_view refused_view result (with_text_line (reading_view self) text.now) }
         ensures limits { IfOk result (λ r. (reading_view r).limits ≡ (reading_view self).limits) }
@@ -83,7 +83,7 @@ impl Reading {
         self.with_line(alloc, line)
     }
 
-    /// With the line of this number.
+    /// The script so far, with the line of this number.
     pub(crate) fn read(
         self,
         alloc: Global,
@@ -99,7 +99,7 @@ impl Reading {
             .map_err(|refusal| at_line(number, refusal))
     }
 
-    /// The schema and the lines.
+    /// The schema and the lines that were read.
     pub(crate) fn into_parts(self) -> (Schema, Vec<Line>)
         requires { IsRead self }
         ensures schema { result.0 ≡ (reading_view self).schema }

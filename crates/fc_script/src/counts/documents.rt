@@ -52,7 +52,7 @@ fn add_to_sums(sums: &mut [u64], block: &Block) -> bool
 }
 
 impl DocumentCounts {
-    /// Of no document.
+    /// What is counted over no document.
     pub(crate) fn new(
         alloc: Global,
         schema: &Schema,
@@ -68,8 +68,8 @@ impl DocumentCounts {
         })
     }
 
-    /// With the documents of one block more: no id stands twice, and the sums and the numbers are
-    /// within their limits.
+    /// What is counted over the documents of one block more, where no id stands twice, and the sums and
+    /// the numbers are within their limits.
     pub(crate) fn with(
         self,
         alloc: Global,

@@ -10,7 +10,7 @@ use std::alloc::Global;
 // The most sessions of a script.
 const SESSION_LIMIT: usize = 16;
 
-// Whether the session is among them.
+// Whether the session is among these.
 fn is_known(sessions: &[Name], session: &Name) -> bool
     ensures { result ≡ list_any (same_text session.now) sessions.now }
 {

@@ -20,7 +20,7 @@ use fc_docs::{Block, read_block};
 use serde_json::{Map, Value};
 use std::alloc::Global;
 
-/// What a line after the schema says.
+/// What a line after the schema says; what a search asks is not read yet.
 #[derive(Debug, Drop)]
 pub(crate) enum Said<'v> {
     /// A block for a shard.

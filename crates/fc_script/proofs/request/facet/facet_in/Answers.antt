@@ -1,7 +1,7 @@
 use Rattle.std.proofs.Common.{ap, ok_or, ◌∙◌, arith, rules}
 use Rattle.serde_json.specs.View.{view}
 use Rattle.fc_script.specs.Refusals.{not_built}
-use Rattle.fc_script.proofs.LookedInto.{facets-many, facets-sole}
+use Rattle.fc_script.proofs.FacetObjects.{facets-many, facets-sole}
 use Rattle.fc_script.proofs.request.facet.facet_in.Goals as goal
 
 pub returns-then-len-gt1-clause-answer : goal.returns-then-len-gt1-clause-answer
