@@ -54,3 +54,4 @@ pub mod QueryWords
 pub mod QueryTokens
 pub mod QueryTrees
 pub mod Filters
+pub mod RequestFaults

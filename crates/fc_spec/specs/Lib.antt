@@ -80,3 +80,10 @@ pub mod QueryTexts
 pub mod QueryReadingLaw
 pub mod FilterReading
 pub mod ValidQueries
+pub mod RequestWalk
+pub mod StatisticReading
+pub mod DomainReading
+pub mod SortReading
+pub mod FacetReading
+pub mod RequestReading
+pub mod ValidRequests
