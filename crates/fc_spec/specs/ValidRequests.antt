@@ -82,12 +82,21 @@ node_names no_nodes = []
 node_names (statistic name st rest) = name ∷ node_names rest
 node_names (facet f inner rest) = f.name ∷ node_names rest
 
--- each node is valid, and where nodes stand beside one another their names differ and ascend
+-- each node is valid by itself
 abbrev pub AreValidNodes : Schema → (outermost : Bool) → Nodes → Type 0
 AreValidNodes s outermost no_nodes = Unit {0}
 AreValidNodes s outermost (statistic name st rest) = IsValidStatistic s st × AreValidNodes s outermost rest
-AreValidNodes s outermost (facet f inner rest) =
-    IsValidChange s outermost f.change × IsValidKind s inner f.kind × IsStrictlySortedBy text_cmp (node_names inner) × AreValidNodes s false inner × AreValidNodes s outermost rest
+AreValidNodes s outermost (facet f inner rest) = IsValidChange s outermost f.change × IsValidKind s inner f.kind × AreValidNodes s false inner × AreValidNodes s outermost rest
+
+-- inside each facet the names differ and stand in the order of their bytes
+abbrev pub AreOrderedInside : Nodes → Type 0
+AreOrderedInside no_nodes = Unit {0}
+AreOrderedInside (statistic name st rest) = AreOrderedInside rest
+AreOrderedInside (facet f inner rest) = IsStrictlySortedBy text_cmp (node_names inner) × AreOrderedInside inner × AreOrderedInside rest
+
+-- and so they do here
+abbrev pub AreOrderedNodes : Nodes → Type 0
+AreOrderedNodes nodes = IsStrictlySortedBy text_cmp (node_names nodes) × AreOrderedInside nodes
 
 -- how many nodes stand around each other at most
 abbrev pub node_depth : Nodes → ℕ
@@ -95,10 +104,10 @@ node_depth no_nodes = 0
 node_depth (statistic name st rest) = max 1 (node_depth rest)
 node_depth (facet f inner rest) = max (suc (node_depth inner)) (node_depth rest)
 
--- its query, filters and nodes are valid, and nodes nest at most eight deep
+-- its query, filters and nodes are valid, nodes nest at most eight deep, and their names differ and ascend
 pub record IsValidRequest (s : Schema) (r : Request) : Type 0 where
   pub query : IsValidQuery s r.query
   pub filters : All (IsValidFilter s) r.filters
   pub nodes : AreValidNodes s true r.nodes
-  pub names : IsStrictlySortedBy text_cmp (node_names r.nodes)
   pub depth : node_depth r.nodes ≤ 8
+  pub names : AreOrderedNodes r.nodes
