@@ -54,4 +54,13 @@ pub mod QueryWords
 pub mod QueryTokens
 pub mod QueryTrees
 pub mod Filters
+pub mod RequestWords
 pub mod RequestFaults
+pub mod DomainFaults
+pub mod RequestOrder
+pub mod RequestBounds
+pub mod RequestSizes
+pub mod ReadRequests
+pub mod ReadRanges
+pub mod SortTexts
+pub mod StatisticTexts
