@@ -59,3 +59,4 @@ pub mod ReadIsSpelled
 pub mod SpelledIsRead
 pub mod TreesOfTokens
 pub mod TextReadings
+pub mod ValidNodes

@@ -87,3 +87,4 @@ pub mod SortReading
 pub mod FacetReading
 pub mod RequestReading
 pub mod ValidRequests
+pub mod RequestLaws

@@ -9,6 +9,12 @@ ghost use Rattle.fc_spec.specs.Merging.{MergesIntoReply};
 ghost use Rattle.fc_spec.specs.QueryReadingLaw.{HasOneReading};
 ghost use Rattle.fc_spec.specs.QuerySpellingLaw.{HasOneTree};
 ghost use Rattle.fc_spec.specs.RefinedPaths.{AreRefinedPathsExact};
+ghost use Rattle.fc_spec.specs.RequestLaws.{
+  ValidAnswersNestLittle,
+  ValidExcludeOutermost,
+  ValidHaveFewDepths,
+  ValidHaveFewRounds,
+};
 ghost use Rattle.fc_spec.specs.RoundsEnd.{NothingLacksBeyond, RoundsAnswer, RoundsAreFew, RoundsComplete, SearchesEnd};
 ghost use Rattle.fc_spec.specs.ShardAlone.{AnswersFromItsBlocks};
 ghost use Rattle.fc_spec.specs.SortingLaw.{PagesAreCuts, RanksAreFronts};
@@ -76,4 +82,20 @@ pub fn query_trees_have_one_spelling()
 /// The query or the fault of a text is the one that its trees give, and they give no other.
 pub fn query_texts_have_one_meaning()
     ensures { HasOneReading }
+{}
+
+/// In a valid request only outermost facets exclude tags, as the laws of replies ask for.
+pub fn valid_requests_exclude_outermost()
+    ensures { ValidExcludeOutermost }
+{}
+
+/// A search of a valid request has at most nine rounds, since at most eight terms facets stand around each other.
+pub fn valid_requests_have_few_rounds()
+    ensures depths { ValidHaveFewDepths }
+    ensures rounds { ValidHaveFewRounds }
+{}
+
+/// The messages that answer a valid request nest at most nine deep, the depth that bytes of messages can spell.
+pub fn valid_answers_nest_little()
+    ensures { ValidAnswersNestLittle }
 {}

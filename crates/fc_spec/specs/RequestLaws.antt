@@ -1,0 +1,29 @@
+-- What holds of valid requests: where they exclude, how deep their terms facets and the messages for them nest.
+use Rattle.std.specs.Prelude.{ℕ, ◌≤◌, IsTrue}
+use Rattle.std.specs.List.{AllByRecursion}
+use Rattle.fc_spec.specs.Schema.{Schema}
+use Rattle.fc_spec.specs.World.{World}
+use Rattle.fc_spec.specs.Request.{Request}
+use Rattle.fc_spec.specs.ValidRequests.{IsValidRequest}
+use Rattle.fc_spec.specs.Shape.{outermost_exclusions}
+use Rattle.fc_spec.specs.Lacks.{terms_depth}
+use Rattle.fc_spec.specs.Rounds.{search_rounds}
+use Rattle.fc_spec.specs.Message.{Ask}
+use Rattle.fc_spec.specs.Answer.{answer}
+use Rattle.fc_spec.specs.Nesting.{nesting}
+
+-- exclusions stand on outermost facets only
+abbrev pub ValidExcludeOutermost : Type 0
+ValidExcludeOutermost = (s : Schema) (r : Request) → IsValidRequest s r → IsTrue (outermost_exclusions r.nodes)
+
+-- at most eight terms facets stand around each other
+abbrev pub ValidHaveFewDepths : Type 0
+ValidHaveFewDepths = (s : Schema) (r : Request) → IsValidRequest s r → terms_depth r.nodes ≤ 8
+
+-- so the rounds of a search have the numbers from 1 to 9
+abbrev pub ValidHaveFewRounds : Type 0
+ValidHaveFewRounds = (s : Schema) (r : Request) (W : World) → IsValidRequest s r → AllByRecursion (λ m. (1 ≤ m.round) × (m.round ≤ 9)) (search_rounds r W)
+
+-- buckets nest at most nine deep in each answer of a shard
+abbrev pub ValidAnswersNestLittle : Type 0
+ValidAnswersNestLittle = (s : Schema) (r : Request) (W : World) (i : ℕ) (ask : Ask) → IsValidRequest s r → nesting (answer r W i ask) ≤ 9
