@@ -60,3 +60,10 @@ pub mod SpelledIsRead
 pub mod TreesOfTokens
 pub mod TextReadings
 pub mod ValidNodes
+pub mod ValidTrees
+pub mod ReadingWords
+pub mod ValidTexts
+pub mod ValidStatistics
+pub mod ValidChanges
+pub mod ValidKinds
+pub mod ValidWalk

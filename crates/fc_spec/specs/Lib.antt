@@ -87,4 +87,5 @@ pub mod SortReading
 pub mod FacetReading
 pub mod RequestReading
 pub mod ValidRequests
+pub mod JsonValues
 pub mod RequestLaws

@@ -1,16 +1,28 @@
--- What holds of valid requests: where they exclude, how deep their terms facets and the messages for them nest.
-use Rattle.std.specs.Prelude.{ℕ, ◌≤◌, IsTrue}
+-- What is read is valid; and what holds of valid requests: where they exclude, how deep their terms facets and the messages for them nest.
+use Rattle.std.specs.Prelude.{◌≡◌, ℕ, ◌≤◌, IsTrue, true, Ok, All}
+use Rattle.serde_json.specs.Data.{Data}
 use Rattle.std.specs.List.{AllByRecursion}
 use Rattle.fc_spec.specs.Schema.{Schema}
 use Rattle.fc_spec.specs.World.{World}
 use Rattle.fc_spec.specs.Request.{Request}
-use Rattle.fc_spec.specs.ValidRequests.{IsValidRequest}
+use Rattle.fc_spec.specs.ValidQueries.{IsValidQuery}
+use Rattle.fc_spec.specs.ValidRequests.{IsValidFilter, AreValidNodes, node_depth, IsValidRequest}
+use Rattle.fc_spec.specs.JsonValues.{HasNumbers, HasAscendingKeys}
+use Rattle.fc_spec.specs.RequestReading.{request_of}
 use Rattle.fc_spec.specs.Shape.{outermost_exclusions}
 use Rattle.fc_spec.specs.Lacks.{terms_depth}
 use Rattle.fc_spec.specs.Rounds.{search_rounds}
 use Rattle.fc_spec.specs.Message.{Ask}
 use Rattle.fc_spec.specs.Answer.{answer}
 use Rattle.fc_spec.specs.Nesting.{nesting}
+
+-- for data whose numbers are those of JSON, the query, the filters and each node of the request that is read are valid, and nodes nest at most eight deep
+abbrev pub ReadAreValid : Type 0
+ReadAreValid = (s : Schema) (d : Data) (r : Request) → HasNumbers d → request_of s d ≡ Ok r → IsValidQuery s r.query × All (IsValidFilter s) r.filters × AreValidNodes s true r.nodes × (node_depth r.nodes ≤ 8)
+
+-- where the keys of each object ascend too, the request is valid
+abbrev pub ReadAreValidWhole : Type 0
+ReadAreValidWhole = (s : Schema) (d : Data) (r : Request) → HasNumbers d → HasAscendingKeys d → request_of s d ≡ Ok r → IsValidRequest s r
 
 -- exclusions stand on outermost facets only
 abbrev pub ValidExcludeOutermost : Type 0

@@ -10,6 +10,8 @@ ghost use Rattle.fc_spec.specs.QueryReadingLaw.{HasOneReading};
 ghost use Rattle.fc_spec.specs.QuerySpellingLaw.{HasOneTree};
 ghost use Rattle.fc_spec.specs.RefinedPaths.{AreRefinedPathsExact};
 ghost use Rattle.fc_spec.specs.RequestLaws.{
+  ReadAreValid,
+  ReadAreValidWhole,
   ValidAnswersNestLittle,
   ValidExcludeOutermost,
   ValidHaveFewDepths,
@@ -82,6 +84,13 @@ pub fn query_trees_have_one_spelling()
 /// The query or the fault of a text is the one that its trees give, and they give no other.
 pub fn query_texts_have_one_meaning()
     ensures { HasOneReading }
+{}
+
+/// The request that JSON says is valid for the schema: each part of it where numbers are those of JSON, and the order of
+/// its names where keys ascend too.
+pub fn what_is_read_is_valid()
+    ensures parts { ReadAreValid }
+    ensures whole { ReadAreValidWhole }
 {}
 
 /// In a valid request only outermost facets exclude tags, as the laws of replies ask for.
