@@ -67,3 +67,4 @@ pub mod ValidStatistics
 pub mod ValidChanges
 pub mod ValidKinds
 pub mod ValidWalk
+pub mod JsonTexts

@@ -1,9 +1,10 @@
 -- What holds of the data that JSON texts are: which numbers there are, and how keys stand.
-use Rattle.std.specs.Prelude.{List, [], ◌∷◌, Bool, true, IsTrue}
+use Rattle.std.specs.Prelude.{◌≡◌, List, [], ◌∷◌, Bool, true, IsTrue, Some}
 use Rattle.std.specs.List.Sorted.{IsStrictlySortedBy}
 use Rattle.serde_json.specs.Data.{Num, unsigned, negative, float, Data, number, array, object, Items, no_items, item, Members, no_members, member}
 use Rattle.fc_spec.specs.Val.{Text, text_cmp}
 use Rattle.fc_spec.specs.IntegerTexts.{is_long}
+use Rattle.fc_spec.specs.ScriptLines.{json_of}
 
 -- a negative number is an integer of 64 bits signed
 abbrev pub is_number : Num → Bool
@@ -46,3 +47,7 @@ abbrev mutual
   pub MembersHaveAscendingKeys : Members → Type 0
   MembersHaveAscendingKeys no_members = Unit {0}
   MembersHaveAscendingKeys (member k d ms) = HasAscendingKeys d × MembersHaveAscendingKeys ms
+
+-- the JSON of a text has such numbers and keys
+abbrev pub TextsAreJson : Type 0
+TextsAreJson = (t : Text) (d : Data) → json_of t ≡ Some d → HasNumbers d × HasAscendingKeys d

@@ -5,6 +5,7 @@
 #![tactic(auto)]
 
 ghost use Rattle.fc_spec.specs.CombiningLaw.{CombinesLists, CombinesParts};
+ghost use Rattle.fc_spec.specs.JsonValues.{TextsAreJson};
 ghost use Rattle.fc_spec.specs.Merging.{MergesIntoReply};
 ghost use Rattle.fc_spec.specs.QueryReadingLaw.{HasOneReading};
 ghost use Rattle.fc_spec.specs.QuerySpellingLaw.{HasOneTree};
@@ -84,6 +85,11 @@ pub fn query_trees_have_one_spelling()
 /// The query or the fault of a text is the one that its trees give, and they give no other.
 pub fn query_texts_have_one_meaning()
     ensures { HasOneReading }
+{}
+
+/// The JSON of a text has keys that differ and stand in the order of their bytes, and negative numbers of 64 bits.
+pub fn texts_are_json()
+    ensures { TextsAreJson }
 {}
 
 /// The request that JSON says is valid for the schema: each part of it where numbers are those of JSON, and the order of
