@@ -62,6 +62,7 @@ pub mod TextReadings
 pub mod ValidNodes
 pub mod ValidTrees
 pub mod ReadingWords
+pub mod JsonMembers
 pub mod ValidTexts
 pub mod ValidStatistics
 pub mod ValidChanges

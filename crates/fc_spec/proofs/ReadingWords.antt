@@ -1,11 +1,7 @@
 -- What holds of the value of a walk, where it has one.
-use Rattle.std.proofs.Common.{◌≡◌, refl, Bool, true, false, ◌||◌, Ordering, Less, Equal, Greater, Option, None, Some, IfSome, List, [], ◌∷◌, All, IfOk, Result, Ok, Err, ok_or}
-use Rattle.std.specs.Ordering.{match_ordering, nat_cmp}
-use Rattle.std.specs.Cmp.Lexicographic.{slice_cmp}
+use Rattle.std.proofs.Common.{◌≡◌, refl, Bool, true, false, ◌||◌, Option, None, Some, IfSome, List, [], ◌∷◌, All, IfOk, Result, Ok, Err, ok_or}
 use Rattle.std.proofs.lemmas.List.Elements.{All-nil, All-cons}
-use Rattle.serde_json.specs.Data.{Data, Members, no_members, member}
-use Rattle.serde_json.specs.Find.{get_member}
-use Rattle.fc_spec.specs.Val.{Text}
+use Rattle.serde_json.specs.Data.{Data}
 use Rattle.fc_spec.specs.Walks.{◌>>=◌, unless, with_fault, each}
 use Rattle.fc_spec.specs.RequestWalk.{optional}
 use Rattle.fc_spec.specs.RequestFault.{QFault}
@@ -48,13 +44,3 @@ all_of_each P step (a ∷ more) k = going_on (All P) P (step a) _ (k a) (λ b h.
 pub or_right : (a b : Bool) → (a || b) ≡ true → a ≡ false → b ≡ true
 or_right true b e n = absurd cc
 or_right false b e n = e
-
--- what holds of the members, and so of each one and those behind it, holds of the one that is found
-pub found_member : (P : Data → Type 0) (Q : Members → Type 0) → ((k : Text) (d : Data) (ms : Members) → Q (member k d ms) → P d × Q ms) → (k : Text) (ms : Members) → Q ms → IfSome (get_member k ms) P
-found_member P Q split k no_members h = tt
-found_member P Q split k (member l e ms) h = at (slice_cmp nat_cmp k l) (split l e ms h) (found_member P Q split k ms (split l e ms h).1)
-  where
-    at : (o : Ordering) → P e × Q ms → IfSome (get_member k ms) P → IfSome (match_ordering o (get_member k ms) (Some e) (get_member k ms)) P
-    at Less here more = more
-    at Equal here more = here.0
-    at Greater here more = more

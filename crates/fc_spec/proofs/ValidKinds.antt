@@ -22,7 +22,8 @@ use Rattle.fc_spec.specs.JsonValues.{is_number, HasNumbers, MembersHaveNumbers}
 use Rattle.fc_spec.specs.ValidQueries.{IsValidQuery}
 use Rattle.fc_spec.specs.ValidRequests.{IsFew, IsValidTerms, IsValidRange, IsValidKind}
 use Rattle.fc_spec.specs.Walks.{unless}
-use Rattle.fc_spec.proofs.ReadingWords.{going_on, whatever, there, passed, if_there, found_member}
+use Rattle.fc_spec.proofs.JsonMembers.{member_numbers}
+use Rattle.fc_spec.proofs.ReadingWords.{going_on, whatever, there, passed, if_there}
 use Rattle.fc_spec.proofs.ValidStatistics.{field_there, NamesItsStatistic}
 use Rattle.fc_spec.proofs.ValidChanges.{query_in_valid, query_from_text}
 
@@ -163,10 +164,6 @@ integer_in_long (boolean b) h = tt
 integer_in_long (string t) h = tt
 integer_in_long (array ds) h = tt
 integer_in_long (object ms) h = tt
-
--- a member that is there has the numbers of the members
-pub member_numbers : (k : Text) (ms : Members) → MembersHaveNumbers ms → IfSome (get_member k ms) HasNumbers
-member_numbers k ms h = found_member HasNumbers MembersHaveNumbers (λ k d ms h. (h.0, h.1)) k ms h
 
 required_numbers : (k : Text) (ms : Members) → MembersHaveNumbers ms → IfOk (required k ms) HasNumbers
 required_numbers k ms h = there HasNumbers (get_member k ms) missing_parameter (member_numbers k ms h)

@@ -22,10 +22,11 @@ use Rattle.fc_spec.specs.RequestLaws.{ReadAreValid, ReadAreValidWhole}
 use Rattle.fc_spec.specs.ValidQueries.{IsValidQuery}
 use Rattle.fc_spec.specs.ValidRequests.{IsValidFilter, IsValidChange, IsValidKind, IsValidRange, IsValidStatistic, node_names, AreValidNodes, AreOrderedInside, AreOrderedNodes, node_depth}
 use Rattle.fc_spec.specs.Walks.{◌>>=◌, unless, with_fault}
-use Rattle.fc_spec.proofs.ReadingWords.{going_on, whatever, seen, if_there, found_member}
+use Rattle.fc_spec.proofs.JsonMembers.{member_numbers, member_keys}
+use Rattle.fc_spec.proofs.ReadingWords.{going_on, whatever, seen, if_there}
 use Rattle.fc_spec.proofs.ValidStatistics.{statistic_valid, NamesItsStatistic, sort_in_valid}
 use Rattle.fc_spec.proofs.ValidChanges.{change_in_valid, filters_in_valid}
-use Rattle.fc_spec.proofs.ValidKinds.{AreValidParts, parts_valid, terms_valid, member_numbers, range_valid, IsKindAnywhere, query_part_valid, main_query_valid}
+use Rattle.fc_spec.proofs.ValidKinds.{AreValidParts, parts_valid, terms_valid, range_valid, IsKindAnywhere, query_part_valid, main_query_valid}
 
 -- nodes that the members of an object give, so deep at most
 record AreReadFrom (s : Schema) (outermost : Bool) (left : ℕ) (ms : Members) (nodes : Nodes) : Type 0 where
@@ -68,9 +69,6 @@ inner_valid s outermost left deeper valid n (Some (string t)) h = tt
 inner_valid s outermost left deeper valid n (Some (array ds)) h = tt
 
 -- ---- one node
-
-member_keys : (k : Text) (ms : Members) → MembersHaveAscendingKeys ms → IfSome (get_member k ms) HasAscendingKeys
-member_keys k ms h = found_member HasAscendingKeys MembersHaveAscendingKeys (λ k d ms h. (h.0, h.1)) k ms h
 
 -- a node of an object's members
 abbrev IsNodeOf : Schema → Bool → ℕ → Members → Walked Node → Type 0

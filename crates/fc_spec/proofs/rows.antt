@@ -64,3 +64,4 @@ pub mod ReadRequests
 pub mod ReadRanges
 pub mod SortTexts
 pub mod StatisticTexts
+pub mod WorkedRequests
