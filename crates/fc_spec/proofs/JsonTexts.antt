@@ -75,9 +75,9 @@ put_ascends k d (member l e ms) h = at (text_cmp k l) refl (put_ascends k d ms h
 
 -- ---- values
 
-record IsJson (d : Data) : Type 0 where
-  numbers : HasNumbers d
-  keys : HasAscendingKeys d
+pub record IsJson (d : Data) : Type 0 where
+  pub numbers : HasNumbers d
+  pub keys : HasAscendingKeys d
 
 record AreJson (ds : Items) : Type 0 where
   numbers : ItemsHaveNumbers ds
@@ -136,15 +136,15 @@ mutual
   members_hold json.no_members found h = h
   members_hold (json.member k j ms) found h = bound HoldJson (of_json j) _ (weaker IsJson _ (of_json j) (λ d i. members_hold ms (put k d found) (put_holds k d found i h)) (json_holds j))
 
-read_holds : (t : Text) → IfSome (json_of t) IsJson
-read_holds t = either IsJson (is_utf8 t) (read t) None (of_tokens (option_and_then (λ p. json.if_last p.0 p.1) (json.value max_depth (tokens t)))) tt
+pub json_is : (t : Text) → IfSome (json_of t) IsJson
+json_is t = either IsJson (is_utf8 t) (read t) None (of_tokens (option_and_then (λ p. json.if_last p.0 p.1) (json.value max_depth (tokens t)))) tt
   where
     of_tokens : (o : Option json.Json) → IfSome (option_and_then of_json o) IsJson
     of_tokens None = tt
     of_tokens (Some j) = json_holds j
 
 pub texts_are_json : TextsAreJson
-texts_are_json t d e = let h = at (json_of t) e (read_holds t) in (h.numbers, h.keys)
+texts_are_json t d e = let h = at (json_of t) e (json_is t) in (h.numbers, h.keys)
   where
     at : (o : Option Data) → o ≡ Some d → IfSome o IsJson → IsJson d
     at None f h = absurd cc

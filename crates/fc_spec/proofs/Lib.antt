@@ -69,3 +69,4 @@ pub mod ValidChanges
 pub mod ValidKinds
 pub mod ValidWalk
 pub mod JsonTexts
+pub mod ValidSearches

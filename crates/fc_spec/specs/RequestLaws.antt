@@ -1,5 +1,5 @@
 -- What is read is valid; and what holds of valid requests: where they exclude, how deep their terms facets and the messages for them nest.
-use Rattle.std.specs.Prelude.{◌≡◌, ℕ, ◌≤◌, IsTrue, true, Ok, All}
+use Rattle.std.specs.Prelude.{◌≡◌, ℕ, List, ◌≤◌, IsTrue, true, Ok, All}
 use Rattle.serde_json.specs.Data.{Data}
 use Rattle.std.specs.List.{AllByRecursion}
 use Rattle.fc_spec.specs.Schema.{Schema}
@@ -8,6 +8,9 @@ use Rattle.fc_spec.specs.Request.{Request}
 use Rattle.fc_spec.specs.ValidQueries.{IsValidQuery}
 use Rattle.fc_spec.specs.ValidRequests.{IsValidFilter, AreValidNodes, node_depth, IsValidRequest}
 use Rattle.fc_spec.specs.JsonValues.{HasNumbers, HasAscendingKeys}
+use Rattle.fc_spec.specs.Script.{Line, add, commit, sync, asks, Script}
+use Rattle.fc_spec.specs.ScriptTotals.{Limits}
+use Rattle.fc_spec.specs.ScriptReading.{script_of}
 use Rattle.fc_spec.specs.RequestReading.{request_of}
 use Rattle.fc_spec.specs.Shape.{outermost_exclusions}
 use Rattle.fc_spec.specs.Lacks.{terms_depth}
@@ -23,6 +26,17 @@ ReadAreValid = (s : Schema) (d : Data) (r : Request) → HasNumbers d → reques
 -- where the keys of each object ascend too, the request is valid
 abbrev pub ReadAreValidWhole : Type 0
 ReadAreValidWhole = (s : Schema) (d : Data) (r : Request) → HasNumbers d → HasAscendingKeys d → request_of s d ≡ Ok r → IsValidRequest s r
+
+-- what a line's search asks is a valid request, where it is one
+abbrev pub AsksValid : Schema → Line Data → Type 0
+AsksValid s (asks session d) = (r : Request) → request_of s d ≡ Ok r → IsValidRequest s r
+AsksValid s (add shard block) = Unit {0}
+AsksValid s (commit shard) = Unit {0}
+AsksValid s sync = Unit {0}
+
+-- so are the requests of every script that bytes spell
+abbrev pub ScriptsAskValid : Type 0
+ScriptsAskValid = (limits : Limits) (bytes : List ℕ) (S : Script Data) → script_of limits bytes ≡ Ok S → All (AsksValid S.schema) S.lines
 
 -- exclusions stand on outermost facets only
 abbrev pub ValidExcludeOutermost : Type 0

@@ -13,6 +13,7 @@ ghost use Rattle.fc_spec.specs.RefinedPaths.{AreRefinedPathsExact};
 ghost use Rattle.fc_spec.specs.RequestLaws.{
   ReadAreValid,
   ReadAreValidWhole,
+  ScriptsAskValid,
   ValidAnswersNestLittle,
   ValidExcludeOutermost,
   ValidHaveFewDepths,
@@ -93,10 +94,11 @@ pub fn texts_are_json()
 {}
 
 /// The request that JSON says is valid for the schema: each part of it where numbers are those of JSON, and the order of
-/// its names where keys ascend too.
+/// its names where keys ascend too. So each search of a script that bytes spell asks a valid request, or has a fault.
 pub fn what_is_read_is_valid()
     ensures parts { ReadAreValid }
     ensures whole { ReadAreValidWhole }
+    ensures scripts { ScriptsAskValid }
 {}
 
 /// In a valid request only outermost facets exclude tags, as the laws of replies ask for.
