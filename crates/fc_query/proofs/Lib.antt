@@ -7,6 +7,5 @@ pub mod GroupsSoFar
 pub mod NestedAtoms
 pub mod OneOptional
 pub mod ClausesSoFar
-pub mod Validity
 pub mod Readings
 pub mod Fronting

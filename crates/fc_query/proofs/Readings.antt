@@ -17,7 +17,7 @@ use Rattle.fc_query.specs.declared.fault.QueryFault.{QueryFault}
 use Rattle.fc_query.specs.declared.query.Query.{Query}
 use Rattle.fc_query.specs.QueryView.{query_fault_view, query_view}
 use Rattle.fc_query.specs.Takes.{Stops}
-use Rattle.fc_query.proofs.Validity.{tree_valid}
+use Rattle.fc_spec.proofs.ValidTrees.{tree_valid}
 
 -- the answer for a text without tokens
 pub without_row : (s : schema.Schema) (t : Text) (stop : Refusal QueryFault) → Stops stop (tokens_of t) → Answers query_view query_fault_view (Err stop) (query_of s t)

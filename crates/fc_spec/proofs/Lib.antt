@@ -65,3 +65,14 @@ pub mod ReadIsSpelled
 pub mod SpelledIsRead
 pub mod TreesOfTokens
 pub mod TextReadings
+pub mod ValidNodes
+pub mod ValidTrees
+pub mod ReadingWords
+pub mod JsonMembers
+pub mod ValidTexts
+pub mod ValidStatistics
+pub mod ValidChanges
+pub mod ValidKinds
+pub mod ValidWalk
+pub mod JsonTexts
+pub mod ValidSearches

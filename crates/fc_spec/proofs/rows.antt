@@ -63,3 +63,14 @@ pub mod ValidQueries
 pub mod QueryTexts
 pub mod LineForms
 pub mod DocumentLimits
+pub mod RequestWords
+pub mod RequestFaults
+pub mod DomainFaults
+pub mod RequestOrder
+pub mod RequestBounds
+pub mod RequestSizes
+pub mod ReadRequests
+pub mod ReadRanges
+pub mod SortTexts
+pub mod StatisticTexts
+pub mod WorkedRequests

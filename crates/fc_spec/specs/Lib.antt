@@ -81,3 +81,12 @@ pub mod QueryTexts
 pub mod QueryReadingLaw
 pub mod FilterReading
 pub mod ValidQueries
+pub mod RequestWalk
+pub mod StatisticReading
+pub mod DomainReading
+pub mod SortReading
+pub mod FacetReading
+pub mod RequestReading
+pub mod ValidRequests
+pub mod JsonValues
+pub mod RequestLaws

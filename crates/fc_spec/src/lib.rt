@@ -5,10 +5,20 @@
 #![tactic(auto)]
 
 ghost use Rattle.fc_spec.specs.CombiningLaw.{CombinesLists, CombinesParts};
+ghost use Rattle.fc_spec.specs.JsonValues.{TextsAreJson};
 ghost use Rattle.fc_spec.specs.Merging.{MergesIntoReply};
 ghost use Rattle.fc_spec.specs.QueryReadingLaw.{HasOneReading};
 ghost use Rattle.fc_spec.specs.QuerySpellingLaw.{HasOneTree};
 ghost use Rattle.fc_spec.specs.RefinedPaths.{AreRefinedPathsExact};
+ghost use Rattle.fc_spec.specs.RequestLaws.{
+  ReadAreValid,
+  ReadAreValidWhole,
+  ScriptsAskValid,
+  ValidAnswersNestLittle,
+  ValidExcludeOutermost,
+  ValidHaveFewDepths,
+  ValidHaveFewRounds,
+};
 ghost use Rattle.fc_spec.specs.RoundsEnd.{NothingLacksBeyond, RoundsAnswer, RoundsAreFew, RoundsComplete, SearchesEnd};
 ghost use Rattle.fc_spec.specs.ShardAlone.{AnswersFromItsBlocks};
 ghost use Rattle.fc_spec.specs.SortingLaw.{PagesAreCuts, RanksAreFronts};
@@ -76,4 +86,33 @@ pub fn query_trees_have_one_spelling()
 /// The query or the fault of a text is the one that its trees give, and they give no other.
 pub fn query_texts_have_one_meaning()
     ensures { HasOneReading }
+{}
+
+/// The JSON of a text has keys that differ and stand in the order of their bytes, and negative numbers of 64 bits.
+pub fn texts_are_json()
+    ensures { TextsAreJson }
+{}
+
+/// The request that JSON says is valid for the schema: each part of it where numbers are those of JSON, and the order of
+/// its names where keys ascend too. So each search of a script that bytes spell asks a valid request, or has a fault.
+pub fn what_is_read_is_valid()
+    ensures parts { ReadAreValid }
+    ensures whole { ReadAreValidWhole }
+    ensures scripts { ScriptsAskValid }
+{}
+
+/// In a valid request only outermost facets exclude tags, as the laws of replies ask for.
+pub fn valid_requests_exclude_outermost()
+    ensures { ValidExcludeOutermost }
+{}
+
+/// A search of a valid request has at most nine rounds, since at most eight terms facets stand around each other.
+pub fn valid_requests_have_few_rounds()
+    ensures depths { ValidHaveFewDepths }
+    ensures rounds { ValidHaveFewRounds }
+{}
+
+/// The messages that answer a valid request nest at most nine deep, the depth that bytes of messages can spell.
+pub fn valid_answers_nest_little()
+    ensures { ValidAnswersNestLittle }
 {}
