@@ -6,8 +6,8 @@ use Rattle.std.specs.Cmp.Lexicographic.{pointwise}
 use Rattle.std.proofs.lemmas.Iterator.Adapters.{position_from-zero}
 use Rattle.std.proofs.lemmas.List.{take_all}
 use Rattle.std.proofs.lemmas.Map.Text.{is_eq-slice_cmp}
-use Rattle.fc_spec.specs.Val.{Text, text_cmp, same_text}
-use Rattle.fc_spec.specs.Schema as definition
+use Rattle.fc_spec.specs.documents.Val.{Text, text_cmp, same_text}
+use Rattle.fc_spec.specs.documents.Schema as definition
 use Rattle.fc_base.specs.declared.field.Field.{Field}
 use Rattle.fc_base.specs.ValidSchema.{id_field}
 use Rattle.fc_base.specs.View.{field_view}

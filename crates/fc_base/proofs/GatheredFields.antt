@@ -6,9 +6,9 @@ use Rattle.std.specs.List.{All, AllByRecursion, list_any}
 use Rattle.std.specs.List.Sorted.{IsStrictlySortedBy}
 use Rattle.std.proofs.lemmas.List.Elements.{All-nil, All-cons, All-head, All-tail}
 use Rattle.serde_json.specs.Data.{Data, Members, no_members, member}
-use Rattle.fc_spec.specs.Val.{Text, same_text, text_cmp}
-use Rattle.fc_spec.specs.Schema.{Field, FieldType}
-use Rattle.fc_spec.specs.SchemaReading.{is_field_name, type_of, type_for, field_of, fields_of, without_id, with_id}
+use Rattle.fc_spec.specs.documents.Val.{Text, same_text, text_cmp}
+use Rattle.fc_spec.specs.documents.Schema.{Field, FieldType}
+use Rattle.fc_spec.specs.documents.SchemaReading.{is_field_name, type_of, type_for, field_of, fields_of, without_id, with_id}
 use Rattle.fc_base.specs.ValidSchema.{id_field, IsFieldList}
 use Rattle.fc_base.proofs.Members.{member_keys}
 

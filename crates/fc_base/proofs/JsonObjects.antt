@@ -5,23 +5,23 @@ use Rattle.serde_json.specs.Data.{Data, null, boolean, number, string, array, ob
 use Rattle.serde_json.specs.Find.{as_object}
 use Rattle.serde_json.specs.View.{view, members_view}
 use Rattle.serde_json.specs.declared.value.Value.{Value}
-use Rattle.fc_spec.specs.Val.{Text, same_text}
-use Rattle.fc_spec.specs.JsonObjects.{sole_member, only_names, member_count, has_members}
+use Rattle.fc_spec.specs.documents.Val.{Text, same_text}
+use Rattle.fc_spec.specs.scripts.JsonObjects.{sole_member, only_names, member_count, has_members}
 
-abbrev pub Entry : Type 0
-Entry = String Global × Value
+abbrev pub MapEntry : Type 0
+MapEntry = String Global × Value
 
 -- the only member that entries show
-abbrev pub sole_entry : List Entry → Option (Text × Data)
+abbrev pub sole_entry : List MapEntry → Option (Text × Data)
 sole_entry (e ∷ []) = Some (string_bytes e.0, view e.1)
 sole_entry _ = None
 
-sole_member-object : (es : List Entry) → sole_member (object (members_view es)) ≡ sole_entry es
+sole_member-object : (es : List MapEntry) → sole_member (object (members_view es)) ≡ sole_entry es
 sole_member-object [] = refl
 sole_member-object (e ∷ []) = refl
 sole_member-object (e ∷ f ∷ es) = refl
 
-pub sole_member-entries : (d : Data) (es : List Entry) → Some (members_view es) ≡ as_object d → sole_member d ≡ sole_entry es
+pub sole_member-entries : (d : Data) (es : List MapEntry) → Some (members_view es) ≡ as_object d → sole_member d ≡ sole_entry es
 sole_member-entries (object ms) es is =
     let same : members_view es ≡ ms = cc in
     ap (λ m. sole_member (object m)) (sym same) ∙ sole_member-object es
@@ -31,12 +31,12 @@ sole_member-entries (number x) es is = cc
 sole_member-entries (string s) es is = cc
 sole_member-entries (array ds) es is = cc
 
-pub not_sole : (es : List Entry) → (length es ≡ 1 → ⊥) → sole_entry es ≡ None
+pub not_sole : (es : List MapEntry) → (length es ≡ 1 → ⊥) → sole_entry es ≡ None
 not_sole [] other = refl
 not_sole (e ∷ []) other = absurd (other (omega arith))
 not_sole (e ∷ f ∷ es) other = refl
 
-pub is_sole : (es : List Entry) (e : Entry) → length es ≡ 1 → slice_get es 0 ≡ Some e → sole_entry es ≡ Some (string_bytes e.0, view e.1)
+pub is_sole : (es : List MapEntry) (e : MapEntry) → length es ≡ 1 → slice_get es 0 ≡ Some e → sole_entry es ≡ Some (string_bytes e.0, view e.1)
 is_sole [] e one first = absurd (omega arith)
 is_sole (f ∷ []) e one first =
     let same : f ≡ e = cc in
@@ -50,20 +50,20 @@ list_any-map p f [] = refl
 list_any-map p f (x ∷ xs) = ap (λ b. p (f x) || b) (list_any-map p f xs)
 
 -- the members with one more in front, whose name is among these, or is not
-pub among : (names : List (Bor Text)) (e : Entry) (rest : List Entry) → true ≡ list_any (λ other. same_text (string_bytes e.0) other.now) names → only_names (map (λ name. name.now) names) (members_view (e ∷ rest)) ≡ only_names (map (λ name. name.now) names) (members_view rest)
+pub among : (names : List (Bor Text)) (e : MapEntry) (rest : List MapEntry) → true ≡ list_any (λ other. same_text (string_bytes e.0) other.now) names → only_names (map (λ name. name.now) names) (members_view (e ∷ rest)) ≡ only_names (map (λ name. name.now) names) (members_view rest)
 among names e rest is = rw (list_any-map (same_text (string_bytes e.0)) (λ name. name.now) names, ← is) refl
 
-pub not_among : (names : List (Bor Text)) (e : Entry) (rest : List Entry) → false ≡ list_any (λ other. same_text (string_bytes e.0) other.now) names → only_names (map (λ name. name.now) names) (members_view (e ∷ rest)) ≡ false
+pub not_among : (names : List (Bor Text)) (e : MapEntry) (rest : List MapEntry) → false ≡ list_any (λ other. same_text (string_bytes e.0) other.now) names → only_names (map (λ name. name.now) names) (members_view (e ∷ rest)) ≡ false
 not_among names e rest is = rw (list_any-map (same_text (string_bytes e.0)) (λ name. name.now) names, ← is) refl
 
 -- ---- the number of members
 
 -- a map's entries are the members that it shows
-pub count-members_view : (es : List Entry) → member_count (members_view es) ≡ length es
+pub count-members_view : (es : List MapEntry) → member_count (members_view es) ≡ length es
 count-members_view [] = refl
 count-members_view (e ∷ es) = omega (arith, count-members_view es)
 
-pub seen_as : (d : Data) (es : List Entry) → Some (members_view es) ≡ as_object d → d ≡ object (members_view es)
+pub seen_as : (d : Data) (es : List MapEntry) → Some (members_view es) ≡ as_object d → d ≡ object (members_view es)
 seen_as (object ms) es is = cc
 seen_as null es is = cc
 seen_as (boolean b) es is = cc
@@ -71,5 +71,5 @@ seen_as (number x) es is = cc
 seen_as (string s) es is = cc
 seen_as (array ds) es is = cc
 
-pub has_members-entries : (d : Data) (es : List Entry) (n : ℕ) → Some (members_view es) ≡ as_object d → has_members n d ≡ (length es == n)
+pub has_members-entries : (d : Data) (es : List MapEntry) (n : ℕ) → Some (members_view es) ≡ as_object d → has_members n d ≡ (length es == n)
 has_members-entries d es n is = ap (has_members n) (seen_as d es is) ∙ ap (λ k. k == n) (count-members_view es)

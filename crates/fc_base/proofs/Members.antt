@@ -7,7 +7,7 @@ use Rattle.std.specs.String.{string_cmp}
 use Rattle.serde_json.specs.Data.{Members, no_members, member}
 use Rattle.serde_json.specs.View.{members_view}
 use Rattle.serde_json.specs.declared.value.Value.{Value}
-use Rattle.fc_spec.specs.Val.{Text, text_cmp}
+use Rattle.fc_spec.specs.documents.Val.{Text, text_cmp}
 
 abbrev pub member_keys : Members → List Text
 member_keys no_members = []

@@ -10,9 +10,9 @@ use Rattle.std.proofs.lemmas.List.{get_or-map, length-map}
 use Rattle.std.proofs.lemmas.List.Quantifiers.{position-Some}
 use Rattle.std.proofs.lemmas.Map.Keys.{Less-from_sorted, any_passes_from_place}
 use Rattle.std.proofs.lemmas.Option.{get_or_from_slice_get, slice_get_within, slice_get-get_or}
-use Rattle.fc_spec.specs.Val.{Text, text_cmp, same_text}
-use Rattle.fc_spec.specs.Schema.{Field}
-use Rattle.fc_spec.proofs.Texts.{same_itself, equal}
+use Rattle.fc_spec.specs.documents.Val.{Text, text_cmp, same_text}
+use Rattle.fc_spec.specs.documents.Schema.{Field}
+use Rattle.fc_spec.proofs.words.Texts.{same_itself, equal}
 use Rattle.fc_base.specs.ValidSchema.{id_field, IsFieldList}
 
 -- of fields that ascend by their names no two have one

@@ -6,9 +6,9 @@ use Rattle.serde_json.specs.Data.{Data, null, boolean, number, string, array, ob
 use Rattle.serde_json.specs.Find.{get, as_object}
 use Rattle.serde_json.specs.View.{members_view}
 use Rattle.serde_json.specs.declared.value.Value.{Value}
-use Rattle.fc_spec.specs.Schema.{Field}
-use Rattle.fc_spec.specs.JsonObjects.{member_count}
-use Rattle.fc_spec.specs.SchemaReading.{shards_of, fields_of, with_id, schema_of}
+use Rattle.fc_spec.specs.documents.Schema.{Field}
+use Rattle.fc_spec.specs.scripts.JsonObjects.{member_count}
+use Rattle.fc_spec.specs.documents.SchemaReading.{shards_of, fields_of, with_id, schema_of}
 use Rattle.fc_base.proofs.JsonObjects.{count-members_view}
 
 pub not_two_members : (es : List (String Global × Value)) (n : ℕ) → n ≡ length es → (n ≡ 2 → ⊥) → (member_count (members_view es) == 2) ≡ false

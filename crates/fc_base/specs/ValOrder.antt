@@ -2,8 +2,8 @@
 use Rattle.std.specs.Prelude.{refl}
 use Rattle.std.specs.Cmp.{IsTotalOrder, IsPartialOrder, IsEquivalence, on_total, po, eq_by_cmp_equiv}
 use Rattle.std.specs.Ordering.{on, as_partial_cmp}
-use Rattle.fc_spec.specs.Val.{val_cmp, same_val}
-use Rattle.fc_spec.specs.ValOrder.{val_cmp_total}
+use Rattle.fc_spec.specs.documents.Val.{val_cmp, same_val}
+use Rattle.fc_spec.specs.documents.ValOrder.{val_cmp_total}
 use Rattle.fc_base.specs.View.{val_view}
 
 pub vals_total : IsTotalOrder (on val_view val_cmp)

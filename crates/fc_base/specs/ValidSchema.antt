@@ -2,9 +2,9 @@
 use Rattle.std.specs.Prelude.{◌≡◌, ◌≤◌, All, IsTrue, List, Some, codes, drop, false, length, map, slice_get}
 use Rattle.std.specs.List.{list_any}
 use Rattle.std.specs.List.Sorted.{IsStrictlySortedBy}
-use Rattle.fc_spec.specs.Val.{text_cmp, same_text}
-use Rattle.fc_spec.specs.Schema.{Field, Schema, string}
-use Rattle.fc_spec.specs.SchemaReading.{is_field_name}
+use Rattle.fc_spec.specs.documents.Val.{text_cmp, same_text}
+use Rattle.fc_spec.specs.documents.Schema.{Field, Schema, string}
+use Rattle.fc_spec.specs.documents.SchemaReading.{is_field_name}
 
 -- the field that every schema has
 abbrev pub id_field : Field

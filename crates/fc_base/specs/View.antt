@@ -1,7 +1,7 @@
 -- What the types of this crate stand for in the definitions.
 use Rattle.std.specs.Prelude.{ℕ, List, map}
-use Rattle.fc_spec.specs.Val as definition
-use Rattle.fc_spec.specs.Schema as schema
+use Rattle.fc_spec.specs.documents.Val as definition
+use Rattle.fc_spec.specs.documents.Schema as schema
 use Rattle.fc_base.specs.declared.value.Val.{Val}
 use Rattle.fc_base.specs.declared.value.Val.TheVariants.{Text, Long}
 use Rattle.fc_base.specs.declared.field.Field.{Field}

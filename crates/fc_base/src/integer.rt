@@ -1,6 +1,6 @@
 // Integers as texts.
 ghost use Rattle.std.specs.Prelude.{◌≡◌, ◌==◌, slice_index};
-ghost use Rattle.fc_spec.specs.IntegerTexts.{long_of as spelled};
+ghost use Rattle.fc_spec.specs.documents.IntegerTexts.{long_of as spelled};
 
 fn begins_with_plus(text: &[u8]) -> bool
     ensures { result ≡ (slice_index text.now 0 == 43) }

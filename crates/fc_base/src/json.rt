@@ -4,8 +4,8 @@ ghost use Rattle.std.specs.List.{list_any};
 ghost use Rattle.serde_json.specs.Find.{get_member};
 ghost use Rattle.serde_json.specs.View.{view, members_view};
 ghost use Rattle.serde_json.specs.Written.{has_float, compact_text};
-ghost use Rattle.fc_spec.specs.JsonObjects as objects;
-ghost use Rattle.fc_spec.specs.Val.{same_text};
+ghost use Rattle.fc_spec.specs.scripts.JsonObjects as objects;
+ghost use Rattle.fc_spec.specs.documents.Val.{same_text};
 
 use crate::WantMemory;
 use serde_json::{Map, Value};

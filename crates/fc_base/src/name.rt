@@ -3,7 +3,7 @@ ghost use Rattle.std.specs.Prelude.{◌≡◌, ◌==◌, IfOk, IsUtf8, List, ℕ
 ghost use Rattle.std.specs.Cmp.{partial_equiv_from_equiv};
 ghost use Rattle.std.specs.Cmp.Lexicographic.{pointwise, nat_list_cmp_total, nat_list_eq_equiv, texts_ties, texts_po};
 ghost use Rattle.std.specs.Ordering.{as_partial_cmp};
-ghost use Rattle.fc_spec.specs.Val.{text_cmp};
+ghost use Rattle.fc_spec.specs.documents.Val.{text_cmp};
 
 use crate::WantMemory;
 use std::alloc::Global;

@@ -1,8 +1,8 @@
 // Schemas.
 ghost use Rattle.std.specs.Prelude.{◌≡◌, ◌<◌, length, map, slice_get, IfSome, option_map, position};
 ghost use Rattle.std.specs.List.Sorted.{IsStrictlySortedBy};
-ghost use Rattle.fc_spec.specs.Val.{text_cmp, same_text};
-ghost use Rattle.fc_spec.specs.Schema.{field_named};
+ghost use Rattle.fc_spec.specs.documents.Val.{text_cmp, same_text};
+ghost use Rattle.fc_spec.specs.documents.Schema.{field_named};
 ghost use Rattle.fc_base.specs.declared.error.Refusal.TheVariants.{Fault};
 ghost use Rattle.fc_base.specs.View.{field_type_view};
 ghost use Rattle.fc_base.specs.ValidSchema.{IsValidSchema};
@@ -38,7 +38,7 @@ pub struct Schema {
 }
 
 impl Model for Schema {
-    ghost use Rattle.fc_spec.specs.Schema as definition;
+    ghost use Rattle.fc_spec.specs.documents.Schema as definition;
 
     ghost Value = { definition.Schema };
 

@@ -2,7 +2,7 @@
 ghost use Rattle.std.specs.Prelude.{◌≡◌, IfOk, refl};
 ghost use Rattle.std.specs.Cmp.{partial_equiv_from_equiv};
 ghost use Rattle.std.specs.Ordering.{is_lt, on, as_partial_cmp};
-ghost use Rattle.fc_spec.specs.Val.{val_cmp, same_val};
+ghost use Rattle.fc_spec.specs.documents.Val.{val_cmp, same_val};
 ghost use Rattle.fc_base.specs.View.{val_view};
 ghost use Rattle.fc_base.specs.ValOrder.{vals_total, vals_equiv, vals_po};
 

@@ -3,9 +3,9 @@ use Rattle.std.proofs.Common.{◌≡◌, ℕ, ◌<◌, List, length, get_or, map
 use Rattle.std.proofs.lemmas.List.{get_or-map, length-map}
 use Rattle.std.specs.Ordering.{int_cmp}
 use Rattle.std.specs.declared.cmp.Ordering.{Ordering}
-use Rattle.fc_spec.specs.Val.{Val, text, long, val_cmp, text_cmp}
-use Rattle.fc_spec.specs.Columns.{IsText, IsLong, IsAscending, texts_in, longs_in}
-use Rattle.fc_spec.proofs.ValueKinds.{texts_whole, longs_whole}
+use Rattle.fc_spec.specs.documents.Val.{Val, text, long, val_cmp, text_cmp}
+use Rattle.fc_spec.specs.documents.Columns.{IsText, IsLong, IsAscending, texts_in, longs_in}
+use Rattle.fc_spec.proofs.documents.ValueKinds.{texts_whole, longs_whole}
 
 -- what values are made of ascends as they do
 made_ascend : {X : Type 0} (make : X → Val) (cmp : X → X → Ordering) → ((x y : X) → val_cmp (make x) (make y) ≡ cmp x y) → (xs : List X) (vs : List Val) → map make xs ≡ vs → IsAscending val_cmp vs → IsAscending cmp xs

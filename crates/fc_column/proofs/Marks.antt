@@ -2,8 +2,8 @@
 use Rattle.std.proofs.Common.{◌≡◌, ℕ, ◌+◌, ◌/◌, ◌<◌, ◌≤◌, ◌⊎◌, inl, inr, Bool, true, false, true≢false, ◌&&◌, ◌||◌, ◌==◌, nat_lt, List, length, get_or, set, replicate, refl, sym, ap, ◌∙◌, arith, eq-eqb, ne_eqb, lt-ltb, le-ltb}
 use Rattle.std.proofs.lemmas.Bool.{and_left, and_right, or_right, cases_eq, cases_lt}
 use Rattle.std.proofs.lemmas.List.{get_or_past}
-use Rattle.fc_spec.specs.Bits.{has_bit, HasBits}
-use Rattle.fc_spec.proofs.WordBits.{has_bit_of_zeros, with_bit, has_bit-set_one, or_right_false}
+use Rattle.fc_spec.specs.documents.Bits.{has_bit, HasBits}
+use Rattle.fc_spec.proofs.documents.WordBits.{has_bit_of_zeros, with_bit, has_bit-set_one, or_right_false}
 
 -- the words have the bits of the first n positions
 abbrev pub Marked : List ℕ → List Bool → ℕ → Type 0

@@ -10,8 +10,8 @@ use Rattle.std.specs.List.{list_any}
 use Rattle.std.specs.Ordering.{is_eq, match_ordering}
 use Rattle.std.specs.declared.cmp.Ordering.{Ordering}
 use Rattle.std.specs.declared.cmp.Ordering.TheVariants.{Less, Equal, Greater}
-use Rattle.fc_spec.specs.Val.{Text, text_cmp, same_text}
-use Rattle.fc_spec.proofs.Members.{or_swap}
+use Rattle.fc_spec.specs.documents.Val.{Text, text_cmp, same_text}
+use Rattle.fc_spec.proofs.words.Members.{or_swap}
 use Rattle.fc_column.specs.Terms.{has_text}
 use Rattle.fc_column.specs.Numbering.{has_number, text_numbered, IsNumbering}
 

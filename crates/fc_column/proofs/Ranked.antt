@@ -6,10 +6,10 @@ use Rattle.std.proofs.lemmas.List.Folds.{Any-from_list_any}
 use Rattle.std.proofs.lemmas.Map.Keys.{Less-from_sorted}
 use Rattle.std.specs.List.{AllPairs, list_any, flat_map}
 use Rattle.std.specs.List.Sorted.{IsStrictlySortedBy}
-use Rattle.fc_spec.specs.Val.{Text, Val, text, long, text_cmp, val_cmp, has_val, distinct}
-use Rattle.fc_spec.specs.Columns.{IsAscending, texts_in}
-use Rattle.fc_spec.proofs.Ascending.{has_val-distinct, same_ascending, distinct_ascends}
-use Rattle.fc_spec.proofs.SortedLists.{sorted_from_ascending, sorted-map}
+use Rattle.fc_spec.specs.documents.Val.{Text, Val, text, long, text_cmp, val_cmp, has_val, distinct}
+use Rattle.fc_spec.specs.documents.Columns.{IsAscending, texts_in}
+use Rattle.fc_spec.proofs.documents.Ascending.{has_val-distinct, same_ascending, distinct_ascends}
+use Rattle.fc_spec.proofs.words.SortedLists.{sorted_from_ascending, sorted-map}
 use Rattle.fc_column.specs.Terms.{terms_of, has_text}
 use Rattle.fc_column.specs.Dictionary.{term_at}
 use Rattle.fc_column.specs.Numbering.{has_number, text_numbered, IsNumbering}

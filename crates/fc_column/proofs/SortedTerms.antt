@@ -9,10 +9,10 @@ use Rattle.std.specs.List.Sorted.{IsPartitionedBy, IsNonDecreasingBy}
 use Rattle.std.specs.Ordering.{is_lt, is_le, ordering_reverse, ordering_index}
 use Rattle.std.specs.declared.cmp.Ordering.{Ordering}
 use Rattle.std.specs.declared.cmp.Ordering.TheVariants.{Less, Equal, Greater}
-use Rattle.fc_spec.specs.Val.{Text, text_cmp}
-use Rattle.fc_spec.specs.Columns.{IsAscending}
-use Rattle.fc_spec.proofs.Counting.{count_by-cons}
-use Rattle.fc_spec.proofs.Orderings.{Less-from_is_lt}
+use Rattle.fc_spec.specs.documents.Val.{Text, text_cmp}
+use Rattle.fc_spec.specs.documents.Columns.{IsAscending}
+use Rattle.fc_spec.proofs.words.Counting.{count_by-cons}
+use Rattle.fc_spec.proofs.words.Orderings.{Less-from_is_lt}
 
 -- ---- how many pass a test that the front passes and the rest fails
 pub count_at_point : {X : Type 0} (p : X → Bool) (xs : List X) (i : ℕ) → i ≤ length xs

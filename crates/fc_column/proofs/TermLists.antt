@@ -9,9 +9,9 @@ use Rattle.std.specs.List.{list_any, flat_map}
 use Rattle.std.specs.List.Sorted.{IsStrictlyIncreasing}
 use Rattle.std.specs.Ordering.{is_lt, is_eq, ordering_reverse}
 use Rattle.std.specs.declared.cmp.Ordering.TheVariants.{Less, Equal, Greater}
-use Rattle.fc_spec.specs.Val.{Text, Val, text, long, text_cmp, same_text, has_val, distinct}
-use Rattle.fc_spec.specs.Columns.{IsAscending, texts_in}
-use Rattle.fc_spec.proofs.Ascending.{has_val-distinct}
+use Rattle.fc_spec.specs.documents.Val.{Text, Val, text, long, text_cmp, same_text, has_val, distinct}
+use Rattle.fc_spec.specs.documents.Columns.{IsAscending, texts_in}
+use Rattle.fc_spec.proofs.documents.Ascending.{has_val-distinct}
 use Rattle.fc_column.specs.Terms.{terms_of, has_text}
 use Rattle.fc_column.specs.Dictionary.{term_at}
 use Rattle.fc_column.proofs.SortedTerms.{earlier, place_of_term}

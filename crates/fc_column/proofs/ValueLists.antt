@@ -5,8 +5,8 @@ use Rattle.std.proofs.lemmas.List.Elements.{filter_map-append}
 use Rattle.fc_base.specs.declared.value.Val.{Val}
 use Rattle.fc_base.specs.declared.value.Val.TheVariants.{Text, Long}
 use Rattle.fc_base.specs.View.{val_view}
-use Rattle.fc_spec.specs.Val as definition
-use Rattle.fc_spec.specs.Columns.{as_text, as_long, texts_in, longs_in}
+use Rattle.fc_spec.specs.documents.Val as definition
+use Rattle.fc_spec.specs.documents.Columns.{as_text, as_long, texts_in, longs_in}
 
 -- one more value
 values_more : (values : List Val) (i : ℕ) (v : Val) → i < length values → v ≡ get_or values i v

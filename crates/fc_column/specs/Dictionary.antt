@@ -1,7 +1,7 @@
 -- What a dictionary and ordinals stand for.
 use Rattle.std.specs.Prelude.{◌≡◌, ℕ, ◌^◌, ◌<◌, List, [], length, map, slice_index_or, All, vec_len}
-use Rattle.fc_spec.specs.Val.{Text, text_cmp}
-use Rattle.fc_spec.specs.Columns.{IsAscending}
+use Rattle.fc_spec.specs.documents.Val.{Text, text_cmp}
+use Rattle.fc_spec.specs.documents.Columns.{IsAscending}
 use Rattle.fc_column.specs.Terms.{terms_of}
 use Rattle.fc_column.specs.declared.text.TextColumn.TheInside.{Inside}
 

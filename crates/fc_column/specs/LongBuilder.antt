@@ -1,7 +1,7 @@
 -- What a builder of a column of integers keeps.
 use Rattle.std.specs.Prelude.{◌≡◌, false, [], All}
 use Rattle.std.specs.Ordering.{int_cmp}
-use Rattle.fc_spec.specs.Columns.{IsAscending}
+use Rattle.fc_spec.specs.documents.Columns.{IsAscending}
 use Rattle.fc_column.specs.declared.long.LongBuilder.TheInside.{Inside}
 
 -- the values of each position ascend, and no position is left half made

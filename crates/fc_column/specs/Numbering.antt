@@ -1,7 +1,7 @@
 -- Texts with numbers, in the order of the texts.
 use Rattle.std.specs.Prelude.{◌≡◌, ℕ, ◌^◌, ◌<◌, Bool, true, cond, ◌==◌, List, [], ◌∷◌, length, All}
 use Rattle.std.specs.List.{list_any}
-use Rattle.fc_spec.specs.Val.{Text}
+use Rattle.fc_spec.specs.documents.Val.{Text}
 
 -- whether a text has the number
 abbrev pub has_number : ℕ → List (Text × ℕ) → Bool

@@ -2,8 +2,8 @@
 use Rattle.std.specs.Prelude.{ℕ, Bool, ◌&&◌, List, map, count_by, nat_le, nat_lt}
 use Rattle.std.specs.List.{flat_map, list_any}
 use Rattle.std.specs.Ordering.{is_lt, is_le}
-use Rattle.fc_spec.specs.Val.{Text, text, text_cmp, same_text, distinct}
-use Rattle.fc_spec.specs.Columns.{texts_in}
+use Rattle.fc_spec.specs.documents.Val.{Text, text, text_cmp, same_text, distinct}
+use Rattle.fc_spec.specs.documents.Columns.{texts_in}
 
 -- the different texts of a column, in ascending order
 abbrev pub terms_of : List (List Text) → List Text

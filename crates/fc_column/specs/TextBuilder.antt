@@ -1,8 +1,8 @@
 -- What a builder of a column of texts keeps.
 use Rattle.std.specs.Prelude.{◌≡◌, true, false, List, [], map, All}
 use Rattle.std.specs.List.{list_any}
-use Rattle.fc_spec.specs.Val.{Text, text_cmp}
-use Rattle.fc_spec.specs.Columns.{IsAscending}
+use Rattle.fc_spec.specs.documents.Val.{Text, text_cmp}
+use Rattle.fc_spec.specs.documents.Columns.{IsAscending}
 use Rattle.fc_column.specs.Terms.{has_text}
 use Rattle.fc_column.specs.Numbering.{IsNumbering, has_number, text_numbered}
 use Rattle.fc_column.specs.declared.builder.TextBuilder.TheInside.{Inside}

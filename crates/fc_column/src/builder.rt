@@ -1,7 +1,7 @@
 // Making columns of texts.
 ghost use Rattle.std.specs.Prelude.{◌≡◌, [], ◌∷◌, ◌++◌, map, All, IfOk, OnOk};
-ghost use Rattle.fc_spec.specs.Columns.{IsText, IsAscending, texts_in};
-ghost use Rattle.fc_spec.specs.Val.{val_cmp};
+ghost use Rattle.fc_spec.specs.documents.Columns.{IsText, IsAscending, texts_in};
+ghost use Rattle.fc_spec.specs.documents.Val.{val_cmp};
 ghost use Rattle.fc_base.specs.View.{val_view};
 
 use crate::TextColumn;
@@ -26,7 +26,7 @@ pub struct TextBuilder {
 
 impl Model for TextBuilder {
     ghost use Rattle.std.specs.Prelude.{List};
-    ghost use Rattle.fc_spec.specs.Val.{Text};
+    ghost use Rattle.fc_spec.specs.documents.Val.{Text};
 
     ghost Value = { List (List Text) };
 

@@ -1,9 +1,9 @@
 // Columns of integers.
 ghost use Rattle.std.specs.Prelude.{◌≡◌, ◌<◌, ◌≤◌, [], ◌∷◌, ◌++◌, length, map, slice_index_or, All, IfOk, OnOk};
 ghost use Rattle.std.specs.Ordering.{int_cmp};
-ghost use Rattle.fc_spec.specs.Bits.{words_for, HasBits};
-ghost use Rattle.fc_spec.specs.Columns.{IsLong, IsAscending, longs_in};
-ghost use Rattle.fc_spec.specs.Val.{val_cmp};
+ghost use Rattle.fc_spec.specs.documents.Bits.{words_for, HasBits};
+ghost use Rattle.fc_spec.specs.documents.Columns.{IsLong, IsAscending, longs_in};
+ghost use Rattle.fc_spec.specs.documents.Val.{val_cmp};
 ghost use Rattle.fc_base.specs.View.{val_view};
 ghost use Rattle.fc_column.specs.Longs.{has_between};
 
@@ -22,7 +22,7 @@ pub struct LongColumn {
 impl Model for LongColumn {
     ghost use Rattle.std.specs.Prelude.{ℤ, List, All};
     ghost use Rattle.std.specs.Ordering.{int_cmp};
-    ghost use Rattle.fc_spec.specs.Columns.{IsAscending};
+    ghost use Rattle.fc_spec.specs.documents.Columns.{IsAscending};
 
     ghost Value = { List (List ℤ) };
 

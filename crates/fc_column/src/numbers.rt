@@ -1,7 +1,7 @@
 // Texts with numbers.
 ghost use Rattle.std.specs.Prelude.{◌≡◌, ◌≢◌, ◌==◌, ◌||◌, ℕ, ◌^◌, ◌<◌, true, length, map, slice_index, slice_index_or, All, AllPairs, IfOk, OnOk, OnErr, vec_len};
-ghost use Rattle.fc_spec.specs.Columns.{IsAscending};
-ghost use Rattle.fc_spec.specs.Val.{Text, same_text, text_cmp};
+ghost use Rattle.fc_spec.specs.documents.Columns.{IsAscending};
+ghost use Rattle.fc_spec.specs.documents.Val.{Text, same_text, text_cmp};
 ghost use Rattle.fc_column.specs.Terms.{has_text};
 ghost use Rattle.fc_column.specs.Numbering.{IsNumbering, has_number, text_numbered};
 

@@ -1,6 +1,6 @@
 // Columns against words of bits and lists that were written by hand.
 ghost use Rattle.std.specs.Prelude.{◌<ℤ◌, IfOk};
-ghost use Rattle.fc_spec.specs.Columns.{IsText};
+ghost use Rattle.fc_spec.specs.documents.Columns.{IsText};
 ghost use Rattle.fc_base.specs.View.{val_view};
 
 use super::*;

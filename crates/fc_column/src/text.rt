@@ -2,7 +2,7 @@
 ghost use Rattle.std.specs.Prelude.{◌≡◌, ℕ, ◌<◌, ◌≤◌, [], length, map, slice_index_or, All, IfSome, is_some};
 ghost use Rattle.std.specs.List.{list_any};
 ghost use Rattle.std.specs.List.Sorted.{IsStrictlyIncreasing};
-ghost use Rattle.fc_spec.specs.Bits.{words_for, HasBits};
+ghost use Rattle.fc_spec.specs.documents.Bits.{words_for, HasBits};
 ghost use Rattle.fc_column.specs.Terms.{terms_of, terms_below, terms_up_to, ordinals_in, has_text, has_from_to};
 
 use crate::rows::Rows;
@@ -20,7 +20,7 @@ pub struct TextColumn {
 
 impl Model for TextColumn {
     ghost use Rattle.std.specs.Prelude.{List};
-    ghost use Rattle.fc_spec.specs.Val.{Text};
+    ghost use Rattle.fc_spec.specs.documents.Val.{Text};
 
     ghost Value = { List (List Text) };
 

@@ -7,8 +7,8 @@ use Rattle.std.proofs.lemmas.List.{get_or_past, get_or-set_same, get_or-set_othe
 use Rattle.std.proofs.lemmas.List.Elements.{All-from_get_or}
 use Rattle.std.proofs.lemmas.List.FromFn.{length-range_with_len, get_or-range_with_len}
 use Rattle.std.proofs.lemmas.List.Sums.{sum_by-cons}
-use Rattle.fc_spec.specs.Columns.{longs_in}
-use Rattle.fc_spec.specs.Document.{Document}
+use Rattle.fc_spec.specs.documents.Columns.{longs_in}
+use Rattle.fc_spec.specs.documents.Document.{Document}
 use Rattle.fc_base.specs.declared.value.Val.{Val}
 use Rattle.fc_base.specs.declared.value.Val.TheVariants.{Text, Long}
 use Rattle.fc_base.specs.View.{val_view}

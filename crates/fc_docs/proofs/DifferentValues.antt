@@ -10,12 +10,12 @@ use Rattle.std.proofs.lemmas.List.Filters.{All-dedup, dedup_is}
 use Rattle.std.proofs.lemmas.List.Kept.{IsStrictlySortedBy-dedup}
 use Rattle.std.proofs.lemmas.List.Sorted.{All-permutation, list_any-IsPermutation}
 use Rattle.std.proofs.lemmas.Map.Keys.{Less-from_sorted}
-use Rattle.fc_spec.specs.Val as definition
-use Rattle.fc_spec.specs.Val.{val_cmp, same_val, has_val, distinct}
-use Rattle.fc_spec.specs.Columns.{IsAscending}
-use Rattle.fc_spec.proofs.Ascending.{same_ascending, distinct_ascends, has_val-distinct}
-use Rattle.fc_spec.proofs.SortedLists.{sorted-map}
-use Rattle.fc_spec.proofs.ValOrder.{same_val_exact}
+use Rattle.fc_spec.specs.documents.Val as definition
+use Rattle.fc_spec.specs.documents.Val.{val_cmp, same_val, has_val, distinct}
+use Rattle.fc_spec.specs.documents.Columns.{IsAscending}
+use Rattle.fc_spec.proofs.documents.Ascending.{same_ascending, distinct_ascends, has_val-distinct}
+use Rattle.fc_spec.proofs.words.SortedLists.{sorted-map}
+use Rattle.fc_spec.proofs.documents.ValOrder.{same_val_exact}
 use Rattle.fc_base.specs.declared.value.Val.{Val}
 use Rattle.fc_base.specs.ValOrder.{vals_total}
 use Rattle.fc_base.specs.View.{val_view}

@@ -3,8 +3,8 @@ use Rattle.std.proofs.Common.{◌≡◌, ℕ, ◌<◌, [], length, set, replicat
 use Rattle.std.proofs.lemmas.Bool.{cases_lt, cases_eq}
 use Rattle.std.proofs.lemmas.List.{get_or_past, get_or-replicate, length-replicate, get_or-set_same, get_or-set_other, length-set}
 use Rattle.std.proofs.lemmas.List.FromFn.{length-map-range_with_len, get_or-map-range_with_len, fill_by_all}
-use Rattle.fc_spec.specs.Document.{Document, values_of}
-use Rattle.fc_spec.specs.Val.{Val}
+use Rattle.fc_spec.specs.documents.Document.{Document, values_of}
+use Rattle.fc_spec.specs.documents.Val.{Val}
 use Rattle.fc_docs.specs.Fields.{FieldValues, values_at, Ascend, AreValuesOf, EndBelow, SetsOnly, document_of}
 
 pub length-document_of : (count : ℕ) (es : FieldValues) → length (document_of count es) ≡ count

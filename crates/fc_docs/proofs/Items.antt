@@ -6,9 +6,9 @@ use Rattle.serde_json.specs.Data.{Data, null, boolean, number, string, array, ob
 use Rattle.serde_json.specs.Find.{as_null}
 use Rattle.serde_json.specs.View.{items_view}
 use Rattle.serde_json.specs.declared.value.Value.{Value}
-use Rattle.fc_spec.specs.Val as definition
-use Rattle.fc_spec.specs.Walks.{◌>>=◌, each}
-use Rattle.fc_spec.specs.BlockReading.{holds_nothing, without_nulls}
+use Rattle.fc_spec.specs.documents.Val as definition
+use Rattle.fc_spec.specs.words.Walks.{◌>>=◌, each}
+use Rattle.fc_spec.specs.documents.BlockReading.{holds_nothing, without_nulls}
 use Rattle.fc_base.specs.declared.value.Val.{Val}
 use Rattle.fc_base.specs.View.{val_view}
 

@@ -2,13 +2,13 @@
 use Rattle.std.proofs.Common.{◌≡◌, ℕ, List, [], length, Bool, true, false, ◌&&◌, nat_le, Option, Some, None, option_map, Result, Ok, Err, ok_or, slice_get, if◌then◌else◌, refl, ◌∙◌, ap}
 use Rattle.std.proofs.lemmas.Bool.{and_parts}
 use Rattle.serde_json.specs.Data.{Data}
-use Rattle.fc_spec.specs.Val.{Text, Val, same_text}
-use Rattle.fc_spec.specs.DocFault.{DocFault, unknown_field, deep_children}
-use Rattle.fc_spec.specs.Schema.{FieldType, Schema, field_named}
-use Rattle.fc_spec.specs.SchemaReading.{is_underscored}
-use Rattle.fc_spec.specs.Walks.{◌>>=◌}
-use Rattle.fc_spec.specs.BlockReading.{Role, as_parent, as_child, check_children, children_key, holds_nothing, member_values, type_in, values_for}
-use Rattle.fc_spec.proofs.Texts.{equal}
+use Rattle.fc_spec.specs.documents.Val.{Text, Val, same_text}
+use Rattle.fc_spec.specs.documents.DocFault.{DocFault, unknown_field, deep_children}
+use Rattle.fc_spec.specs.documents.Schema.{FieldType, Schema, field_named}
+use Rattle.fc_spec.specs.documents.SchemaReading.{is_underscored}
+use Rattle.fc_spec.specs.words.Walks.{◌>>=◌}
+use Rattle.fc_spec.specs.documents.BlockReading.{Role, as_parent, as_child, check_children, children_key, holds_nothing, member_values, type_in, values_for}
+use Rattle.fc_spec.proofs.words.Texts.{equal}
 use Rattle.fc_docs.specs.Members.{field_given}
 
 -- another key that begins and ends with `_`

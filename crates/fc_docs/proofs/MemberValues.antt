@@ -3,12 +3,12 @@ use Rattle.std.proofs.Common.{◌≡◌, ◌≤◌, ℕ, List, map, length, true
 use Rattle.std.proofs.lemmas.Bool.Decides.{nat_tests}
 use Rattle.std.proofs.lemmas.List.{length-map}
 use Rattle.serde_json.specs.Data.{Data}
-use Rattle.fc_spec.specs.Val as definition
-use Rattle.fc_spec.specs.Val.{distinct}
-use Rattle.fc_spec.specs.Schema.{FieldType, string, strings, plong, plongs}
-use Rattle.fc_spec.specs.Walks.{each}
-use Rattle.fc_spec.specs.BlockReading.{items_in, takes, value_of, values_for}
-use Rattle.fc_spec.specs.ValidBlocks.{AreValuesOf, is_value_of}
+use Rattle.fc_spec.specs.documents.Val as definition
+use Rattle.fc_spec.specs.documents.Val.{distinct}
+use Rattle.fc_spec.specs.documents.Schema.{FieldType, string, strings, plong, plongs}
+use Rattle.fc_spec.specs.words.Walks.{each}
+use Rattle.fc_spec.specs.documents.BlockReading.{items_in, takes, value_of, values_for}
+use Rattle.fc_spec.specs.documents.ValidBlocks.{AreValuesOf, is_value_of}
 use Rattle.fc_base.specs.declared.value.Val.{Val}
 use Rattle.fc_base.specs.View.{val_view}
 use Rattle.fc_docs.proofs.DifferentValues.{AreSorted, ascend, still_all}

@@ -19,16 +19,16 @@ use Rattle.serde_json.specs.Data.{Data, Members, no_members, member}
 use Rattle.serde_json.specs.View.{view, members_view}
 use Rattle.serde_json.specs.declared.value.Value.{Value}
 use Rattle.serde_json.specs.Find.{get_member}
-use Rattle.fc_spec.specs.Val.{Text, text_cmp, same_text, Val}
-use Rattle.fc_spec.specs.Document.{Document, values_of}
-use Rattle.fc_spec.specs.Schema.{Field, FieldType, string, strings, plong, plongs, Schema, field_named}
-use Rattle.fc_spec.specs.SchemaReading.{is_digit, is_field_name, is_name_byte, is_underscored}
-use Rattle.fc_spec.specs.BlockReading.{Role, check_members, takes, values_for}
-use Rattle.fc_spec.specs.ValidBlocks.{AreValuesOf, is_value_of}
+use Rattle.fc_spec.specs.documents.Val.{Text, text_cmp, same_text, Val}
+use Rattle.fc_spec.specs.documents.Document.{Document, values_of}
+use Rattle.fc_spec.specs.documents.Schema.{Field, FieldType, string, strings, plong, plongs, Schema, field_named}
+use Rattle.fc_spec.specs.documents.SchemaReading.{is_digit, is_field_name, is_name_byte, is_underscored}
+use Rattle.fc_spec.specs.documents.BlockReading.{Role, check_members, takes, values_for}
+use Rattle.fc_spec.specs.documents.ValidBlocks.{AreValuesOf, is_value_of}
 use Rattle.fc_base.specs.ValidSchema.{id_field, IsFieldList}
 use Rattle.fc_base.proofs.Members.{member_keys}
 use Rattle.fc_base.proofs.NamesDiffer.{only_one}
-use Rattle.fc_spec.proofs.Texts.{equal}
+use Rattle.fc_spec.proofs.words.Texts.{equal}
 use Rattle.fc_docs.specs.Members.{field_given}
 use Rattle.fc_docs.proofs.MemberFields.{gives_nothing, gives_values}
 

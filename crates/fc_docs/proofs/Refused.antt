@@ -1,6 +1,6 @@
 -- A refusal of a part is a refusal of the whole.
 use Rattle.std.proofs.Common.{◌≡◌, Result, Err}
-use Rattle.fc_spec.specs.DocFault as fault
+use Rattle.fc_spec.specs.documents.DocFault as fault
 use Rattle.fc_base.specs.Answers.{Answers}
 use Rattle.fc_base.specs.declared.error.Refusal.{Refusal}
 use Rattle.fc_base.specs.declared.error.Refusal.TheVariants.{Memory, Fault}

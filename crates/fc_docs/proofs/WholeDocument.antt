@@ -4,13 +4,13 @@ use Rattle.std.proofs.lemmas.Bool.Decides.{nat_tests}
 use Rattle.std.proofs.lemmas.List.{ext_get_or, length-map, get_or-map}
 use Rattle.std.proofs.lemmas.Option.{slice_get-get_or}
 use Rattle.serde_json.specs.Data.{Data, Members, no_members, member}
-use Rattle.fc_spec.specs.Val.{Text}
-use Rattle.fc_spec.specs.Document.{Document, values_of}
-use Rattle.fc_spec.specs.DocFault.{DocFault, no_id}
-use Rattle.fc_spec.specs.Schema.{Field, FieldType, Schema}
-use Rattle.fc_spec.specs.Walks.{◌>>=◌, unless}
-use Rattle.fc_spec.specs.BlockReading.{Role, check_members, document_of_members, field_values, member_values, values_for}
-use Rattle.fc_spec.specs.ValidBlocks.{IsDocumentOf}
+use Rattle.fc_spec.specs.documents.Val.{Text}
+use Rattle.fc_spec.specs.documents.Document.{Document, values_of}
+use Rattle.fc_spec.specs.documents.DocFault.{DocFault, no_id}
+use Rattle.fc_spec.specs.documents.Schema.{Field, FieldType, Schema}
+use Rattle.fc_spec.specs.words.Walks.{◌>>=◌, unless}
+use Rattle.fc_spec.specs.documents.BlockReading.{Role, check_members, document_of_members, field_values, member_values, values_for}
+use Rattle.fc_spec.specs.documents.ValidBlocks.{IsDocumentOf}
 use Rattle.fc_base.specs.ValidSchema.{id_field, IsFieldList}
 use Rattle.fc_docs.specs.Members.{field_given}
 use Rattle.fc_docs.proofs.MemberFields.{bad_key, gives_values}

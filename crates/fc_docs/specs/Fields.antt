@@ -2,8 +2,8 @@
 use Rattle.std.specs.Prelude.{◌≡◌, ◌≢◌, ◌+◌, ◌<◌, ◌≤◌, ◌==◌, ⊤, ℕ, List, [], ◌∷◌, Vec, length, map, if◌then◌else◌}
 use Rattle.std.specs.List.{AllWithin, HoldsAt, range_with_len}
 use Rattle.std.specs.declared.alloc.Global.{Global}
-use Rattle.fc_spec.specs.Val as definition
-use Rattle.fc_spec.specs.Document.{Document}
+use Rattle.fc_spec.specs.documents.Val as definition
+use Rattle.fc_spec.specs.documents.Document.{Document}
 use Rattle.fc_base.specs.declared.field.FieldId.{FieldId}
 use Rattle.fc_base.specs.declared.value.Val.{Val}
 use Rattle.fc_base.specs.View.{val_view}

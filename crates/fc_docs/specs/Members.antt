@@ -1,12 +1,12 @@
 -- What a member stands for: the field that has its values, or the children.
 use Rattle.std.specs.Prelude.{ℕ, List, [], length, ◌&&◌, nat_le, Option, None, Some, option_map, ok_or, Result, Ok, Err, if◌then◌else◌}
 use Rattle.serde_json.specs.Data.{Data, null, array}
-use Rattle.fc_spec.specs.Val.{Text, same_text}
-use Rattle.fc_spec.specs.Schema.{Schema, field_named}
-use Rattle.fc_spec.specs.SchemaReading.{is_underscored}
-use Rattle.fc_spec.specs.DocFault.{DocFault, unknown_field, wrong_type}
-use Rattle.fc_spec.specs.Walks.{◌>>=◌}
-use Rattle.fc_spec.specs.BlockReading.{Role, all_items, check_children, children_key}
+use Rattle.fc_spec.specs.documents.Val.{Text, same_text}
+use Rattle.fc_spec.specs.documents.Schema.{Schema, field_named}
+use Rattle.fc_spec.specs.documents.SchemaReading.{is_underscored}
+use Rattle.fc_spec.specs.documents.DocFault.{DocFault, unknown_field, wrong_type}
+use Rattle.fc_spec.specs.words.Walks.{◌>>=◌}
+use Rattle.fc_spec.specs.documents.BlockReading.{Role, all_items, check_children, children_key}
 
 -- the number of the field that has a member's values; none where the member gives none
 abbrev pub field_given : Role → Schema → Text → Data → Result (Option ℕ) DocFault

@@ -1,8 +1,8 @@
 -- The absolute values of a document's integers, field by field.
 use Rattle.std.specs.Prelude.{ℕ, List, sum_by, nat_abs}
-use Rattle.fc_spec.specs.Val.{Val, text, long}
-use Rattle.fc_spec.specs.Columns.{longs_in}
-use Rattle.fc_spec.specs.Document.{Document, values_of}
+use Rattle.fc_spec.specs.documents.Val.{Val, text, long}
+use Rattle.fc_spec.specs.documents.Columns.{longs_in}
+use Rattle.fc_spec.specs.documents.Document.{Document, values_of}
 use Rattle.fc_docs.specs.Fields.{FieldValues, values_at}
 
 -- the absolute value of an integer; a text adds nothing

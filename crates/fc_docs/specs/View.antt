@@ -1,12 +1,12 @@
 -- What the types of this crate stand for in the definitions.
 use Rattle.std.specs.Prelude.{List, Vec, map}
 use Rattle.std.specs.declared.alloc.Global.{Global}
-use Rattle.fc_spec.specs.BlockReading as reading
-use Rattle.fc_spec.specs.Val as value
+use Rattle.fc_spec.specs.documents.BlockReading as reading
+use Rattle.fc_spec.specs.documents.Val as value
 use Rattle.fc_base.specs.declared.value.Val.{Val}
 use Rattle.fc_base.specs.View.{val_view}
-use Rattle.fc_spec.specs.Document as definition
-use Rattle.fc_spec.specs.DocFault as fault
+use Rattle.fc_spec.specs.documents.Document as definition
+use Rattle.fc_spec.specs.documents.DocFault as fault
 use Rattle.fc_docs.specs.declared.block.Block.{Block}
 use Rattle.fc_docs.specs.declared.block.Batch.{Batch}
 use Rattle.fc_docs.specs.declared.fault.DocFault.{DocFault}

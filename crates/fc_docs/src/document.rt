@@ -8,7 +8,7 @@ ghost use Rattle.std.specs.Prelude.{◌≡◌, ℕ, ◌+◌, ◌-◌, ◌<◌, �
 ghost use Rattle.std.specs.Bool.{OnTrue};
 ghost use Rattle.std.specs.List.{list_all, range_with_len};
 ghost use Rattle.fc_base.specs.View.{val_view};
-ghost use Rattle.fc_spec.specs.Document.{values_of};
+ghost use Rattle.fc_spec.specs.documents.Document.{values_of};
 ghost use Rattle.fc_docs.specs.Sums.{absolute_sum};
 
 use fc_base::{FieldId, Val, WantMemory};
@@ -25,7 +25,7 @@ pub struct Document {
 
 impl Model for Document {
     ghost use Rattle.std.specs.Prelude.{List};
-    ghost use Rattle.fc_spec.specs.Val.{Val};
+    ghost use Rattle.fc_spec.specs.documents.Val.{Val};
     ghost use Rattle.fc_docs.specs.Fields.{AreValuesOf, document_of};
 
     ghost Value = { List (List Val) };

@@ -4,7 +4,7 @@ use Rattle.std.proofs.lemmas.List.{get_or-set_same, get_or-set_other, get_or-rep
 use Rattle.std.proofs.lemmas.List.FromFn.{length-map-range_with_len, get_or-map-range_with_len, fill_by_all}
 use Rattle.std.proofs.lemmas.Bool.{cases_eq, cases_lt}
 use Rattle.std.specs.Int.{bit_at}
-use Rattle.fc_spec.specs.Bits.{has_bit, first_bits, HasBits}
+use Rattle.fc_spec.specs.documents.Bits.{has_bit, first_bits, HasBits}
 use Rattle.fc_docset.specs.Positions.{zip_with}
 
 pub length-first_bits : (len : ℕ) (words : List ℕ) → length (first_bits len words) ≡ len

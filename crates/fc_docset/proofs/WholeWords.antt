@@ -5,7 +5,7 @@ use Rattle.std.specs.Int.Count.{count_trailing_zeros}
 use Rattle.std.proofs.lemmas.Bool.{cases_lt}
 use Rattle.std.proofs.lemmas.List.{get_or_append_left, get_or-append_right, get_or-replicate, length-replicate, append-nil}
 use Rattle.std.proofs.lemmas.List.Sums.{sum_by-cons, sum_by-append}
-use Rattle.fc_spec.specs.Bits.{has_bit, first_bits}
+use Rattle.fc_spec.specs.documents.Bits.{has_bit, first_bits}
 use Rattle.fc_docset.specs.Positions.{positions_from}
 use Rattle.fc_docset.proofs.BitLists.{length-first_bits, get_or-first_bits, first_bits_is}
 use Rattle.fc_docset.proofs.LowBits.{low_bits, length-low_bits, get_or-low_bits, count_by-low_bits, positions_of_zero, positions_cleared}

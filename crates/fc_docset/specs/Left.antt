@@ -1,6 +1,6 @@
 -- What an iterator over positions has left.
 use Rattle.std.specs.Prelude.{ℕ, ◌+◌, ◌*◌, ◌^◌, ◌≤◌, List, ◌∷◌, length}
-use Rattle.fc_spec.specs.Bits.{first_bits}
+use Rattle.fc_spec.specs.documents.Bits.{first_bits}
 use Rattle.fc_docset.specs.Positions.{positions_from}
 use Rattle.fc_docset.specs.declared.iter.Positions.TheInside.{Inside}
 

@@ -1,6 +1,6 @@
 -- What the words of a set stand for.
 use Rattle.std.specs.Prelude.{◌≡◌, ℕ, ◌^◌, ◌<◌, ◌≤◌, Bool, false, List, vec_len}
-use Rattle.fc_spec.specs.Bits.{has_bit, first_bits, words_for}
+use Rattle.fc_spec.specs.documents.Bits.{has_bit, first_bits, words_for}
 use Rattle.fc_docset.specs.declared.set.DocSet.TheInside.{Inside}
 
 -- the positions below the length whose bit is 1

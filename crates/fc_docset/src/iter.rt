@@ -1,7 +1,7 @@
 // The positions of a set, one after another.
 ghost use Rattle.std.specs.Prelude.{◌≡◌, ◌≤◌, ◌*◌, ◌^◌, length};
 ghost use Rattle.std.specs.Iterator.{YieldsFirst, item_count};
-ghost use Rattle.fc_spec.specs.Bits.{first_bits};
+ghost use Rattle.fc_spec.specs.documents.Bits.{first_bits};
 ghost use Rattle.fc_docset.specs.Positions.{positions};
 
 use std::marker::Model;

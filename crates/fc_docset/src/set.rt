@@ -1,6 +1,6 @@
 // Sets of positions.
 ghost use Rattle.std.specs.Prelude.{◌≡◌, ◌<◌, ◌≤◌, ◌&&◌, ◌||◌, true, false, not, length, count_by, replicate, slice_set, vec_len, IfOk};
-ghost use Rattle.fc_spec.specs.Bits.{words_for, first_bits, HasBits};
+ghost use Rattle.fc_spec.specs.documents.Bits.{words_for, first_bits, HasBits};
 ghost use Rattle.fc_docset.specs.Positions.{contains, positions, zip_with};
 
 use crate::Positions;

@@ -1,6 +1,6 @@
 // Words of 64 bits: bit j of word i stands for position 64 i + j.
 ghost use Rattle.std.specs.Prelude.{◌≡◌, ◌==◌, ◌<◌, ◌≤◌, ◌*◌, ◌/◌, ◌^◌, ◌&&◌, ◌||◌, ℕ, length, not, nat_lt, count_by};
-ghost use Rattle.fc_spec.specs.Bits.{has_bit, words_for, first_bits};
+ghost use Rattle.fc_spec.specs.documents.Bits.{has_bit, words_for, first_bits};
 
 /// How many words hold a bit for each position below `len`.
 pub fn word_count(len: u32) -> usize

@@ -3,10 +3,10 @@ use Rattle.std.proofs.Common.{◌≡◌, Bool, true, false, ne_eqb, arith, not, 
 use Rattle.std.proofs.Math.Bool.{and_assoc, or_assoc, and-true, or-false, and_comm}
 use Rattle.std.proofs.lemmas.Bool.{false≢true}
 use Rattle.std.specs.List.{list_any, list_all}
-use Rattle.fc_spec.specs.Document.{Document}
-use Rattle.fc_spec.specs.Lists.{is_empty}
-use Rattle.fc_spec.specs.Matching.{matches, answers, same_need, group_matches}
-use Rattle.fc_spec.specs.Query.{Need, must, must_not, may, Clauses, no_clauses, clause}
+use Rattle.fc_spec.specs.documents.Document.{Document}
+use Rattle.fc_spec.specs.words.Lists.{is_empty}
+use Rattle.fc_spec.specs.queries.Matching.{matches, answers, same_need, group_matches}
+use Rattle.fc_spec.specs.queries.Query.{Need, must, must_not, may, Clauses, no_clauses, clause}
 use Rattle.fc_domain.specs.Grouping.{all_taken, has_need, first_need}
 
 and_none : (a b c : Bool) → ((a && not b) && not c) ≡ (a && not (b || c))

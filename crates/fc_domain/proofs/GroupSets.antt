@@ -2,12 +2,12 @@
 use Rattle.std.proofs.Common.{◌≡◌, ℕ, Bool, List, map, length, replicate, Result, Ok, Err, ap, ◌∙◌}
 use Rattle.std.proofs.lemmas.Simd.{splat_is_map}
 use Rattle.std.specs.Result.{OnOk}
-use Rattle.fc_spec.specs.Document.{Document}
-use Rattle.fc_spec.specs.Matching.{matches, answers, same_need}
-use Rattle.fc_spec.specs.Query.{Need, must, must_not, Clauses, group}
+use Rattle.fc_spec.specs.documents.Document.{Document}
+use Rattle.fc_spec.specs.queries.Matching.{matches, answers, same_need}
+use Rattle.fc_spec.specs.queries.Query.{Need, must, must_not, Clauses, group}
 use Rattle.fc_domain.specs.Grouping.{all_taken, first_need}
 use Rattle.fc_domain.proofs.GroupAnswers.{group_in_order}
-use Rattle.fc_spec.proofs.MappedLists.{map-same}
+use Rattle.fc_spec.proofs.words.MappedLists.{map-same}
 
 pub on_ok : {A E : Type 0} (r : Result A E) (P Q : Type 0) → (P → Q) → OnOk r P → OnOk r Q
 on_ok (Ok a) P Q f h = f h

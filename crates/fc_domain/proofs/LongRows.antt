@@ -2,7 +2,7 @@
 use Rattle.std.proofs.Common.{◌≡◌, ℤ, Bool, ◌&&◌, ◌||◌, List, [], ◌∷◌, map, int_le, refl, ap₂, arith}
 use Rattle.std.proofs.lemmas.Int.{ints}
 use Rattle.std.specs.List.{list_any}
-use Rattle.fc_spec.specs.Val.{Val, long, same_val}
+use Rattle.fc_spec.specs.documents.Val.{Val, long, same_val}
 
 row_passes : (test : ℤ → Bool) (p : Val → Bool) (zs : List ℤ) → ((z : ℤ) → test z ≡ p (long z)) → list_any test zs ≡ list_any p (map long zs)
 row_passes test p [] same = refl

@@ -5,9 +5,9 @@ use Rattle.std.proofs.lemmas.Bool.Decides.{nat_tests}
 use Rattle.std.proofs.lemmas.List.Sums.{count_by-le-length}
 use Rattle.std.specs.List.{list_any}
 use Rattle.std.specs.Ordering.{is_lt, is_le}
-use Rattle.fc_spec.specs.Val.{Text, text_cmp, same_text}
-use Rattle.fc_spec.proofs.Counting.{count_by-cons}
-use Rattle.fc_spec.proofs.Texts.{equal}
+use Rattle.fc_spec.specs.documents.Val.{Text, text_cmp, same_text}
+use Rattle.fc_spec.proofs.words.Counting.{count_by-cons}
+use Rattle.fc_spec.proofs.words.Texts.{equal}
 use Rattle.fc_domain.proofs.TextOrder.{le-not_lt, lt-not_le, le_from_lt, lt_le, le_lt, lt_itself, le_itself}
 
 -- ---- where one test passes, the other does

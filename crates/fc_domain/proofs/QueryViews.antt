@@ -12,7 +12,7 @@ use Rattle.fc_query.specs.declared.query.Query.{Query, All, Has, Is, Between, Gr
 use Rattle.fc_query.specs.declared.query.Query.TheFolds.{fold-roll-Query}
 use Rattle.fc_query.specs.declared.query.Query.TheOpen as opened
 use Rattle.fc_query.specs.QueryView.{Part, bound_view, clause_step, clauses_view, query_step, query_view}
-use Rattle.fc_spec.specs.Query as definition
+use Rattle.fc_spec.specs.queries.Query as definition
 
 pub view_of_all : query_view All ≡ definition.all
 unfolding query.roll-Query denote.Hole.Carrier.roll

@@ -2,12 +2,12 @@
 use Rattle.std.proofs.Common.{ℕ, zero, suc, ◌<◌, List, [], ◌∷◌, length, IsTrue, arith}
 use Rattle.std.specs.Prelude.{IsSomeAnd, slice_get}
 use Rattle.std.proofs.lemmas.List.{length-map}
-use Rattle.fc_spec.specs.Schema.{holds_texts, texts_held, Field, Schema}
-use Rattle.fc_spec.specs.Val.{Val}
-use Rattle.fc_spec.specs.Query.{Bound, unbounded, including, excluding, Query, all, has, is, between, group, Clauses, no_clauses, clause}
-use Rattle.fc_spec.specs.ValidBlocks.{is_of_type}
-use Rattle.fc_spec.specs.ValidQueries.{BoundFits, FitsSchema, AllFitSchema, IsFieldBound}
-use Rattle.fc_spec.proofs.ValueKinds.{kind_of_type}
+use Rattle.fc_spec.specs.documents.Schema.{holds_texts, texts_held, Field, Schema}
+use Rattle.fc_spec.specs.documents.Val.{Val}
+use Rattle.fc_spec.specs.queries.Query.{Bound, unbounded, including, excluding, Query, all, has, is, between, group, Clauses, no_clauses, clause}
+use Rattle.fc_spec.specs.documents.ValidBlocks.{is_of_type}
+use Rattle.fc_spec.specs.queries.ValidQueries.{BoundFits, FitsSchema, AllFitSchema, IsFieldBound}
+use Rattle.fc_spec.proofs.documents.ValueKinds.{kind_of_type}
 use Rattle.fc_domain.specs.FieldsFit.{HasField, HasValue, FitsFields, AllFitFields}
 
 value_fits : (fields : List Field) (field : ℕ) (v : Val) → IsSomeAnd (slice_get fields field) (λ f. IsTrue (is_of_type f.kind v))

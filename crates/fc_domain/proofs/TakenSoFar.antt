@@ -2,10 +2,10 @@
 use Rattle.std.proofs.Common.{◌≡◌, Bool, true, false, cond, List, ◌∷◌, map, length, refl, sym, ap, ap₂, ◌∙◌}
 use Rattle.fc_docset.specs.Positions.{zip_with}
 use Rattle.fc_docset.proofs.BitLists.{length-zip_with, zip_with-map}
-use Rattle.fc_spec.specs.Document.{Document}
-use Rattle.fc_spec.specs.Matching.{matches, answers, same_need}
-use Rattle.fc_spec.specs.Query.{Need, Query, Clauses, no_clauses, clause}
-use Rattle.fc_spec.proofs.MappedLists.{map-same}
+use Rattle.fc_spec.specs.documents.Document.{Document}
+use Rattle.fc_spec.specs.queries.Matching.{matches, answers, same_need}
+use Rattle.fc_spec.specs.queries.Query.{Need, Query, Clauses, no_clauses, clause}
+use Rattle.fc_spec.proofs.words.MappedLists.{map-same}
 use Rattle.fc_domain.specs.Grouping.{taken, all_taken}
 
 -- what stands now, with what is left, is what stood before, with the whole

@@ -5,8 +5,8 @@ use Rattle.std.proofs.lemmas.Map.Lookups.{exact_bytes}
 use Rattle.std.specs.Ordering.{is_lt, is_le, is_eq, ordering_reverse}
 use Rattle.std.specs.declared.cmp.Ordering.{Ordering}
 use Rattle.std.specs.declared.cmp.Ordering.TheVariants.{Less, Equal, Greater}
-use Rattle.fc_spec.specs.Val.{Text, text_cmp, same_text}
-use Rattle.fc_spec.proofs.Orderings.{Less-from_is_lt}
+use Rattle.fc_spec.specs.documents.Val.{Text, text_cmp, same_text}
+use Rattle.fc_spec.proofs.words.Orderings.{Less-from_is_lt}
 
 not_lt : (o : Ordering) → is_le (ordering_reverse o) ≡ not (is_lt o)
 not_lt Less = refl

@@ -3,10 +3,10 @@ use Rattle.std.proofs.Common.{◌≡◌, ℕ, Bool, true, false, ◌&&◌, ◌||
 use Rattle.std.proofs.lemmas.Bool.{or_left, or_right, or_parts}
 use Rattle.std.specs.List.{list_any}
 use Rattle.std.specs.Ordering.{is_lt, is_le}
-use Rattle.fc_spec.specs.Val.{Text, Val, text, text_cmp, same_text, same_val, has_val}
+use Rattle.fc_spec.specs.documents.Val.{Text, Val, text, text_cmp, same_text, same_val, has_val}
 use Rattle.fc_column.specs.Terms.{terms_of, terms_below, terms_up_to, ordinals_in, has_text, has_from_to}
 use Rattle.fc_column.proofs.TermLists.{has_text-terms_of, has_val-texts}
-use Rattle.fc_spec.proofs.Texts.{same_itself}
+use Rattle.fc_spec.proofs.words.Texts.{same_itself}
 use Rattle.fc_domain.proofs.TextOrder.{le_both_ways}
 use Rattle.fc_domain.proofs.Ordinals.{below-le-below, up_to-le-below, below-lt-below, below-lt-up_to, below-lt-length}
 

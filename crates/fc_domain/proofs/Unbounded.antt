@@ -1,8 +1,8 @@
 -- Values without a bound.
 use Rattle.std.proofs.Common.{◌≡◌, not, List, [], ◌∷◌, map, refl, sym, ap, ap₂}
-use Rattle.fc_spec.specs.Lists.{is_empty}
-use Rattle.fc_spec.specs.Query.{unbounded}
-use Rattle.fc_spec.specs.Val.{Val}
+use Rattle.fc_spec.specs.words.Lists.{is_empty}
+use Rattle.fc_spec.specs.queries.Query.{unbounded}
+use Rattle.fc_spec.specs.documents.Val.{Val}
 use Rattle.fc_domain.proofs.GroupAnswers.{some_member}
 use Rattle.fc_domain.specs.Within.{has_meeting}
 

@@ -1,9 +1,9 @@
 -- Queries that fit columns.
 use Rattle.std.specs.Prelude.{◌≡◌, ℕ, ◌<◌, List, length, slice_index_or, Bool, false}
-use Rattle.fc_spec.specs.Columns.{is_text}
-use Rattle.fc_spec.specs.Query.{Bound, unbounded, including, excluding, Query, Clauses}
-use Rattle.fc_spec.specs.Val.{Val}
-use Rattle.fc_spec.specs.ValidQueries.{QueryFits, ClausesFit}
+use Rattle.fc_spec.specs.documents.Columns.{is_text}
+use Rattle.fc_spec.specs.queries.Query.{Bound, unbounded, including, excluding, Query, Clauses}
+use Rattle.fc_spec.specs.documents.Val.{Val}
+use Rattle.fc_spec.specs.queries.ValidQueries.{QueryFits, ClausesFit}
 
 -- the value is a text exactly where texts are held
 abbrev pub IsBoundOf : Bool → Bound → Type 0

@@ -1,8 +1,8 @@
 -- How the answers of a group's clauses are taken one after another.
 use Rattle.std.specs.Prelude.{Bool, false, List, not, ◌&&◌, ◌||◌, if◌then◌else◌}
 use Rattle.std.specs.List.{fold}
-use Rattle.fc_spec.specs.Query.{Need, must, must_not, may, Clauses, no_clauses, clause}
-use Rattle.fc_spec.specs.Matching.{same_need}
+use Rattle.fc_spec.specs.queries.Query.{Need, must, must_not, may, Clauses, no_clauses, clause}
+use Rattle.fc_spec.specs.queries.Matching.{same_need}
 
 -- what stands so far, and the answer of one more clause with this need
 abbrev pub taken : Need → Bool → Bool → Bool

@@ -1,10 +1,10 @@
 -- Values within two bounds.
 use Rattle.std.specs.Prelude.{◌≡◌, ℤ, int_le, List, Bool, true, ◌&&◌}
 use Rattle.std.specs.List.{list_any}
-use Rattle.fc_spec.specs.Val.{Val}
-use Rattle.fc_spec.specs.IntegerTexts.{is_long}
-use Rattle.fc_spec.specs.Query.{Bound}
-use Rattle.fc_spec.specs.Matching.{is_above, is_below}
+use Rattle.fc_spec.specs.documents.Val.{Val}
+use Rattle.fc_spec.specs.documents.IntegerTexts.{is_long}
+use Rattle.fc_spec.specs.queries.Query.{Bound}
+use Rattle.fc_spec.specs.queries.Matching.{is_above, is_below}
 
 abbrev pub meets : (low high : Bound) → Val → Bool
 meets low high v = is_above low v && is_below high v

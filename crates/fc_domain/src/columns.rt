@@ -1,11 +1,11 @@
 // Which positions of a column have a value, or one within bounds.
 ghost use Rattle.std.specs.Prelude.{◌≡◌, ◌≤◌, length, map, not};
-ghost use Rattle.fc_spec.specs.Bits.{words_for};
-ghost use Rattle.fc_spec.specs.Lists.{is_empty};
-ghost use Rattle.fc_spec.specs.Val.{has_val};
+ghost use Rattle.fc_spec.specs.documents.Bits.{words_for};
+ghost use Rattle.fc_spec.specs.words.Lists.{is_empty};
+ghost use Rattle.fc_spec.specs.documents.Val.{has_val};
 ghost use Rattle.fc_base.specs.View.{val_view};
 ghost use Rattle.fc_query.specs.QueryView.{bound_view};
-ghost use Rattle.fc_spec.specs.Columns.{is_text};
+ghost use Rattle.fc_spec.specs.documents.Columns.{is_text};
 ghost use Rattle.fc_segment.specs.Columns.{column_values, is_text_column};
 ghost use Rattle.fc_domain.specs.FieldsFit.{IsBoundOf};
 ghost use Rattle.fc_domain.specs.Within.{has_meeting};

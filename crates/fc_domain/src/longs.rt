@@ -1,13 +1,13 @@
 // Which positions of a column of integers have an integer, or one within bounds.
 ghost use Rattle.std.specs.Prelude.{◌≡◌, ℤ, ◌≤◌, length, map, Bool, MatchOption, int_le, true, false};
 ghost use Rattle.std.specs.List.{list_any};
-ghost use Rattle.fc_spec.specs.Bits.{words_for};
-ghost use Rattle.fc_spec.specs.IntegerTexts.{is_long};
-ghost use Rattle.fc_spec.specs.Matching.{is_above, is_below};
-ghost use Rattle.fc_spec.specs.Val as definition;
+ghost use Rattle.fc_spec.specs.documents.Bits.{words_for};
+ghost use Rattle.fc_spec.specs.documents.IntegerTexts.{is_long};
+ghost use Rattle.fc_spec.specs.queries.Matching.{is_above, is_below};
+ghost use Rattle.fc_spec.specs.documents.Val as definition;
 ghost use Rattle.fc_base.specs.View.{val_view};
 ghost use Rattle.fc_query.specs.QueryView.{bound_view};
-ghost use Rattle.fc_spec.specs.Columns.{is_text};
+ghost use Rattle.fc_spec.specs.documents.Columns.{is_text};
 ghost use Rattle.fc_domain.specs.FieldsFit.{IsBoundOf};
 ghost use Rattle.fc_domain.specs.Within.{PassesFromTo, has_meeting, meets};
 

@@ -1,10 +1,10 @@
 // Which documents of a segment match a query.
 ghost use Rattle.std.specs.Prelude.{◌≡◌, ◌≤◌, length, map, replicate, Bool, OnOk};
-ghost use Rattle.fc_spec.specs.Bits.{words_for};
-ghost use Rattle.fc_spec.specs.Document.{Document};
-ghost use Rattle.fc_spec.specs.Matching.{answers, matches, same_need};
-ghost use Rattle.fc_spec.specs.Query.{must};
-ghost use Rattle.fc_spec.specs.Totals.{document_total, documents_in};
+ghost use Rattle.fc_spec.specs.documents.Bits.{words_for};
+ghost use Rattle.fc_spec.specs.documents.Document.{Document};
+ghost use Rattle.fc_spec.specs.queries.Matching.{answers, matches, same_need};
+ghost use Rattle.fc_spec.specs.queries.Query.{must};
+ghost use Rattle.fc_spec.specs.documents.Totals.{document_total, documents_in};
 ghost use Rattle.fc_docset.specs.Positions.{zip_with};
 ghost use Rattle.fc_query.specs.QueryView.{clauses_view, need_view, query_view};
 ghost use Rattle.fc_domain.specs.FieldsFit.{AllFitFields, FitsFields};

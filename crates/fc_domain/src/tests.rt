@@ -1,6 +1,6 @@
 // Queries on the segment of one block.
 ghost use Rattle.std.specs.Prelude.{◌≡◌, IfOk};
-ghost use Rattle.fc_spec.specs.Schema.{texts_held};
+ghost use Rattle.fc_spec.specs.documents.Schema.{texts_held};
 
 use super::*;
 use fc_base::Schema;

@@ -1,13 +1,13 @@
 // Which positions of a column of texts have a text, or one within bounds.
 ghost use Rattle.std.specs.Prelude.{◌≡◌, ◌≤◌, length, map, nat_le, nat_lt, true};
 ghost use Rattle.std.specs.List.{list_any};
-ghost use Rattle.fc_spec.specs.Bits.{words_for};
-ghost use Rattle.fc_spec.specs.Matching.{is_above, is_below};
-ghost use Rattle.fc_spec.specs.Val as definition;
+ghost use Rattle.fc_spec.specs.documents.Bits.{words_for};
+ghost use Rattle.fc_spec.specs.queries.Matching.{is_above, is_below};
+ghost use Rattle.fc_spec.specs.documents.Val as definition;
 ghost use Rattle.fc_base.specs.View.{val_view};
 ghost use Rattle.fc_column.specs.Terms.{has_text, terms_below};
 ghost use Rattle.fc_query.specs.QueryView.{bound_view};
-ghost use Rattle.fc_spec.specs.Columns.{is_text};
+ghost use Rattle.fc_spec.specs.documents.Columns.{is_text};
 ghost use Rattle.fc_domain.specs.FieldsFit.{IsBoundOf};
 ghost use Rattle.fc_domain.specs.Within.{has_meeting};
 

@@ -1,6 +1,6 @@
 -- The line on standard error for each status.
 use Rattle.std.specs.Prelude.{codes, Option, None, Some}
-use Rattle.fc_spec.specs.Val.{Text}
+use Rattle.fc_spec.specs.documents.Val.{Text}
 use Rattle.fc_run.specs.declared.status.Status.{Status}
 use Rattle.fc_run.specs.declared.status.Status.TheVariants.{Done, Usage, Script, Read, Memory, Write}
 

@@ -1,10 +1,10 @@
 -- The clauses of a query so far.
 use Rattle.std.proofs.Common.{◌≡◌, ◌∙◌, ap, sym, refl, ℕ, List, [], ◌∷◌, ◌++◌, Option, None, Some, option_map}
-use Rattle.fc_spec.specs.Options.{◌>>=◌}
-use Rattle.fc_spec.specs.Schema.{Schema}
-use Rattle.fc_spec.specs.Query.{Query, Clauses, no_clauses, clause}
-use Rattle.fc_spec.specs.QueryTrees.{Group}
-use Rattle.fc_spec.specs.QueryMeaning.{clauses_query, atom_query, need_of, next_operator}
+use Rattle.fc_spec.specs.words.Options.{◌>>=◌}
+use Rattle.fc_spec.specs.documents.Schema.{Schema}
+use Rattle.fc_spec.specs.queries.Query.{Query, Clauses, no_clauses, clause}
+use Rattle.fc_spec.specs.queries.QueryTrees.{Group}
+use Rattle.fc_spec.specs.queries.QueryMeaning.{clauses_query, atom_query, need_of, next_operator}
 use Rattle.fc_query.specs.TreeView as tree
 use Rattle.fc_query.specs.QueryView.{Part, linked}
 

@@ -5,7 +5,7 @@ use Rattle.std.proofs.lemmas.List.{nil_from_length}
 use Rattle.std.specs.Str.{chars, IsUtf8}
 use Rattle.std.specs.Char.{encode_utf8}
 use Rattle.std.proofs.lemmas.Str.{chars_past_char, IsUtf8-past_char, chars-nil}
-use Rattle.fc_spec.specs.QueryCharacters.{bare, escaped, characters}
+use Rattle.fc_spec.specs.queries.QueryCharacters.{bare, escaped, characters}
 
 not_backslash : (c : ℕ) → c ≢ 92 → eqb c 92 ≡ false
 not_backslash c h = grind (arith, nat_tests)

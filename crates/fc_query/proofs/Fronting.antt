@@ -5,8 +5,8 @@ use Rattle.std.specs.List.{starts_with}
 use Rattle.std.specs.Str.{IsCharBoundary}
 use Rattle.std.specs.Str.Pattern.{FindsTextPrefix, StripsPrefix}
 use Rattle.std.proofs.lemmas.Str.Pattern.{starts_text}
-use Rattle.fc_spec.specs.Val.{Text}
-use Rattle.fc_spec.specs.FilterReading.{past_front}
+use Rattle.fc_spec.specs.documents.Val.{Text}
+use Rattle.fc_spec.specs.queries.FilterReading.{past_front}
 
 pub stripped : (front t : Text) (r : Option (Bor (List ℕ))) → MatchOption r (FindsTextPrefix front t None) (λ x. StripsPrefix (FindsTextPrefix front) t x.now) → option_map (λ x. x.now) r ≡ past_front front t
 stripped front t None h = let starts : false ≡ starts_with eqb t front = starts_text false front t h in rw (← starts) refl

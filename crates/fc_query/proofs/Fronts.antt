@@ -4,7 +4,7 @@ use Rattle.std.proofs.Math.Bool.{and_assoc}
 use Rattle.std.specs.Prelude.{slice_get}
 use Rattle.std.specs.Char.{encode_utf8}
 use Rattle.std.specs.List.{list_all, prefix_len, take_while}
-use Rattle.fc_spec.specs.QueryCharacters.{Character, behind, code, is_bare, text_of}
+use Rattle.fc_spec.specs.queries.QueryCharacters.{Character, behind, code, is_bare, text_of}
 
 pub first_and_rest : (c : Character) (cs : List Character) → slice_get cs 0 ≡ Some c → cs ≡ c ∷ drop 1 cs
 first_and_rest c [] h = absurd cc

@@ -1,13 +1,13 @@
 -- The clauses of a group so far.
 use Rattle.std.proofs.Common.{◌≡◌, ◌∙◌, ap, sym, refl, subst, ℕ, zero, suc, ◌<◌, ◌≤◌, List, [], ◌∷◌, ◌++◌, length, Bool, true, false, Option, None, Some, option_map, IfSome, arith, length-append}
-use Rattle.fc_spec.specs.Options.{◌>>=◌}
-use Rattle.fc_spec.specs.QueryTokens.{Sign, Operator, value, sign, operator, opening, closing, colon}
-use Rattle.fc_spec.specs.QueryTrees.{Atom, Group, no_more, clause, sign_tokens, atom_tokens, group_tokens}
-use Rattle.fc_spec.specs.QueryForms.{IsGroup, nesting}
-use Rattle.fc_spec.proofs.Present.{weaker}
-use Rattle.fc_spec.specs.TreeReading.{Row, Reader, operator_at, clause_at, with_clause, clauses_at, group_at, group_within, deeper_than}
-use Rattle.fc_spec.proofs.ReadIsSpelled.{ReadsGroups, IsClauseOf, IsGroupOf, clause_of, read_is_spelled}
-use Rattle.fc_spec.proofs.SpelledIsRead.{some_tokens}
+use Rattle.fc_spec.specs.words.Options.{◌>>=◌}
+use Rattle.fc_spec.specs.queries.QueryTokens.{Sign, Operator, value, sign, operator, opening, closing, colon}
+use Rattle.fc_spec.specs.queries.QueryTrees.{Atom, Group, no_more, clause, sign_tokens, atom_tokens, group_tokens}
+use Rattle.fc_spec.specs.queries.QueryForms.{IsGroup, nesting}
+use Rattle.fc_spec.proofs.words.Present.{weaker}
+use Rattle.fc_spec.specs.queries.TreeReading.{Row, Reader, operator_at, clause_at, with_clause, clauses_at, group_at, group_within, deeper_than}
+use Rattle.fc_spec.proofs.queries.ReadIsSpelled.{ReadsGroups, IsClauseOf, IsGroupOf, clause_of, read_is_spelled}
+use Rattle.fc_spec.proofs.queries.SpelledIsRead.{some_tokens}
 use Rattle.fc_query.specs.TreeView.{Part, linked, behind_operator, is_end_of}
 
 -- these clauses, and then those of a group

@@ -1,9 +1,9 @@
 -- A group in parentheses, by what is read behind the first of them.
 use Rattle.std.proofs.Common.{◌≡◌, ◌∙◌, ap, Bool, Option, None, Some}
-use Rattle.fc_spec.specs.Val.{Text}
-use Rattle.fc_spec.specs.Options.{◌>>=◌}
-use Rattle.fc_spec.specs.QueryTrees.{Atom, nested, Group}
-use Rattle.fc_spec.specs.TreeReading.{Row, Reader, past_closing, nested_at}
+use Rattle.fc_spec.specs.documents.Val.{Text}
+use Rattle.fc_spec.specs.words.Options.{◌>>=◌}
+use Rattle.fc_spec.specs.queries.QueryTrees.{Atom, nested, Group}
+use Rattle.fc_spec.specs.queries.TreeReading.{Row, Reader, past_closing, nested_at}
 use Rattle.fc_base.specs.declared.error.Refusal.{Refusal}
 use Rattle.fc_base.specs.declared.error.Refusal.TheVariants.{Memory, Fault}
 use Rattle.fc_query.specs.declared.fault.QueryFault.TheVariants.{Syntax}

@@ -1,7 +1,7 @@
 -- One optional clause.
 use Rattle.std.proofs.Common.{◌≡◌, ◌∙◌, ap, refl, List, [], ◌∷◌, ◌++◌, length, true, false, arith, length-append}
-use Rattle.fc_spec.specs.Query.{must, must_not, may}
-use Rattle.fc_spec.specs.QueryMeaning.{grouped}
+use Rattle.fc_spec.specs.queries.Query.{must, must_not, may}
+use Rattle.fc_spec.specs.queries.QueryMeaning.{grouped}
 use Rattle.fc_query.specs.QueryView.{Part, linked, is_one_optional_of}
 
 pub not_one : (ps : List Part) → (length ps ≡ 1 → ⊥) → is_one_optional_of (linked ps) ≡ false

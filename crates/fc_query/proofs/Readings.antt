@@ -1,15 +1,15 @@
 -- What a text means, from its tokens and their tree.
 use Rattle.std.proofs.Common.{◌≡◌, refl, ap, sym, List, Some, Result, Ok, Err, IfOk}
-use Rattle.fc_spec.specs.Val.{Text}
-use Rattle.fc_spec.specs.Schema as schema
-use Rattle.fc_spec.specs.QueryTokens.{Token}
-use Rattle.fc_spec.specs.QueryRow.{tokens_of}
-use Rattle.fc_spec.specs.QueryTrees.{Group}
-use Rattle.fc_spec.specs.QueryMeaning.{tree_query}
-use Rattle.fc_spec.specs.QueryTexts.{query_of}
-use Rattle.fc_spec.specs.ValidQueries.{IsValidQuery}
-use Rattle.fc_spec.specs.TreeReading.{tree_of}
-use Rattle.fc_spec.proofs.TreesOfTokens.{tree_spells}
+use Rattle.fc_spec.specs.documents.Val.{Text}
+use Rattle.fc_spec.specs.documents.Schema as schema
+use Rattle.fc_spec.specs.queries.QueryTokens.{Token}
+use Rattle.fc_spec.specs.queries.QueryRow.{tokens_of}
+use Rattle.fc_spec.specs.queries.QueryTrees.{Group}
+use Rattle.fc_spec.specs.queries.QueryMeaning.{tree_query}
+use Rattle.fc_spec.specs.queries.QueryTexts.{query_of}
+use Rattle.fc_spec.specs.queries.ValidQueries.{IsValidQuery}
+use Rattle.fc_spec.specs.queries.TreeReading.{tree_of}
+use Rattle.fc_spec.proofs.queries.TreesOfTokens.{tree_spells}
 use Rattle.fc_base.specs.Answers.{Answers}
 use Rattle.fc_base.specs.declared.error.Refusal.{Refusal}
 use Rattle.fc_base.specs.declared.error.Refusal.TheVariants.{Memory, Fault}
@@ -17,7 +17,7 @@ use Rattle.fc_query.specs.declared.fault.QueryFault.{QueryFault}
 use Rattle.fc_query.specs.declared.query.Query.{Query}
 use Rattle.fc_query.specs.QueryView.{query_fault_view, query_view}
 use Rattle.fc_query.specs.Takes.{Stops}
-use Rattle.fc_spec.proofs.ValidTrees.{tree_valid}
+use Rattle.fc_spec.proofs.queries.ValidTrees.{tree_valid}
 
 -- the answer for a text without tokens
 pub without_row : (s : schema.Schema) (t : Text) (stop : Refusal QueryFault) → Stops stop (tokens_of t) → Answers query_view query_fault_view (Err stop) (query_of s t)

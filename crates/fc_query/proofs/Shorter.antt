@@ -1,15 +1,15 @@
 -- A token takes at least one character.
 use Rattle.std.proofs.Common.{◌≡◌, sym, refl, ℕ, ◌≤◌, List, [], ◌∷◌, length, Bool, true, false, cond, Option, None, Some, option_map, ◌==◌, ◌||◌, ◌&&◌, IfSome, arith, length-drop}
 use Rattle.std.specs.List.{prefix_len, take_while}
-use Rattle.fc_spec.specs.Val.{Text}
-use Rattle.fc_spec.specs.QueryTokens.{Token}
-use Rattle.fc_spec.specs.QueryCharacters.{Character, bare, escaped, code, behind, begins, past, past_white, is_char, is_blank, is_quotable, stands_in_end, is_ordinary, goes_on, text_of}
-use Rattle.fc_spec.specs.Options.{◌>>=◌}
-use Rattle.fc_spec.proofs.Present.{bound, either, mapped, weaker}
+use Rattle.fc_spec.specs.documents.Val.{Text}
+use Rattle.fc_spec.specs.queries.QueryTokens.{Token}
+use Rattle.fc_spec.specs.queries.QueryCharacters.{Character, bare, escaped, code, behind, begins, past, past_white, is_char, is_blank, is_quotable, stands_in_end, is_ordinary, goes_on, text_of}
+use Rattle.fc_spec.specs.words.Options.{◌>>=◌}
+use Rattle.fc_spec.proofs.words.Present.{bound, either, mapped, weaker}
 use Rattle.fc_query.proofs.Fronts.{left_goes_on}
-use Rattle.fc_spec.specs.QueryWords.{word_at, quoted_at}
-use Rattle.fc_spec.specs.QueryRanges.{written_end_at, end_at, past_to, bracket_at, range_at}
-use Rattle.fc_spec.specs.QueryRow.{single, marked_at, begins_word, token_at}
+use Rattle.fc_spec.specs.queries.QueryWords.{word_at, quoted_at}
+use Rattle.fc_spec.specs.queries.QueryRanges.{written_end_at, end_at, past_to, bracket_at, range_at}
+use Rattle.fc_spec.specs.queries.QueryRow.{single, marked_at, begins_word, token_at}
 
 abbrev Row : Type 0
 Row = List Character

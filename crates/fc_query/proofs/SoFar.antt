@@ -1,10 +1,10 @@
 -- The tokens of a text so far.
 use Rattle.std.proofs.Common.{◌≡◌, ◌∙◌, ap, sym, refl, subst, ℕ, zero, suc, ◌<◌, ◌≤◌, List, [], ◌∷◌, ◌++◌, length, drop, Bool, true, false, Option, None, Some, option_map, IfSome, arith, append_assoc, append-nil}
 use Rattle.std.specs.Prelude.{slice_get}
-use Rattle.fc_spec.specs.Options.{◌>>=◌}
-use Rattle.fc_spec.specs.QueryTokens.{Token}
-use Rattle.fc_spec.specs.QueryCharacters.{Character, is_blank}
-use Rattle.fc_spec.specs.QueryRow.{is_colon, token_at, tokens_within}
+use Rattle.fc_spec.specs.words.Options.{◌>>=◌}
+use Rattle.fc_spec.specs.queries.QueryTokens.{Token}
+use Rattle.fc_spec.specs.queries.QueryCharacters.{Character, is_blank}
+use Rattle.fc_spec.specs.queries.QueryRow.{is_colon, token_at, tokens_within}
 use Rattle.fc_query.proofs.Fronts.{first_and_rest, none_first}
 use Rattle.fc_query.proofs.Shorter.{token_shorter}
 

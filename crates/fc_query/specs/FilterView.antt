@@ -2,9 +2,9 @@
 use Rattle.std.specs.Prelude.{◌≡◌, List, Option, None, Some, Result, Ok, Err}
 use Rattle.std.specs.declared.vec.Vec.{Vec}
 use Rattle.std.specs.declared.alloc.Global.{Global}
-use Rattle.fc_spec.specs.Val.{Text}
-use Rattle.fc_spec.specs.Request as request
-use Rattle.fc_spec.specs.QueryFault as fault
+use Rattle.fc_spec.specs.documents.Val.{Text}
+use Rattle.fc_spec.specs.requests.Request as request
+use Rattle.fc_spec.specs.queries.QueryFault as fault
 use Rattle.fc_base.specs.declared.error.Refusal.{Refusal}
 use Rattle.fc_base.specs.declared.error.Refusal.TheVariants.{Memory, Fault}
 use Rattle.fc_query.specs.declared.fault.FilterFault.{FilterFault}

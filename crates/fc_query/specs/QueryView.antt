@@ -1,7 +1,7 @@
 -- What queries stand for in the definitions.
 use Rattle.std.specs.Prelude.{Bool, true, false, List, [], ◌∷◌, map}
-use Rattle.fc_spec.specs.Query as definition
-use Rattle.fc_spec.specs.QueryFault as fault
+use Rattle.fc_spec.specs.queries.Query as definition
+use Rattle.fc_spec.specs.queries.QueryFault as fault
 use Rattle.fc_base.specs.View.{val_view}
 use Rattle.fc_query.specs.declared.fault.QueryFault.{QueryFault}
 use Rattle.fc_query.specs.declared.fault.QueryFault.TheVariants as f

@@ -3,7 +3,7 @@ use Rattle.std.specs.Prelude.{◌≡◌, ℕ, List, [], ◌∷◌, Bool, true, f
 use Rattle.std.specs.List.{list_all, take_while}
 use Rattle.std.specs.Str.{chars}
 use denote.Ref.{Bor}
-use Rattle.fc_spec.specs.QueryCharacters as definition
+use Rattle.fc_spec.specs.queries.QueryCharacters as definition
 use Rattle.fc_base.specs.declared.error.Refusal.{Refusal}
 use Rattle.fc_base.specs.declared.error.Refusal.TheVariants.{Memory, Fault}
 use Rattle.fc_query.specs.declared.fault.QueryFault.{QueryFault}

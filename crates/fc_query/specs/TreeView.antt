@@ -1,7 +1,7 @@
 -- What trees stand for in the definitions.
 use Rattle.std.specs.Prelude.{Bool, true, false, List, [], ◌∷◌, Option, map, option_map}
-use Rattle.fc_spec.specs.QueryTokens as token
-use Rattle.fc_spec.specs.QueryTrees as definition
+use Rattle.fc_spec.specs.queries.QueryTokens as token
+use Rattle.fc_spec.specs.queries.QueryTrees as definition
 use Rattle.fc_query.specs.declared.tokens.Token.{Token}
 use Rattle.fc_query.specs.declared.trees.Atom.{Atom}
 use Rattle.fc_query.specs.declared.trees.Atom.TheOpen.{Atom-F, Plain, Nested, Everything, Clause-F}

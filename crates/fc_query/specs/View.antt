@@ -2,8 +2,8 @@
 use Rattle.std.specs.Prelude.{Bool, List, map, option_map, string_bytes}
 use Rattle.std.specs.declared.vec.Vec.{Vec}
 use Rattle.std.specs.declared.alloc.Global.{Global}
-use Rattle.fc_spec.specs.QueryCharacters as definition
-use Rattle.fc_spec.specs.QueryTokens as token
+use Rattle.fc_spec.specs.queries.QueryCharacters as definition
+use Rattle.fc_spec.specs.queries.QueryTokens as token
 use Rattle.fc_query.specs.declared.characters.Character.{Character}
 use Rattle.fc_query.specs.declared.characters.Character.TheVariants.{Bare, Escaped}
 use Rattle.fc_query.specs.declared.classes.Part.{Part}
@@ -28,7 +28,7 @@ part_test Word c = definition.goes_on c
 part_test Quoted c = definition.is_quotable c
 part_test End c = definition.stands_in_end c
 
-abbrev pub range_view : Range → token.Range
+abbrev pub range_view : Range → token.WrittenRange
 range_view r = record { low = option_map string_bytes r.low; high = option_map string_bytes r.high; has_low = r.has_low; has_high = r.has_high }
 
 abbrev pub value_view : Value → token.Value

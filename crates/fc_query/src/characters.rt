@@ -1,7 +1,7 @@
 // The characters of a query text.
 ghost use Rattle.std.specs.Prelude.{◌≡◌, ◌∷◌, drop, option_map, slice_get};
 ghost use Rattle.std.specs.Str.{chars};
-ghost use Rattle.fc_spec.specs.QueryCharacters as definition;
+ghost use Rattle.fc_spec.specs.queries.QueryCharacters as definition;
 ghost use Rattle.fc_query.specs.View.{character_view};
 ghost use Rattle.fc_query.specs.Takes.{IsFirst, TakesPast};
 
@@ -26,7 +26,7 @@ pub(crate) struct Cursor<'a> {
 impl<'a> Model for Cursor<'a> {
     ghost use Rattle.std.specs.Prelude.{List};
     ghost use Rattle.std.specs.Str.{chars};
-    ghost use Rattle.fc_spec.specs.QueryCharacters.{Character, characters};
+    ghost use Rattle.fc_spec.specs.queries.QueryCharacters.{Character, characters};
 
     ghost Value = { List Character };
 

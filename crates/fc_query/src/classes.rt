@@ -1,7 +1,7 @@
 // Which characters stand where.
 ghost use Rattle.std.specs.Prelude.{◌≡◌, codes};
-ghost use Rattle.fc_spec.specs.QueryCharacters as definition;
-ghost use Rattle.fc_spec.specs.QueryRow.{begins_word};
+ghost use Rattle.fc_spec.specs.queries.QueryCharacters as definition;
+ghost use Rattle.fc_spec.specs.queries.QueryRow.{begins_word};
 ghost use Rattle.fc_query.specs.View.{character_view, part_test};
 
 use crate::characters::Character;

@@ -1,7 +1,7 @@
 // Reading a tree from a row of tokens.
 ghost use Rattle.std.specs.Prelude.{◌≡◌, ◌≤◌, None, Some, option_map, map};
-ghost use Rattle.fc_spec.specs.QueryTrees as definition;
-ghost use Rattle.fc_spec.specs.TreeReading as reading;
+ghost use Rattle.fc_spec.specs.queries.QueryTrees as definition;
+ghost use Rattle.fc_spec.specs.queries.TreeReading as reading;
 ghost use Rattle.fc_query.specs.Takes.{Gives};
 ghost use Rattle.fc_query.specs.TreeView.{behind_operator, is_end_of, atom_view, clause_view, group_view, row_of};
 ghost use Rattle.fc_query.specs.View.{operator_view, sign_view, value_view};
@@ -31,7 +31,7 @@ fn operator_of<'a>(tokens: &'a [Token]) -> (Option<Operator>, &'a [Token])
 }
 
 // Behind a star and a colon.
-#[tactic(auto, unfolding(fc_spec::specs::TreeReading::everything_at))]
+#[tactic(auto, unfolding(fc_spec::specs::queries::TreeReading::everything_at))]
 fn everything<'a>(tokens: &'a [Token]) -> Result<(Atom<'a>, &'a [Token]), Refusal<QueryFault>>
     ensures { Gives (λ x. (atom_view x.0, row_of x.1.now)) result (reading.everything_at (row_of tokens.now)) }
 {
@@ -58,7 +58,7 @@ fn nested_atom<'a>(name: Option<&'a str>, clauses: Vec<Clause<'a>>) -> Atom<'a>
 
 // Behind `(`, and in it at most `depth` parentheses open at once, this one counted.
 #[cycle(descent)]
-#[tactic(auto, unfolding(fc_spec::specs::TreeReading::nested_at))]
+#[tactic(auto, unfolding(fc_spec::specs::queries::TreeReading::nested_at))]
 fn nested<'a>(
     alloc: Global,
     name: Option<&'a str>,
@@ -81,7 +81,7 @@ fn nested<'a>(
 
 // Behind a name and its colon.
 #[cycle(descent)]
-#[tactic(auto, unfolding(fc_spec::specs::TreeReading::named_at))]
+#[tactic(auto, unfolding(fc_spec::specs::queries::TreeReading::named_at))]
 fn named<'a>(
     alloc: Global,
     name: &'a str,
@@ -100,7 +100,7 @@ fn named<'a>(
 
 // Behind a value and a colon.
 #[cycle(descent)]
-#[tactic(auto, unfolding(fc_spec::specs::TreeReading::behind_colon_at))]
+#[tactic(auto, unfolding(fc_spec::specs::queries::TreeReading::behind_colon_at))]
 fn behind_colon<'a>(
     alloc: Global,
     value: &'a Value,
@@ -118,7 +118,7 @@ fn behind_colon<'a>(
 }
 
 #[cycle(descent)]
-#[tactic(auto, unfolding(fc_spec::specs::TreeReading::atom_at, fc_spec::specs::TreeReading::value_at))]
+#[tactic(auto, unfolding(fc_spec::specs::queries::TreeReading::atom_at, fc_spec::specs::queries::TreeReading::value_at))]
 fn atom<'a>(
     alloc: Global,
     tokens: &'a [Token],
@@ -138,7 +138,7 @@ fn atom<'a>(
 
 // Behind its operator.
 #[cycle(descent)]
-#[tactic(auto, unfolding(fc_spec::specs::TreeReading::clause_at))]
+#[tactic(auto, unfolding(fc_spec::specs::queries::TreeReading::clause_at))]
 fn clause<'a>(
     alloc: Global,
     operator: Option<Operator>,

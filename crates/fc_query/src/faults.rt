@@ -1,6 +1,6 @@
 // Faults that trees can have.
 ghost use Rattle.std.specs.Prelude.{◌≡◌, option_map};
-ghost use Rattle.fc_spec.specs.QueryMeaning as meaning;
+ghost use Rattle.fc_spec.specs.queries.QueryMeaning as meaning;
 ghost use Rattle.fc_query.specs.TreeView.{atom_view, group_view};
 
 use crate::tokens::Operator;

@@ -2,9 +2,9 @@
 ghost use Rattle.std.specs.Prelude.{◌≡◌, ◌==◌, IfOk, map, option_map};
 ghost use Rattle.std.specs.List.{list_all, slice_split};
 ghost use Rattle.serde_json.specs.View.{view};
-ghost use Rattle.fc_spec.specs.FilterReading as reading;
-ghost use Rattle.fc_spec.specs.JsonObjects as objects;
-ghost use Rattle.fc_spec.specs.ValidQueries.{IsValidQuery};
+ghost use Rattle.fc_spec.specs.queries.FilterReading as reading;
+ghost use Rattle.fc_spec.specs.scripts.JsonObjects as objects;
+ghost use Rattle.fc_spec.specs.queries.ValidQueries.{IsValidQuery};
 ghost use Rattle.fc_base.specs.Answers.{Answers};
 ghost use Rattle.fc_query.specs.FilterView.{filter_fault_view, filter_view, Tagged};
 ghost use Rattle.fc_query.specs.QueryView.{query_view};
@@ -73,7 +73,7 @@ fn names_of(alloc: Global, parts: &[&str]) -> Result<Vec<Name>, WantMemory>
 }
 
 // The tags between the commas of a text.
-#[tactic(auto, unfolding(fc_spec::specs::FilterReading::tags_of))]
+#[tactic(auto, unfolding(fc_spec::specs::queries::FilterReading::tags_of))]
 fn tags_of(alloc: Global, list: &str) -> Result<Vec<Name>, Refusal<FilterFault>>
     ensures { Tagged result (reading.tags_of list.now) }
 {
@@ -132,7 +132,7 @@ fn tagged(
 }
 
 // Behind `{!tag=`.
-#[tactic(auto, unfolding(fc_spec::specs::FilterReading::local_tags))]
+#[tactic(auto, unfolding(fc_spec::specs::queries::FilterReading::local_tags))]
 fn local_filter(alloc: Global, schema: &Schema, text: &str) -> Result<Filter, Refusal<FilterFault>>
     ensures answer { Answers filter_view filter_fault_view result
         (reading.filter_by schema.now (reading.local_tags text.now)) }
@@ -144,7 +144,7 @@ fn local_filter(alloc: Global, schema: &Schema, text: &str) -> Result<Filter, Re
     }
 }
 
-#[tactic(auto, unfolding(fc_spec::specs::FilterReading::text_filter))]
+#[tactic(auto, unfolding(fc_spec::specs::queries::FilterReading::text_filter))]
 fn text_filter(alloc: Global, schema: &Schema, text: &str) -> Result<Filter, Refusal<FilterFault>>
     ensures answer { Answers filter_view filter_fault_view result
         (reading.filter_by schema.now (reading.text_filter text.now)) }
@@ -156,7 +156,7 @@ fn text_filter(alloc: Global, schema: &Schema, text: &str) -> Result<Filter, Ref
     }
 }
 
-#[tactic(auto, unfolding(fc_spec::specs::FilterReading::member_filter))]
+#[tactic(auto, unfolding(fc_spec::specs::queries::FilterReading::member_filter))]
 fn member_filter(
     alloc: Global,
     schema: &Schema,
@@ -173,7 +173,7 @@ fn member_filter(
     }
 }
 
-#[tactic(auto, unfolding(fc_spec::specs::FilterReading::object_filter))]
+#[tactic(auto, unfolding(fc_spec::specs::queries::FilterReading::object_filter))]
 fn object_filter(
     alloc: Global,
     schema: &Schema,
@@ -195,7 +195,7 @@ fn object_filter(
 /// Reads a filter: a query text, perhaps behind `{!tag=A,B}`; or an object of one member, whose key
 /// is `#` and then tags separated by commas, and whose value is the query text. A fault of the tags
 /// is found before the query text is read.
-#[tactic(auto, unfolding(fc_spec::specs::FilterReading::filter_parts))]
+#[tactic(auto, unfolding(fc_spec::specs::queries::FilterReading::filter_parts))]
 pub fn read_filter(
     alloc: Global,
     schema: &Schema,

@@ -1,13 +1,13 @@
 // Cutting a text into tokens.
 ghost use Rattle.std.specs.Prelude.{◌≡◌, ◌&&◌, ◌||◌, IfOk, codes, map, option_map, string_bytes, if◌then◌else◌};
 ghost use Rattle.std.specs.Bool.{MatchBool};
-ghost use Rattle.fc_spec.specs.Lists.{is_empty};
-ghost use Rattle.fc_spec.specs.Val.{same_text};
-ghost use Rattle.fc_spec.specs.QueryCharacters.{begins, is_ordinary};
-ghost use Rattle.fc_spec.specs.QueryTokens.{star as a_star, value};
-ghost use Rattle.fc_spec.specs.QueryRanges.{bracket_at, end_at, past_to, range_at, written_end_at};
-ghost use Rattle.fc_spec.specs.QueryRow.{marked_at, single as single_of, token_at, tokens_of};
-ghost use Rattle.fc_spec.specs.QueryWords.{plain_word, quoted_at, word_at};
+ghost use Rattle.fc_spec.specs.words.Lists.{is_empty};
+ghost use Rattle.fc_spec.specs.documents.Val.{same_text};
+ghost use Rattle.fc_spec.specs.queries.QueryCharacters.{begins, is_ordinary};
+ghost use Rattle.fc_spec.specs.queries.QueryTokens.{star as a_star, value};
+ghost use Rattle.fc_spec.specs.queries.QueryRanges.{bracket_at, end_at, past_to, range_at, written_end_at};
+ghost use Rattle.fc_spec.specs.queries.QueryRow.{marked_at, single as single_of, token_at, tokens_of};
+ghost use Rattle.fc_spec.specs.queries.QueryWords.{plain_word, quoted_at, word_at};
 ghost use Rattle.fc_query.specs.Takes.{Gives, IsRun, Takes};
 ghost use Rattle.fc_query.specs.View.{part_test, token_view, tokens_view};
 
@@ -42,7 +42,7 @@ fn run_of(alloc: Global, cursor: &mut Cursor, part: Part) -> Result<Run, WantMem
 }
 
 // Some words have a meaning of their own.
-#[tactic(auto, unfolding(fc_spec::specs::QueryWords::plain_word))]
+#[tactic(auto, unfolding(fc_spec::specs::queries::QueryWords::plain_word))]
 fn plain_word_token(text: String) -> Token
     ensures { token_view result ≡ plain_word (string_bytes text) }
 {
@@ -54,7 +54,7 @@ fn plain_word_token(text: String) -> Token
     }
 }
 
-#[tactic(auto, unfolding(fc_spec::specs::QueryWords::word_at))]
+#[tactic(auto, unfolding(fc_spec::specs::queries::QueryWords::word_at))]
 fn word(alloc: Global, cursor: &mut Cursor) -> Result<Token, Refusal<QueryFault>>
     ensures { Takes token_view cursor.new result (word_at cursor.old) }
 {
@@ -70,7 +70,7 @@ fn word(alloc: Global, cursor: &mut Cursor) -> Result<Token, Refusal<QueryFault>
 }
 
 // Behind `"`.
-#[tactic(auto, unfolding(fc_spec::specs::QueryWords::quoted_at))]
+#[tactic(auto, unfolding(fc_spec::specs::queries::QueryWords::quoted_at))]
 fn quoted(alloc: Global, cursor: &mut Cursor) -> Result<String, Refusal<QueryFault>>
     ensures { Takes string_bytes cursor.new result (quoted_at cursor.old) }
 {
@@ -91,7 +91,7 @@ fn is_no_end(run: &Run) -> bool
 }
 
 // An end that is neither quoted nor a star.
-#[tactic(auto, unfolding(fc_spec::specs::QueryRanges::written_end_at))]
+#[tactic(auto, unfolding(fc_spec::specs::queries::QueryRanges::written_end_at))]
 fn written_end(alloc: Global, cursor: &mut Cursor) -> Result<String, Refusal<QueryFault>>
     ensures { Takes string_bytes cursor.new result (written_end_at cursor.old) }
 {
@@ -103,7 +103,7 @@ fn written_end(alloc: Global, cursor: &mut Cursor) -> Result<String, Refusal<Que
 }
 
 // No text is a star.
-#[tactic(auto, unfolding(fc_spec::specs::QueryRanges::end_at))]
+#[tactic(auto, unfolding(fc_spec::specs::queries::QueryRanges::end_at))]
 fn end(alloc: Global, cursor: &mut Cursor) -> Result<Option<String>, Refusal<QueryFault>>
     ensures { Takes (option_map string_bytes) cursor.new result (end_at cursor.old) }
 {
@@ -122,7 +122,7 @@ fn end(alloc: Global, cursor: &mut Cursor) -> Result<Option<String>, Refusal<Que
 }
 
 // White space, TO, white space.
-#[tactic(auto, unfolding(fc_spec::specs::QueryRanges::past_to))]
+#[tactic(auto, unfolding(fc_spec::specs::queries::QueryRanges::past_to))]
 fn take_to(cursor: &mut Cursor) -> bool
     ensures { MatchBool result (past_to cursor.old ≡ Some cursor.new) (past_to cursor.old ≡ None) }
 {
@@ -130,7 +130,7 @@ fn take_to(cursor: &mut Cursor) -> bool
 }
 
 // `]` or `}`: whether the end is in the range.
-#[tactic(auto, unfolding(fc_spec::specs::QueryRanges::bracket_at))]
+#[tactic(auto, unfolding(fc_spec::specs::queries::QueryRanges::bracket_at))]
 fn bracket(cursor: &mut Cursor) -> Result<bool, Refusal<QueryFault>>
     ensures { Takes (λ has_end. has_end) cursor.new result (bracket_at cursor.old) }
 {
@@ -144,7 +144,7 @@ fn bracket(cursor: &mut Cursor) -> Result<bool, Refusal<QueryFault>>
 }
 
 // Behind `[` or `{`.
-#[tactic(auto, unfolding(fc_spec::specs::QueryRanges::range_at))]
+#[tactic(auto, unfolding(fc_spec::specs::queries::QueryRanges::range_at))]
 fn range(alloc: Global, cursor: &mut Cursor, has_low: bool) -> Result<Token, Refusal<QueryFault>>
     ensures { Takes token_view cursor.new result (range_at has_low cursor.old) }
 {
@@ -165,7 +165,7 @@ fn range(alloc: Global, cursor: &mut Cursor, has_low: bool) -> Result<Token, Ref
 }
 
 // A character that is a token by itself.
-#[tactic(auto, unfolding(fc_spec::specs::QueryRow::single))]
+#[tactic(auto, unfolding(fc_spec::specs::queries::QueryRow::single))]
 fn single(c: char) -> Option<Token>
     ensures { option_map token_view result ≡ single_of c }
 {
@@ -192,7 +192,7 @@ fn star(cursor: &Cursor) -> Result<Token, Refusal<QueryFault>>
 }
 
 // Behind a character that begins no word.
-#[tactic(auto, unfolding(fc_spec::specs::QueryRow::marked_at))]
+#[tactic(auto, unfolding(fc_spec::specs::queries::QueryRow::marked_at))]
 fn marked(alloc: Global, cursor: &mut Cursor, c: char) -> Result<Token, Refusal<QueryFault>>
     ensures { Takes token_view cursor.new result (marked_at c cursor.old) }
 {
@@ -208,7 +208,7 @@ fn marked(alloc: Global, cursor: &mut Cursor, c: char) -> Result<Token, Refusal<
     }
 }
 
-#[tactic(auto, unfolding(fc_spec::specs::QueryRow::token_at))]
+#[tactic(auto, unfolding(fc_spec::specs::queries::QueryRow::token_at))]
 fn token(
     alloc: Global,
     cursor: &mut Cursor,

@@ -1,6 +1,6 @@
 // The query of a tree.
 ghost use Rattle.std.specs.Prelude.{◌≡◌, ◌<◌, IfSome, length, option_map, string_bytes};
-ghost use Rattle.fc_spec.specs.QueryMeaning as meaning;
+ghost use Rattle.fc_spec.specs.queries.QueryMeaning as meaning;
 ghost use Rattle.fc_base.specs.View.{field_type_view, val_view};
 ghost use Rattle.fc_query.specs.QueryView.{bound_view, clauses_view, is_one_optional_of, need_view, query_view};
 ghost use Rattle.fc_query.specs.Takes.{Means};
@@ -32,7 +32,7 @@ fn bound_of(
     has_end: bool,
     end: &Option<String>,
 ) -> Result<Bound, Refusal<QueryFault>>
-    ensures { Means bound_view result (meaning.bound_of (field_type_view kind) has_end (option_map string_bytes end.now)) }
+    ensures { Means bound_view result (meaning.written_bound (field_type_view kind) has_end (option_map string_bytes end.now)) }
 {
     match end {
         None => Ok(Bound::Unbounded),

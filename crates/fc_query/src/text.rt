@@ -1,9 +1,9 @@
 // Query texts.
 ghost use Rattle.std.specs.Prelude.{IfOk};
-ghost use Rattle.fc_spec.specs.TreeReading as reading;
-ghost use Rattle.fc_spec.specs.QueryMeaning as meaning;
-ghost use Rattle.fc_spec.specs.QueryTexts.{query_of};
-ghost use Rattle.fc_spec.specs.ValidQueries.{IsValidQuery};
+ghost use Rattle.fc_spec.specs.queries.TreeReading as reading;
+ghost use Rattle.fc_spec.specs.queries.QueryMeaning as meaning;
+ghost use Rattle.fc_spec.specs.queries.QueryTexts.{query_of};
+ghost use Rattle.fc_spec.specs.queries.ValidQueries.{IsValidQuery};
 ghost use Rattle.fc_base.specs.Answers.{Answers};
 ghost use Rattle.fc_query.specs.QueryView.{query_fault_view, query_view};
 ghost use Rattle.fc_query.specs.Takes.{Gives};

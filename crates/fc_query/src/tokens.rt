@@ -1,6 +1,6 @@
 // Tokens of query texts.
 ghost use Rattle.std.specs.Prelude.{◌≡◌};
-ghost use Rattle.fc_spec.specs.QueryRow.{is_colon};
+ghost use Rattle.fc_spec.specs.queries.QueryRow.{is_colon};
 ghost use Rattle.fc_query.specs.View.{token_view};
 
 /// A range, as it is written: its two ends, and whether it has them. An end that is absent is a star.

@@ -1,7 +1,7 @@
 -- What a search asks of segments.
 use Rattle.std.specs.Prelude.{ℕ, ◌<◌, List, Bool, length, All, IfSome}
-use Rattle.fc_spec.specs.Document.{Block}
-use Rattle.fc_spec.specs.Totals.{documents_in}
+use Rattle.fc_spec.specs.documents.Document.{Block}
+use Rattle.fc_spec.specs.documents.Totals.{documents_in}
 use Rattle.fc_query.specs.QueryView.{query_view}
 use Rattle.fc_domain.specs.FieldsFit.{FitsFields}
 use Rattle.fc_run.specs.PlainReply.{HaveDifferentValues}

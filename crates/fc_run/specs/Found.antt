@@ -1,7 +1,7 @@
 -- What a search finds in documents.
 use Rattle.std.specs.Prelude.{◌≡◌, ◌+◌, List, [], length, Option, None, Some}
-use Rattle.fc_spec.specs.Val.{Val}
-use Rattle.fc_spec.specs.Document.{Document}
+use Rattle.fc_spec.specs.documents.Val.{Val}
+use Rattle.fc_spec.specs.documents.Document.{Document}
 use Rattle.fc_run.specs.PlainReply.{values_at}
 use Rattle.fc_script.specs.Requests.{Facet}
 use Rattle.fc_run.specs.Tally.{Counts}

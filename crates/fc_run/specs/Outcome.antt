@@ -1,16 +1,16 @@
 -- What a run may write: by what the bytes of its script spell, and by its status.
 use Rattle.std.specs.Prelude.{◌≡◌, List, [], ◌++◌, length, ℕ, Bool, ◌==◌, Result, Ok, Err, ⊤, ◌⊎◌, Option, IsTrue}
 use Rattle.std.specs.Io.KnownBytes.{Appends}
-use Rattle.fc_spec.specs.Val.{Text}
-use Rattle.fc_spec.specs.World.{World, single}
-use Rattle.fc_spec.specs.Request.{Request}
-use Rattle.fc_spec.specs.Reply.{Bucket}
-use Rattle.fc_spec.specs.Exact.{exact}
-use Rattle.fc_spec.specs.Paths.{at_root}
-use Rattle.fc_spec.specs.RefinedPaths.{IsBucketOf, AreFacetsOf}
-use Rattle.fc_spec.specs.Outputs.{Replies, IsOutput, IsOutputBy}
-use Rattle.fc_spec.specs.Shape.{outermost_exclusions}
-use Rattle.fc_spec.specs.ScriptFault.{too_long}
+use Rattle.fc_spec.specs.documents.Val.{Text}
+use Rattle.fc_spec.specs.documents.World.{World, single}
+use Rattle.fc_spec.specs.requests.Request.{Request}
+use Rattle.fc_spec.specs.replies.Reply.{Bucket}
+use Rattle.fc_spec.specs.replies.Exact.{exact}
+use Rattle.fc_spec.specs.requests.Paths.{at_root}
+use Rattle.fc_spec.specs.laws.RefinedPaths.{IsBucketOf, AreFacetsOf}
+use Rattle.fc_spec.specs.scripts.Outputs.{Replies, IsOutput, IsOutputBy}
+use Rattle.fc_spec.specs.requests.Shape.{outermost_exclusions}
+use Rattle.fc_spec.specs.scripts.ScriptFault.{too_long}
 use Rattle.fc_base.specs.declared.error.WantMemory.{WantMemory}
 use Rattle.fc_io.specs.WriteEnd.{AppendsFront}
 use Rattle.fc_script.specs.Refusals.{FirstFault, faulty, refused_line}

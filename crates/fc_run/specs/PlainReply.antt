@@ -1,14 +1,14 @@
 -- The reply to a request that is built, over one shard, by counting documents.
 use Rattle.std.specs.Prelude.{◌≡◌, ℕ, List, [], ◌∷◌, length, map, count_by, ◌≤◌, All, ◌==◌, Option, None, Some, if◌then◌else◌}
 use Rattle.std.specs.List.{filter, flat_map}
-use Rattle.fc_spec.specs.Val.{Val, same_val, has_val, distinct}
-use Rattle.fc_spec.specs.Base.{meets_base}
-use Rattle.fc_spec.specs.Document.{Document, Block, values_of}
-use Rattle.fc_spec.specs.Query.{Query}
-use Rattle.fc_spec.specs.Request.{Filter, Request}
-use Rattle.fc_spec.specs.Totals.{documents_in}
-use Rattle.fc_spec.specs.Reply.{listed, Bucket, bucket, Facets, no_facets, many, Row, no_parts, part}
-use Rattle.fc_spec.specs.Distributed.{distributed}
+use Rattle.fc_spec.specs.documents.Val.{Val, same_val, has_val, distinct}
+use Rattle.fc_spec.specs.requests.Base.{meets_base}
+use Rattle.fc_spec.specs.documents.Document.{Document, Block, values_of}
+use Rattle.fc_spec.specs.queries.Query.{Query}
+use Rattle.fc_spec.specs.requests.Request.{Filter, Request}
+use Rattle.fc_spec.specs.documents.Totals.{documents_in}
+use Rattle.fc_spec.specs.replies.Reply.{listed, Bucket, bucket, Facets, no_facets, many, Row, no_parts, part}
+use Rattle.fc_spec.specs.replies.Distributed.{distributed}
 use Rattle.fc_script.specs.Requests.{Facet, built_request}
 
 -- the documents of the root domain

@@ -1,15 +1,15 @@
 -- Running the lines of a script over one shard: what it has indexed, and the lines that its searches write.
 use Rattle.std.specs.Prelude.{◌≡◌, ◌≤◌, List, [], ◌∷◌, ◌++◌, length, map, All, Ok, Err}
-use Rattle.fc_spec.specs.Val.{Text}
-use Rattle.fc_spec.specs.Lists.{joined}
-use Rattle.fc_spec.specs.Document.{Block, Batch}
-use Rattle.fc_spec.specs.Schema.{Schema, texts_held}
-use Rattle.fc_spec.specs.Request.{Request}
-use Rattle.fc_spec.specs.Script.{add, commit, sync, asks}
-use Rattle.fc_spec.specs.Lines.{reply_line, error_line}
-use Rattle.fc_spec.specs.Outputs.{Replies}
-use Rattle.fc_spec.specs.Totals.{document_total}
-use Rattle.fc_spec.specs.ValidBlocks.{IsBlockOf}
+use Rattle.fc_spec.specs.documents.Val.{Text}
+use Rattle.fc_spec.specs.words.Lists.{joined}
+use Rattle.fc_spec.specs.documents.Document.{Block, Batch}
+use Rattle.fc_spec.specs.documents.Schema.{Schema, texts_held}
+use Rattle.fc_spec.specs.requests.Request.{Request}
+use Rattle.fc_spec.specs.scripts.Script.{add, commit, sync, asks}
+use Rattle.fc_spec.specs.scripts.Lines.{reply_line, error_line}
+use Rattle.fc_spec.specs.scripts.Outputs.{Replies}
+use Rattle.fc_spec.specs.documents.Totals.{document_total}
+use Rattle.fc_spec.specs.documents.ValidBlocks.{IsBlockOf}
 use Rattle.fc_docs.specs.View.{block_view}
 use Rattle.fc_script.specs.ReadSoFar.{AskedLine}
 use Rattle.fc_run.specs.declared.shard.Shard.{Shard}

@@ -3,8 +3,8 @@ use Rattle.std.specs.Prelude.{◌≡◌, ℕ, zero, suc, ◌+◌, ◌^◌, ◌<�
 use Rattle.std.specs.List.{flat_map, items_where_true}
 use Rattle.std.specs.BTreeMap.{BTreeMap, get_by, IsOrdered}
 use Rattle.std.specs.declared.cmp.Ordering.{Ordering}
-use Rattle.fc_spec.specs.Val as definition
-use Rattle.fc_spec.specs.Val.{val_cmp, same_val}
+use Rattle.fc_spec.specs.documents.Val as definition
+use Rattle.fc_spec.specs.documents.Val.{val_cmp, same_val}
 use Rattle.fc_run.specs.Term.{term_view}
 use Rattle.fc_run.specs.declared.search.term.Term.{Term}
 

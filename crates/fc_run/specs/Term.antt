@@ -2,8 +2,8 @@
 use Rattle.std.specs.Prelude.{refl}
 use Rattle.std.specs.Cmp.{IsTotalOrder, IsPartialOrder, IsEquivalence, on_total, po, eq_by_cmp_equiv}
 use Rattle.std.specs.Ordering.{on, as_partial_cmp}
-use Rattle.fc_spec.specs.Val as definition
-use Rattle.fc_spec.specs.Val.{val_cmp, same_val}
+use Rattle.fc_spec.specs.documents.Val as definition
+use Rattle.fc_spec.specs.documents.Val.{val_cmp, same_val}
 use Rattle.fc_base.specs.declared.value.Val as code
 use Rattle.fc_base.specs.declared.value.Val.TheVariants as val
 use Rattle.fc_base.specs.View.{val_view}

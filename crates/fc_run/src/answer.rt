@@ -1,7 +1,7 @@
 // The answer to the bytes of a script.
 ghost use Rattle.std.specs.Prelude.{◌≡◌, All, Err, IfOk};
-ghost use Rattle.fc_spec.specs.ScriptTotals.{script_limits};
-ghost use Rattle.fc_spec.specs.ValidScripts.{IsWithin};
+ghost use Rattle.fc_spec.specs.scripts.ScriptTotals.{script_limits};
+ghost use Rattle.fc_spec.specs.scripts.ValidScripts.{IsWithin};
 ghost use Rattle.fc_script.specs.Built.{outcome};
 ghost use Rattle.fc_script.specs.Counts.{IsLineOf};
 ghost use Rattle.fc_script.specs.ValidRequests.{IsAskedOf};

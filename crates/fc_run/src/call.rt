@@ -1,8 +1,8 @@
 // From the bytes of a script to the bytes of its answer.
 ghost use Rattle.std.specs.Prelude.{◌≡◌, ◌↔◌, ◌≤◌, false, IfSome};
 ghost use Rattle.std.specs.Io.KnownBytes.{Appends, IsAtEnd};
-ghost use Rattle.fc_spec.specs.Val.{Text};
-ghost use Rattle.fc_spec.specs.Outputs.{IsOutputBy};
+ghost use Rattle.fc_spec.specs.documents.Val.{Text};
+ghost use Rattle.fc_spec.specs.scripts.Outputs.{IsOutputBy};
 ghost use Rattle.fc_io.specs.Faults.{Rose};
 ghost use Rattle.fc_script.specs.Built.{outcome};
 ghost use Rattle.fc_run.specs.Outcome.{by_single_index, takes, Ends, IfDone, IsCountedOutput, Leaves, OnDone, OnRead, OnUsage, OnWrite};

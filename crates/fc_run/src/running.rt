@@ -1,11 +1,11 @@
 // Running the lines of a script.
 ghost use Rattle.std.specs.Prelude.{◌≡◌, ◌≤◌, [], ◌++◌, map, All, IfOk};
 ghost use Rattle.std.specs.List.{filter_map};
-ghost use Rattle.fc_spec.specs.Distributed.{distributed};
-ghost use Rattle.fc_spec.specs.Lists.{joined};
-ghost use Rattle.fc_spec.specs.ScriptTotals.{added};
-ghost use Rattle.fc_spec.specs.Totals.{document_total};
-ghost use Rattle.fc_spec.specs.ValidBlocks.{IsBlockOf};
+ghost use Rattle.fc_spec.specs.replies.Distributed.{distributed};
+ghost use Rattle.fc_spec.specs.words.Lists.{joined};
+ghost use Rattle.fc_spec.specs.scripts.ScriptTotals.{added};
+ghost use Rattle.fc_spec.specs.documents.Totals.{document_total};
+ghost use Rattle.fc_spec.specs.documents.ValidBlocks.{IsBlockOf};
 ghost use Rattle.fc_docs.specs.View.{block_view};
 ghost use Rattle.fc_run.specs.Fitting.{AreDifferentIn, Fits};
 ghost use Rattle.fc_script.specs.ValidRequests.{IsAskedOf};

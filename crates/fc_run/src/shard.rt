@@ -1,8 +1,8 @@
 // The one shard of a script, as far as its lines were run.
 ghost use Rattle.std.specs.Prelude.{◌≡◌, ◌≤◌, [], ◌∷◌, ◌++◌, map, All, IfOk};
-ghost use Rattle.fc_spec.specs.Schema.{texts_held};
-ghost use Rattle.fc_spec.specs.ValidBlocks.{IsBlockOf};
-ghost use Rattle.fc_spec.specs.Totals.{document_total};
+ghost use Rattle.fc_spec.specs.documents.Schema.{texts_held};
+ghost use Rattle.fc_spec.specs.documents.ValidBlocks.{IsBlockOf};
+ghost use Rattle.fc_spec.specs.documents.Totals.{document_total};
 ghost use Rattle.fc_docs.specs.View.{block_view};
 
 use fc_base::{Schema, WantMemory};

@@ -2,16 +2,16 @@
 use Rattle.std.proofs.Common.{◌≡◌, ℕ, List, [], ◌∷◌, map, Bool, Option, None, Some, refl, ◌∙◌, ap}
 use Rattle.std.specs.Prelude.{length, nat_le, count_by}
 use Rattle.std.specs.List.{filter_map, cons_option, list_all}
-use Rattle.fc_spec.proofs.MappedLists.{count_by-map}
-use Rattle.fc_spec.specs.Lists.{numbers_below}
-use Rattle.fc_spec.specs.Schema.{Schema}
-use Rattle.fc_spec.specs.Script.{Line, add, commit, sync, asks, is_sync, commits_shard}
-use Rattle.fc_spec.specs.ScriptFault.{too_many_commits, too_many_sessions, too_many_syncs}
-use Rattle.fc_spec.specs.ScriptReading.{check_last, check_documents}
-use Rattle.fc_spec.specs.ScriptTotals.{Limits, added, session_in, first_ones}
-use Rattle.fc_spec.specs.Totals.{documents_in}
-use Rattle.fc_spec.specs.ValidScripts.{line_asking}
-use Rattle.fc_spec.specs.Walks.{unless}
+use Rattle.fc_spec.proofs.words.MappedLists.{count_by-map}
+use Rattle.fc_spec.specs.words.Lists.{numbers_below}
+use Rattle.fc_spec.specs.documents.Schema.{Schema}
+use Rattle.fc_spec.specs.scripts.Script.{Line, add, commit, sync, asks, is_sync, commits_shard}
+use Rattle.fc_spec.specs.scripts.ScriptFault.{too_many_commits, too_many_sessions, too_many_syncs}
+use Rattle.fc_spec.specs.scripts.ScriptReading.{check_last, check_documents}
+use Rattle.fc_spec.specs.scripts.ScriptTotals.{Limits, added, session_in, first_ones}
+use Rattle.fc_spec.specs.documents.Totals.{documents_in}
+use Rattle.fc_spec.specs.scripts.ValidScripts.{line_asking}
+use Rattle.fc_spec.specs.words.Walks.{unless}
 
 module _ {A B : Type 0} (see : A → B) where
   -- what is picked from each line, where that is the same

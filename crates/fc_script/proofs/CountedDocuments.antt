@@ -5,18 +5,18 @@ use Rattle.std.specs.List.{flat_map, list_all, list_any, range_with_len}
 use Rattle.std.proofs.lemmas.Bool.{or_parts}
 use Rattle.std.proofs.lemmas.List.Concat.{flat_map-append}
 use Rattle.std.proofs.lemmas.List.Folds.{list_any-append}
-use Rattle.fc_spec.specs.Val.{Val, same_val, has_val}
-use Rattle.fc_spec.specs.Document.{Document, Block, values_of}
-use Rattle.fc_spec.specs.Schema.{Schema}
-use Rattle.fc_spec.specs.ScriptFault.{LineFault, field_total, too_many_documents}
-use Rattle.fc_spec.specs.ScriptReading.{check_documents}
-use Rattle.fc_spec.specs.ScriptTotals.{Limits, ids_in, has_repeat, absolute_total, total_limit, sums_fit, are_few}
-use Rattle.fc_spec.specs.Totals.{documents_of, documents_in}
+use Rattle.fc_spec.specs.documents.Val.{Val, same_val, has_val}
+use Rattle.fc_spec.specs.documents.Document.{Document, Block, values_of}
+use Rattle.fc_spec.specs.documents.Schema.{Schema}
+use Rattle.fc_spec.specs.scripts.ScriptFault.{LineFault, field_total, too_many_documents}
+use Rattle.fc_spec.specs.scripts.ScriptReading.{check_documents}
+use Rattle.fc_spec.specs.scripts.ScriptTotals.{Limits, ids_in, has_repeat, absolute_total, total_limit, sums_fit, are_few}
+use Rattle.fc_spec.specs.documents.Totals.{documents_of, documents_in}
 use Rattle.fc_script.specs.Ids.{ids_of, are_new, if_new, AreIdsOf}
 use Rattle.fc_script.specs.Left.{limits_after, limits_with}
 use Rattle.fc_script.proofs.LimitsLeft.{few-append}
 use Rattle.fc_script.proofs.NewIds.{among, by_test, new_among, not_by_test}
-use Rattle.fc_spec.proofs.BlockTotals.{documents_in-push}
+use Rattle.fc_spec.proofs.documents.BlockTotals.{documents_in-push}
 use Rattle.fc_script.proofs.SumsOfBlocks.{total-append}
 
 -- ---- ids

@@ -3,17 +3,17 @@ use Rattle.std.proofs.Common.{◌≡◌, ℕ, ◌+◌, ◌<◌, ◌≤◌, List,
 use Rattle.std.specs.Prelude.{count_by, nat_le, Option, All}
 use Rattle.std.specs.List.{filter_map, list_all, range_with_len}
 use Rattle.std.proofs.lemmas.List.Elements.{All-append, All-cons, All-nil, filter_map-append}
-use Rattle.fc_spec.specs.Val.{Text}
-use Rattle.fc_spec.specs.Document.{Block}
-use Rattle.fc_spec.specs.Request.{Request}
-use Rattle.fc_spec.specs.RequestFault.{RequestFault}
-use Rattle.fc_spec.specs.Schema.{Schema}
-use Rattle.fc_spec.specs.Script.{add, commit, sync, asks, is_sync, commits_shard}
-use Rattle.fc_spec.specs.ScriptFault.{too_many_commits, too_many_sessions, too_many_syncs}
-use Rattle.fc_spec.specs.ScriptReading.{check_last}
-use Rattle.fc_spec.specs.ScriptTotals.{Limits, added, session_in, sessions, first_ones, few_commits}
-use Rattle.fc_spec.specs.ValidBlocks.{IsBlockOf}
-use Rattle.fc_spec.specs.Walks.{unless}
+use Rattle.fc_spec.specs.documents.Val.{Text}
+use Rattle.fc_spec.specs.documents.Document.{Block}
+use Rattle.fc_spec.specs.requests.Request.{Request}
+use Rattle.fc_spec.specs.requests.RequestFault.{RequestFault}
+use Rattle.fc_spec.specs.documents.Schema.{Schema}
+use Rattle.fc_spec.specs.scripts.Script.{add, commit, sync, asks, is_sync, commits_shard}
+use Rattle.fc_spec.specs.scripts.ScriptFault.{too_many_commits, too_many_sessions, too_many_syncs}
+use Rattle.fc_spec.specs.scripts.ScriptReading.{check_last}
+use Rattle.fc_spec.specs.scripts.ScriptTotals.{Limits, added, session_in, sessions, first_ones, few_commits}
+use Rattle.fc_spec.specs.documents.ValidBlocks.{IsBlockOf}
+use Rattle.fc_spec.specs.words.Walks.{unless}
 use Rattle.fc_script.specs.Commits.{more_at}
 use Rattle.fc_script.specs.Counts.{AreCounts}
 use Rattle.fc_script.specs.DocumentCounts.{AreDocumentCounts}
@@ -23,7 +23,7 @@ use Rattle.fc_script.specs.declared.counts.Counts.{Counts}
 use Rattle.fc_script.specs.declared.counts.documents.DocumentCounts.{DocumentCounts}
 use Rattle.fc_script.proofs.InRange.{same_below}
 use Rattle.fc_script.proofs.SessionOrder.{first_ones-append}
-use Rattle.fc_spec.proofs.Counting.{count_by-push}
+use Rattle.fc_spec.proofs.words.Counting.{count_by-push}
 
 abbrev Lines : Type 0
 Lines = List AskedLine

@@ -6,7 +6,7 @@ use Rattle.std.specs.Str.{is_utf8}
 use Rattle.std.proofs.lemmas.Str.{IsUtf8-from_is_utf8, is_utf8-from_IsUtf8}
 use Rattle.serde_json.specs.Data.{Data}
 use Rattle.serde_json.specs.Read.{read}
-use Rattle.fc_spec.specs.ScriptLines.{lines_of, before_first_line, json_of}
+use Rattle.fc_spec.specs.scripts.ScriptLines.{lines_of, before_first_line, json_of}
 
 abbrev is_lf : ℕ → Bool
 is_lf b = b == 10

@@ -1,7 +1,7 @@
 -- Filters of a list, one after another.
 use Rattle.std.proofs.Common.{List, ◌++◌, Result, Ok}
-use Rattle.fc_spec.specs.Request.{Filter}
-use Rattle.fc_spec.specs.Walks.{◌>>=◌}
+use Rattle.fc_spec.specs.requests.Request.{Filter}
+use Rattle.fc_spec.specs.words.Walks.{◌>>=◌}
 use Rattle.fc_script.specs.Refusals.{Refused}
 
 -- these filters, and then those that are read

@@ -4,13 +4,13 @@ use Rattle.std.proofs.Math.Bool.{or-false}
 use Rattle.std.specs.List.{list_any}
 use Rattle.std.specs.Ordering.{on}
 use Rattle.std.specs.BTreeMap.{is_at}
-use Rattle.fc_spec.specs.Val as definition
-use Rattle.fc_spec.specs.Val.{val_cmp, same_val, has_val, text, long}
+use Rattle.fc_spec.specs.documents.Val as definition
+use Rattle.fc_spec.specs.documents.Val.{val_cmp, same_val, has_val, text, long}
 use Rattle.fc_base.specs.declared.value.Val.{Val}
 use Rattle.fc_base.specs.declared.value.Val.TheVariants.{Text, Long}
 use Rattle.fc_base.specs.View.{val_view}
 use Rattle.fc_base.specs.ValOrder.{vals_equiv}
-use Rattle.fc_spec.specs.ScriptFault.{duplicate_id}
+use Rattle.fc_spec.specs.scripts.ScriptFault.{duplicate_id}
 use Rattle.fc_script.specs.Ids.{are_new, if_new, AreKnownToo}
 
 -- what a set has is among the values of its keys

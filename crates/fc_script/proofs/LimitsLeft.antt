@@ -4,11 +4,11 @@ use Rattle.std.specs.List.{sum_by}
 use Rattle.std.proofs.lemmas.List.Sums.{sum_by-append}
 use Rattle.std.proofs.lemmas.Bool.{leb-true}
 use Rattle.std.proofs.lemmas.Bool.Decides.{nat_tests}
-use Rattle.fc_spec.specs.Document.{Block}
-use Rattle.fc_spec.specs.Totals.{documents_in, documents_of, document_total, value_count, value_total}
-use Rattle.fc_spec.specs.ScriptTotals.{Limits, are_few}
+use Rattle.fc_spec.specs.documents.Document.{Block}
+use Rattle.fc_spec.specs.documents.Totals.{documents_in, documents_of, document_total, value_count, value_total}
+use Rattle.fc_spec.specs.scripts.ScriptTotals.{Limits, are_few}
 use Rattle.fc_script.specs.Left.{limits_after, limits_with}
-use Rattle.fc_spec.proofs.BlockTotals.{documents_in-push, document_total-push}
+use Rattle.fc_spec.proofs.documents.BlockTotals.{documents_in-push, document_total-push}
 
 value_total-push : (blocks : List Block) (b : Block) → value_total (blocks ++ b ∷ []) ≡ value_total blocks + value_count (documents_of b)
 value_total-push blocks b = ap value_count (documents_in-push blocks b) ∙ sum_by-append (λ d. sum_by (λ vs. length vs) d) (documents_in blocks) (documents_of b)

@@ -2,14 +2,14 @@
 use Rattle.std.proofs.Common.{ℕ, ◌+◌, ◌<◌, List, [], ◌∷◌, Bool, true, false, cond, Option, None, Some, Result, Ok, Err, arith}
 use Rattle.std.specs.List.{filter, enumerate_from}
 use Rattle.serde_json.specs.Data.{Data}
-use Rattle.fc_spec.specs.Val.{Text}
-use Rattle.fc_spec.specs.Schema.{Schema}
-use Rattle.fc_spec.specs.Script.{Line}
-use Rattle.fc_spec.specs.ScriptFault.{LineFault, ScriptFault}
-use Rattle.fc_spec.specs.ScriptReading.{Numbered, at_line, value_on, with_line, with_lines}
-use Rattle.fc_spec.specs.ScriptTotals.{Limits}
-use Rattle.fc_spec.specs.LineReading.{line_said}
-use Rattle.fc_spec.specs.Walks.{◌>>=◌}
+use Rattle.fc_spec.specs.documents.Val.{Text}
+use Rattle.fc_spec.specs.documents.Schema.{Schema}
+use Rattle.fc_spec.specs.scripts.Script.{Line}
+use Rattle.fc_spec.specs.scripts.ScriptFault.{LineFault, ScriptFault}
+use Rattle.fc_spec.specs.scripts.ScriptReading.{Numbered, at_line, value_on, with_line, with_lines}
+use Rattle.fc_spec.specs.scripts.ScriptTotals.{Limits}
+use Rattle.fc_spec.specs.scripts.LineReading.{line_said}
+use Rattle.fc_spec.specs.words.Walks.{◌>>=◌}
 use Rattle.fc_script.specs.Built.{asks_unbuilt, first_unbuilt}
 
 -- each number is above those before it, and above k

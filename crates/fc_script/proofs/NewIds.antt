@@ -6,17 +6,17 @@ use Rattle.std.proofs.lemmas.Bool.{and_parts}
 use Rattle.std.proofs.lemmas.List.{take_all, take_more, take-append-drop}
 use Rattle.std.proofs.lemmas.List.Concat.{flat_map-append}
 use Rattle.std.proofs.lemmas.List.Folds.{list_any-append}
-use Rattle.fc_spec.specs.Val.{Val, same_val, has_val}
-use Rattle.fc_spec.specs.ScriptTotals.{has_repeat}
-use Rattle.fc_spec.specs.Document.{Block, values_of}
+use Rattle.fc_spec.specs.documents.Val.{Val, same_val, has_val}
+use Rattle.fc_spec.specs.scripts.ScriptTotals.{has_repeat}
+use Rattle.fc_spec.specs.documents.Document.{Block, values_of}
 use Rattle.fc_base.specs.declared.error.Refusal.{Refusal}
 use Rattle.fc_base.specs.declared.error.Refusal.TheVariants as refusal
-use Rattle.fc_spec.specs.ScriptFault as fault
-use Rattle.fc_spec.specs.ScriptFault.{duplicate_id}
+use Rattle.fc_spec.specs.scripts.ScriptFault as fault
+use Rattle.fc_spec.specs.scripts.ScriptFault.{duplicate_id}
 use Rattle.fc_script.specs.ScriptView.{line_fault_view}
 use Rattle.fc_script.specs.Ids.{ids_of, are_new, if_new, AreIdsOf, AreKnownToo}
 use Rattle.fc_script.specs.declared.line.fault.LineFault.{LineFault}
-use Rattle.fc_spec.proofs.ValOrder.{same_val_equiv}
+use Rattle.fc_spec.proofs.documents.ValOrder.{same_val_equiv}
 
 -- ---- tests of lists
 

@@ -3,17 +3,17 @@ use Rattle.std.proofs.Common.{◌≡◌, List, [], ◌∷◌, Bool, not, true, f
 use Rattle.std.specs.Prelude.{codes}
 use Rattle.serde_json.specs.Data.{Data, Items, no_items, item, Members, array}
 use Rattle.serde_json.specs.Find.{get_member, as_object, as_str}
-use Rattle.fc_spec.specs.Request.{Request}
-use Rattle.fc_spec.specs.Schema.{Schema}
-use Rattle.fc_spec.specs.FilterReading.{filter_of}
-use Rattle.fc_spec.specs.QueryTexts.{query_of}
-use Rattle.fc_spec.specs.Script.{Line, add, commit, sync, asks}
-use Rattle.fc_spec.specs.ScriptFault.{LineFault, duplicate_id, field_total, too_many_documents, too_many_commits, too_many_sessions, too_many_syncs}
-use Rattle.fc_spec.specs.ScriptReading.{check_documents, check_last}
-use Rattle.fc_spec.specs.Document.{Document}
-use Rattle.fc_spec.specs.JsonObjects.{only_names}
-use Rattle.fc_spec.specs.ScriptTotals.{Limits, ids_in, has_repeat, documents_added, sums_fit, are_few, few_commits, few_sessions, few_syncs}
-use Rattle.fc_spec.specs.Walks.{◌>>=◌, unless, with_fault}
+use Rattle.fc_spec.specs.requests.Request.{Request}
+use Rattle.fc_spec.specs.documents.Schema.{Schema}
+use Rattle.fc_spec.specs.queries.FilterReading.{filter_of}
+use Rattle.fc_spec.specs.queries.QueryTexts.{query_of}
+use Rattle.fc_spec.specs.scripts.Script.{Line, add, commit, sync, asks}
+use Rattle.fc_spec.specs.scripts.ScriptFault.{LineFault, duplicate_id, field_total, too_many_documents, too_many_commits, too_many_sessions, too_many_syncs}
+use Rattle.fc_spec.specs.scripts.ScriptReading.{check_documents, check_last}
+use Rattle.fc_spec.specs.documents.Document.{Document}
+use Rattle.fc_spec.specs.scripts.JsonObjects.{only_names}
+use Rattle.fc_spec.specs.scripts.ScriptTotals.{Limits, ids_in, has_repeat, documents_added, sums_fit, are_few, few_commits, few_sessions, few_syncs}
+use Rattle.fc_spec.specs.words.Walks.{◌>>=◌, unless, with_fault}
 use Rattle.fc_script.specs.Refusals.{Refused, not_built, refused}
 use Rattle.fc_script.specs.Requests.{query_in, filter_in, filters_of, filters_in, facets_of, facets_in, asks_no_documents, request_of, request_of_members}
 

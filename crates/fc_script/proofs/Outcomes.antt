@@ -4,18 +4,18 @@ use Rattle.std.proofs.lemmas.Bool.{lt-ltb}
 use Rattle.std.proofs.lemmas.Bool.Decides.{nat_tests}
 use Rattle.std.proofs.lemmas.List.{map-append}
 use Rattle.serde_json.specs.Data.{Data}
-use Rattle.fc_spec.specs.Val.{Text}
-use Rattle.fc_spec.specs.Schema.{Schema}
-use Rattle.fc_spec.specs.Request.{Request}
-use Rattle.fc_spec.specs.RequestFault.{RequestFault}
-use Rattle.fc_spec.specs.Script.{Line, add, commit, sync, asks}
-use Rattle.fc_spec.specs.ScriptFault.{LineFault, ScriptFault, too_long}
-use Rattle.fc_spec.specs.ScriptReading.{Numbered, at_line as script_at_line, check_last, is_silent, numbered_lines, schema_on, script_limit, script_of_lines, value_on, with_lines}
-use Rattle.fc_spec.specs.ScriptLines.{lines_of}
-use Rattle.fc_spec.specs.ScriptTotals.{Limits}
-use Rattle.fc_spec.specs.LineReading.{line_said}
-use Rattle.fc_spec.specs.ValidScripts.{line_asking}
-use Rattle.fc_spec.specs.Walks.{◌>>=◌, unless, with_fault}
+use Rattle.fc_spec.specs.documents.Val.{Text}
+use Rattle.fc_spec.specs.documents.Schema.{Schema}
+use Rattle.fc_spec.specs.requests.Request.{Request}
+use Rattle.fc_spec.specs.requests.RequestFault.{RequestFault}
+use Rattle.fc_spec.specs.scripts.Script.{Line, add, commit, sync, asks}
+use Rattle.fc_spec.specs.scripts.ScriptFault.{LineFault, ScriptFault, too_long}
+use Rattle.fc_spec.specs.scripts.ScriptReading.{Numbered, at_line as script_at_line, check_last, is_silent, numbered_lines, schema_on, script_limit, script_of_lines, value_on, with_lines}
+use Rattle.fc_spec.specs.scripts.ScriptLines.{lines_of}
+use Rattle.fc_spec.specs.scripts.ScriptTotals.{Limits}
+use Rattle.fc_spec.specs.scripts.LineReading.{line_said}
+use Rattle.fc_spec.specs.scripts.ValidScripts.{line_asking}
+use Rattle.fc_spec.specs.words.Walks.{◌>>=◌, unless, with_fault}
 use Rattle.fc_script.specs.Refusals.{Refused, not_built, refused, FirstFault}
 use Rattle.fc_script.specs.Requests.{request_of}
 use Rattle.fc_script.specs.Built.{AskedScript, asks_unbuilt, first_unbuilt, unbuilt_behind, unbuilt_in, request_or_default, fault_of, not_built_at, judged, outcome_within}

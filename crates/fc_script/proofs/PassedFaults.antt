@@ -1,7 +1,7 @@
 -- What is known of an answer from what it is with its fault mapped, and of a walk whose step fails.
 use Rattle.std.proofs.Common.{◌≡◌, Result, Ok, Err, sym, ◌∙◌}
 use Rattle.std.specs.Prelude.{MatchResult, IsErrAnd}
-use Rattle.fc_spec.specs.Walks.{◌>>=◌}
+use Rattle.fc_spec.specs.words.Walks.{◌>>=◌}
 use Rattle.fc_base.specs.Answers.{Answers}
 use Rattle.fc_base.specs.declared.error.Refusal.{Refusal}
 use Rattle.fc_base.specs.declared.error.Refusal.TheVariants as refusal

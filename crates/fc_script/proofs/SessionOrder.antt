@@ -2,9 +2,9 @@
 use Rattle.std.proofs.Common.{◌≡◌, List, [], ◌∷◌, ◌++◌, Bool, true, false, not, cond, ◌||◌, refl, sym, ◌∙◌, ap, append-nil}
 use Rattle.std.specs.List.{list_any, filter}
 use Rattle.std.proofs.lemmas.List.Elements.{filter-append}
-use Rattle.fc_spec.proofs.Texts.{same_text_equiv, equal}
-use Rattle.fc_spec.specs.Val.{Text, same_text}
-use Rattle.fc_spec.specs.ScriptTotals.{first_ones}
+use Rattle.fc_spec.proofs.words.Texts.{same_text_equiv, equal}
+use Rattle.fc_spec.specs.documents.Val.{Text, same_text}
+use Rattle.fc_spec.specs.scripts.ScriptTotals.{first_ones}
 use Rattle.fc_script.specs.Sessions.{with_session}
 
 -- another text is still among those that are not u

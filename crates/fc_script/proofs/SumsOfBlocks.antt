@@ -5,9 +5,9 @@ use Rattle.std.specs.List.{list_all, range_with_len, sum_by}
 use Rattle.std.proofs.lemmas.Bool.Decides.{nat_tests}
 use Rattle.std.proofs.lemmas.List.{take_more, take_all, take-append-drop, length-append, get_or_push, get_or_append_left}
 use Rattle.std.proofs.lemmas.List.Sums.{sum_by-append}
-use Rattle.fc_spec.specs.Document.{Document, values_of}
-use Rattle.fc_spec.specs.Columns.{longs_in}
-use Rattle.fc_spec.specs.ScriptTotals.{absolute_total, total_limit}
+use Rattle.fc_spec.specs.documents.Document.{Document, values_of}
+use Rattle.fc_spec.specs.documents.Columns.{longs_in}
+use Rattle.fc_spec.specs.scripts.ScriptTotals.{absolute_total, total_limit}
 use Rattle.fc_docs.specs.Sums.{absolute_sum}
 use Rattle.fc_script.proofs.InRange.{still_fails}
 

@@ -4,12 +4,12 @@ use Rattle.std.specs.Prelude.{nat_le, count_by}
 use Rattle.std.specs.List.{filter_map}
 use Rattle.std.proofs.lemmas.Bool.{and_from}
 use Rattle.std.proofs.lemmas.Bool.Decides.{nat_tests}
-use Rattle.fc_spec.specs.Document.{Block}
-use Rattle.fc_spec.specs.Schema.{Schema}
-use Rattle.fc_spec.specs.Script.{commits_shard}
-use Rattle.fc_spec.specs.ScriptTotals.{Limits, added, documents_added, absolute_total, total_limit, sums_fit, are_few}
-use Rattle.fc_spec.specs.Totals.{documents_in, document_total, value_total}
-use Rattle.fc_spec.specs.ValidScripts.{IsWithin}
+use Rattle.fc_spec.specs.documents.Document.{Block}
+use Rattle.fc_spec.specs.documents.Schema.{Schema}
+use Rattle.fc_spec.specs.scripts.Script.{commits_shard}
+use Rattle.fc_spec.specs.scripts.ScriptTotals.{Limits, added, documents_added, absolute_total, total_limit, sums_fit, are_few}
+use Rattle.fc_spec.specs.documents.Totals.{documents_in, document_total, value_total}
+use Rattle.fc_spec.specs.scripts.ValidScripts.{IsWithin}
 use Rattle.fc_script.specs.Counts.{AreCounts}
 use Rattle.fc_script.specs.Left.{limits_with}
 use Rattle.fc_script.specs.ReadSoFar.{AskedLine}

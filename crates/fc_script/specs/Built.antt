@@ -1,17 +1,17 @@
 -- What a run makes of the bytes of a script today: the script, or its first line that is at fault or not built.
 use Rattle.std.specs.Prelude.{ℕ, List, [], ◌∷◌, Bool, false, ◌==◌, is_err, nat_lt, Option, None, Some, Result, Ok, Err, if◌then◌else◌}
 use Rattle.serde_json.specs.Data.{Data}
-use Rattle.fc_spec.specs.Schema.{Schema}
-use Rattle.fc_spec.specs.Query.{all}
-use Rattle.fc_spec.specs.Request.{no_nodes, Request}
-use Rattle.fc_spec.specs.RequestFault.{RequestFault}
-use Rattle.fc_spec.specs.Script.{Line, asks, Script}
-use Rattle.fc_spec.specs.ScriptFault.{LineFault, ScriptFault}
-use Rattle.fc_spec.specs.ScriptTotals.{Limits, script_limits}
-use Rattle.fc_spec.specs.ScriptReading.{Numbered, numbered_lines, schema_on, script_of, value_on}
-use Rattle.fc_spec.specs.LineReading.{line_said}
-use Rattle.fc_spec.specs.ValidScripts.{asking}
-use Rattle.fc_spec.specs.Walks.{◌>>=◌}
+use Rattle.fc_spec.specs.documents.Schema.{Schema}
+use Rattle.fc_spec.specs.queries.Query.{all}
+use Rattle.fc_spec.specs.requests.Request.{no_nodes, Request}
+use Rattle.fc_spec.specs.requests.RequestFault.{RequestFault}
+use Rattle.fc_spec.specs.scripts.Script.{Line, asks, Script}
+use Rattle.fc_spec.specs.scripts.ScriptFault.{LineFault, ScriptFault}
+use Rattle.fc_spec.specs.scripts.ScriptTotals.{Limits, script_limits}
+use Rattle.fc_spec.specs.scripts.ScriptReading.{Numbered, numbered_lines, schema_on, script_of, value_on}
+use Rattle.fc_spec.specs.scripts.LineReading.{line_said}
+use Rattle.fc_spec.specs.scripts.ValidScripts.{asking}
+use Rattle.fc_spec.specs.words.Walks.{◌>>=◌}
 use Rattle.fc_script.specs.Refusals.{Refused, not_built, refused, FirstFault}
 use Rattle.fc_script.specs.Requests.{request_of}
 

@@ -1,10 +1,10 @@
 -- What is counted over the lines of a script.
 use Rattle.std.specs.Prelude.{◌≡◌, ◌<◌, ◌≤◌, ℕ, List, count_by, length, slice_index, All, IfSome}
 use Rattle.std.specs.List.{filter_map}
-use Rattle.fc_spec.specs.Schema.{Schema}
-use Rattle.fc_spec.specs.Script.{Line, add, commit, sync, asks, is_sync, commits_shard}
-use Rattle.fc_spec.specs.ScriptTotals.{Limits, added, sessions, total_limit}
-use Rattle.fc_spec.specs.ValidBlocks.{IsBlockOf}
+use Rattle.fc_spec.specs.documents.Schema.{Schema}
+use Rattle.fc_spec.specs.scripts.Script.{Line, add, commit, sync, asks, is_sync, commits_shard}
+use Rattle.fc_spec.specs.scripts.ScriptTotals.{Limits, added, sessions, total_limit}
+use Rattle.fc_spec.specs.documents.ValidBlocks.{IsBlockOf}
 use Rattle.fc_script.specs.DocumentCounts.{AreDocumentCounts}
 use Rattle.fc_script.specs.ReadSoFar.{AskedLine}
 use Rattle.fc_script.specs.declared.counts.Counts.{Counts}

@@ -1,8 +1,8 @@
 -- What is counted over the documents of blocks.
 use Rattle.std.specs.Prelude.{◌≡◌, ◌≤◌, ℕ, List, length, map, slice_index, All, false}
-use Rattle.fc_spec.specs.Document.{Block}
-use Rattle.fc_spec.specs.Totals.{documents_in}
-use Rattle.fc_spec.specs.ScriptTotals.{Limits, ids_in, has_repeat, absolute_total, total_limit}
+use Rattle.fc_spec.specs.documents.Document.{Block}
+use Rattle.fc_spec.specs.documents.Totals.{documents_in}
+use Rattle.fc_spec.specs.scripts.ScriptTotals.{Limits, ids_in, has_repeat, absolute_total, total_limit}
 use Rattle.fc_base.specs.View.{val_view}
 use Rattle.fc_script.specs.Ids.{AreIdsOf}
 use Rattle.fc_script.specs.Left.{limits_with}

@@ -1,11 +1,11 @@
 -- The ids of a script's documents so far, and whether more are new.
 use Rattle.std.specs.Prelude.{◌≡◌, List, ◌&&◌, ◌||◌, Bool, not, Result, Ok, Err, if◌then◌else◌}
 use Rattle.std.specs.List.{flat_map, list_any}
-use Rattle.fc_spec.specs.Val.{Val, has_val}
-use Rattle.fc_spec.specs.Document.{Block}
-use Rattle.fc_spec.specs.Totals.{documents_of}
-use Rattle.fc_spec.specs.ScriptFault.{LineFault, duplicate_id}
-use Rattle.fc_spec.specs.ScriptTotals.{ids_in, has_repeat}
+use Rattle.fc_spec.specs.documents.Val.{Val, has_val}
+use Rattle.fc_spec.specs.documents.Document.{Block}
+use Rattle.fc_spec.specs.documents.Totals.{documents_of}
+use Rattle.fc_spec.specs.scripts.ScriptFault.{LineFault, duplicate_id}
+use Rattle.fc_spec.specs.scripts.ScriptTotals.{ids_in, has_repeat}
 
 -- the `id` values of a block's documents, children and parent alike
 abbrev pub ids_of : Block → List Val

@@ -1,9 +1,9 @@
 -- What is left of the limits on documents and values, and of a script's lines.
 use Rattle.std.specs.Prelude.{ℕ, ◌+◌, ◌-◌, List, length, ◌&&◌, nat_le, Option, None, Some, if◌then◌else◌}
-use Rattle.fc_spec.specs.Val.{Text}
-use Rattle.fc_spec.specs.Document.{Block}
-use Rattle.fc_spec.specs.Totals.{documents_of, document_total, value_count, value_total}
-use Rattle.fc_spec.specs.ScriptTotals.{Limits}
+use Rattle.fc_spec.specs.documents.Val.{Text}
+use Rattle.fc_spec.specs.documents.Document.{Block}
+use Rattle.fc_spec.specs.documents.Totals.{documents_of, document_total, value_count, value_total}
+use Rattle.fc_spec.specs.scripts.ScriptTotals.{Limits}
 
 -- what is left of the limits when a block takes its places
 abbrev pub limits_after : Limits → Block → Option Limits

@@ -1,16 +1,16 @@
 -- A script as far as it has been read, and what the lines behind make of it.
 use Rattle.std.specs.Prelude.{ℕ, List, [], ◌∷◌, ◌++◌, length, nat_le, ◌==◌, Result, Ok, Err}
 use Rattle.serde_json.specs.Data.{Data}
-use Rattle.fc_spec.specs.Val.{Text}
-use Rattle.fc_spec.specs.Schema.{Schema}
-use Rattle.fc_spec.specs.Request.{Request}
-use Rattle.fc_spec.specs.RequestFault.{RequestFault}
-use Rattle.fc_spec.specs.Script.{Line, add, commit, sync, asks}
-use Rattle.fc_spec.specs.ScriptFault.{no_schema, too_long}
-use Rattle.fc_spec.specs.ScriptReading.{Numbered, numbered_lines, check_last, schema_on, script_limit, value_on}
-use Rattle.fc_spec.specs.LineReading.{line_said}
-use Rattle.fc_spec.specs.ScriptTotals.{Limits}
-use Rattle.fc_spec.specs.Walks.{◌>>=◌, unless, with_fault}
+use Rattle.fc_spec.specs.documents.Val.{Text}
+use Rattle.fc_spec.specs.documents.Schema.{Schema}
+use Rattle.fc_spec.specs.requests.Request.{Request}
+use Rattle.fc_spec.specs.requests.RequestFault.{RequestFault}
+use Rattle.fc_spec.specs.scripts.Script.{Line, add, commit, sync, asks}
+use Rattle.fc_spec.specs.scripts.ScriptFault.{no_schema, too_long}
+use Rattle.fc_spec.specs.scripts.ScriptReading.{Numbered, numbered_lines, check_last, schema_on, script_limit, value_on}
+use Rattle.fc_spec.specs.scripts.LineReading.{line_said}
+use Rattle.fc_spec.specs.scripts.ScriptTotals.{Limits}
+use Rattle.fc_spec.specs.words.Walks.{◌>>=◌, unless, with_fault}
 use Rattle.fc_script.specs.Refusals.{Refused, not_built, refused, FirstFault}
 use Rattle.fc_script.specs.Requests.{request_of}
 use Rattle.fc_script.specs.Built.{AskedScript}

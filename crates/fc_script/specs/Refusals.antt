@@ -1,10 +1,10 @@
 -- Why a script is refused today, and the line that says it.
 use Rattle.std.specs.Prelude.{ℕ, codes}
 use Rattle.serde_json.specs.Data.{no_members, string as json_string, put}
-use Rattle.fc_spec.specs.Val.{Text}
-use Rattle.fc_spec.specs.Json.{natural_data}
-use Rattle.fc_spec.specs.Lines.{line_of, fault_line}
-use Rattle.fc_spec.specs.ScriptFault.{LineFault, not_json, too_long}
+use Rattle.fc_spec.specs.documents.Val.{Text}
+use Rattle.fc_spec.specs.replies.Json.{natural_data}
+use Rattle.fc_spec.specs.scripts.Lines.{line_of, fault_line}
+use Rattle.fc_spec.specs.scripts.ScriptFault.{LineFault, not_json, too_long}
 
 -- a fault of scripts, or that something is not built yet
 pub data Refused : Type 0 where

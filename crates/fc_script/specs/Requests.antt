@@ -3,15 +3,15 @@ use Rattle.std.specs.Prelude.{ℕ, negsuc, List, [], ◌∷◌, codes, Bool, tru
 use Rattle.std.specs.Ordering.{int_eq}
 use Rattle.serde_json.specs.Data.{Data, array, object, Items, no_items, item, Members, no_members, member}
 use Rattle.serde_json.specs.Find.{get, get_member, as_number, as_object, as_str, as_i64}
-use Rattle.fc_spec.specs.Val.{Text, same_text}
-use Rattle.fc_spec.specs.Schema.{Schema, field_named}
-use Rattle.fc_spec.specs.JsonObjects.{natural_in, only_names, has_members, has_text}
-use Rattle.fc_spec.specs.Query.{Query, all}
-use Rattle.fc_spec.specs.QueryTexts.{query_of, IsReadingOf}
-use Rattle.fc_spec.specs.FilterReading.{filter_of, filter_parts}
-use Rattle.fc_spec.specs.Request.{Kind, terms, stay, by_index, Nodes, no_nodes, facet, Filter, Request, Terms}
-use Rattle.fc_spec.specs.QueryFault.{QueryFault}
-use Rattle.fc_spec.specs.Walks.{◌>>=◌, unless, with_fault}
+use Rattle.fc_spec.specs.documents.Val.{Text, same_text}
+use Rattle.fc_spec.specs.documents.Schema.{Schema, field_named}
+use Rattle.fc_spec.specs.scripts.JsonObjects.{natural_in, only_names, has_members, has_text}
+use Rattle.fc_spec.specs.queries.Query.{Query, all}
+use Rattle.fc_spec.specs.queries.QueryTexts.{query_of, IsReadingOf}
+use Rattle.fc_spec.specs.queries.FilterReading.{filter_of, filter_parts}
+use Rattle.fc_spec.specs.requests.Request.{Kind, terms, stay, by_index, Nodes, no_nodes, facet, Filter, Request, Terms}
+use Rattle.fc_spec.specs.queries.QueryFault.{QueryFault}
+use Rattle.fc_spec.specs.words.Walks.{◌>>=◌, unless, with_fault}
 use Rattle.fc_script.specs.Refusals.{Refused, not_built}
 
 -- ---- the facet

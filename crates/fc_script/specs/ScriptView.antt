@@ -3,9 +3,9 @@ use Rattle.std.specs.Prelude.{◌≡◌, suc, List, map, not, Ok}
 use Rattle.std.specs.List.{filter, enumerate_from}
 use Rattle.serde_json.specs.Data.{Data}
 use Rattle.serde_json.specs.View.{view}
-use Rattle.fc_spec.specs.ScriptFault as fault
-use Rattle.fc_spec.specs.ScriptReading.{Numbered, is_silent}
-use Rattle.fc_spec.specs.Script.{Line, add, commit, sync, asks}
+use Rattle.fc_spec.specs.scripts.ScriptFault as fault
+use Rattle.fc_spec.specs.scripts.ScriptReading.{Numbered, is_silent}
+use Rattle.fc_spec.specs.scripts.Script.{Line, add, commit, sync, asks}
 use Rattle.fc_docs.specs.View.{block_view, fault_view}
 use Rattle.fc_script.specs.Left.{Left}
 use Rattle.fc_script.specs.Built.{AskedScript}

@@ -1,7 +1,7 @@
 -- What is known of requests that were read.
 use Rattle.std.specs.Prelude.{◌<◌, length, All, IfSome}
-use Rattle.fc_spec.specs.Schema.{Schema}
-use Rattle.fc_spec.specs.ValidQueries.{IsValidQuery}
+use Rattle.fc_spec.specs.documents.Schema.{Schema}
+use Rattle.fc_spec.specs.queries.ValidQueries.{IsValidQuery}
 use Rattle.fc_query.specs.QueryView.{query_view}
 use Rattle.fc_script.specs.declared.request.Request.{Request}
 use Rattle.fc_script.specs.declared.line.asked.Line.{Line}

@@ -2,10 +2,10 @@
 use Rattle.std.specs.Prelude.{ℕ, codes, map, Option, option_map}
 use Rattle.fc_base.specs.declared.error.Refusal.{Refusal}
 use Rattle.fc_base.specs.declared.error.Refusal.TheVariants as refusal
-use Rattle.fc_spec.specs.Val.{Text}
-use Rattle.fc_spec.specs.ScriptFault.{not_json, too_long, line_fault_name, line_fault_number}
-use Rattle.fc_spec.specs.Request as definition
-use Rattle.fc_spec.specs.ScriptTotals as totals
+use Rattle.fc_spec.specs.documents.Val.{Text}
+use Rattle.fc_spec.specs.scripts.ScriptFault.{not_json, too_long, line_fault_name, line_fault_number}
+use Rattle.fc_spec.specs.requests.Request as definition
+use Rattle.fc_spec.specs.scripts.ScriptTotals as totals
 use Rattle.fc_query.specs.FilterView.{filter_view}
 use Rattle.fc_query.specs.QueryView.{query_view}
 use Rattle.fc_script.specs.Requests as plain

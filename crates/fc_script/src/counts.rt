@@ -1,7 +1,7 @@
 // What is counted over the lines of a script.
 ghost use Rattle.std.specs.Prelude.{◌≡◌, ℕ, [], ◌∷◌, ◌++◌, IfOk, List};
-ghost use Rattle.fc_spec.specs.ScriptReading.{check_last};
-ghost use Rattle.fc_spec.specs.ScriptTotals as totals;
+ghost use Rattle.fc_spec.specs.scripts.ScriptReading.{check_last};
+ghost use Rattle.fc_spec.specs.scripts.ScriptTotals as totals;
 ghost use Rattle.fc_base.specs.Answers.{Answers};
 ghost use Rattle.fc_script.specs.Counts.{AreCounts, AreWithin, IsLineOf};
 ghost use Rattle.fc_script.specs.ReadSoFar.{AskedLine};

@@ -1,8 +1,8 @@
 // Reading a script from its bytes.
 ghost use Rattle.std.specs.Prelude.{◌≡◌, All, IfOk};
 ghost use Rattle.serde_json.specs.View.{view};
-ghost use Rattle.fc_spec.specs.ScriptReading.{schema_on as schema_of_line, schema_said as schema_of_value};
-ghost use Rattle.fc_spec.specs.ValidScripts.{IsWithin};
+ghost use Rattle.fc_spec.specs.scripts.ScriptReading.{schema_on as schema_of_line, schema_said as schema_of_value};
+ghost use Rattle.fc_spec.specs.scripts.ValidScripts.{IsWithin};
 ghost use Rattle.fc_base.specs.Answers.{Answers};
 ghost use Rattle.fc_script.specs.Built.{outcome_within};
 ghost use Rattle.fc_script.specs.Counts.{IsLineOf};

@@ -1,6 +1,6 @@
 // A script as far as it has been read.
 ghost use Rattle.std.specs.Prelude.{◌≡◌, [], map, All, IfOk};
-ghost use Rattle.fc_spec.specs.ValidScripts.{IsWithin};
+ghost use Rattle.fc_spec.specs.scripts.ValidScripts.{IsWithin};
 ghost use Rattle.fc_base.specs.Answers.{Answers};
 ghost use Rattle.fc_script.specs.Counts.{AreCounts, IsLineOf};
 ghost use Rattle.fc_script.specs.ValidRequests.{IsAskedOf};

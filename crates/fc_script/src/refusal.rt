@@ -2,7 +2,7 @@
 ghost use Rattle.std.specs.Prelude.{◌≡◌, codes, IfOk};
 ghost use Rattle.serde_json.specs.Data.{string, object, no_members, put};
 ghost use Rattle.serde_json.specs.View.{view};
-ghost use Rattle.fc_spec.specs.Json.{natural_data};
+ghost use Rattle.fc_spec.specs.replies.Json.{natural_data};
 ghost use Rattle.fc_script.specs.Refusals.{refused_line as line_of_fault};
 ghost use Rattle.fc_script.specs.View.{fault_view, refused_view, refused_name, refused_number};
 

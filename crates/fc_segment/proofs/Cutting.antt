@@ -1,9 +1,9 @@
 -- Cutting documents behind their parents gives back the blocks.
 use Rattle.std.proofs.Common.{◌≡◌, ◌+◌, List, [], ◌∷◌, ◌++◌, length, replicate, Bool, true, false, refl, sym, ap, ◌∙◌, arith}
 use Rattle.std.proofs.lemmas.List.{append-nil, append_assoc, length-append, length-replicate, length_push, replicate_more}
-use Rattle.fc_spec.specs.Document.{Document, Block}
-use Rattle.fc_spec.specs.Totals.{documents_in, document_total}
-use Rattle.fc_spec.proofs.BlockTotals.{document_total-cons}
+use Rattle.fc_spec.specs.documents.Document.{Document, Block}
+use Rattle.fc_spec.specs.documents.Totals.{documents_in, document_total}
+use Rattle.fc_spec.proofs.documents.BlockTotals.{document_total-cons}
 use Rattle.fc_segment.specs.Parents.{marks_of, parents_in}
 use Rattle.fc_segment.specs.Cut.{cut_behind, cut, ends_with_parent}
 

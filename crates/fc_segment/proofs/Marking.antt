@@ -2,8 +2,8 @@
 use Rattle.std.proofs.Common.{◌≡◌, ℕ, suc, ◌+◌, ◌<◌, List, [], ◌∷◌, ◌++◌, length, get_or, set, take, drop, map, replicate, Bool, true, false, sym, ap, ◌∙◌, arith}
 use Rattle.std.proofs.lemmas.List.{append-nil, append_assoc, length-append, length_push, length-replicate, replicate-append-replicate, set_at, drop_more, map_more}
 use Rattle.std.proofs.lemmas.List.Concat.{flat_map-append}
-use Rattle.fc_spec.specs.Totals.{document_total}
-use Rattle.fc_spec.proofs.BlockTotals.{document_total-cons}
+use Rattle.fc_spec.specs.documents.Totals.{document_total}
+use Rattle.fc_spec.proofs.documents.BlockTotals.{document_total-cons}
 use Rattle.fc_docs.specs.declared.block.Block.{Block}
 use Rattle.fc_docs.specs.View.{block_view}
 use Rattle.fc_segment.specs.Parents.{marks_of, parents_in}

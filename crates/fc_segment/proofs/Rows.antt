@@ -3,14 +3,14 @@ use Rattle.std.proofs.Common.{◌≡◌, ℕ, ◌<◌, List, [], ◌∷◌, ◌+
 use Rattle.std.proofs.lemmas.List.{map-append, get_or-map, length-map, get_or_append_left, get_or_push, length_push}
 use Rattle.std.proofs.lemmas.Option.{slice_get-get_or}
 use Rattle.std.proofs.lemmas.List.Elements.{All-map, All-weaker}
-use Rattle.fc_spec.specs.Val.{Text, Val, text, long}
-use Rattle.fc_spec.specs.Document.{Document, Block, values_of}
-use Rattle.fc_spec.specs.Totals.{documents_of, documents_in}
-use Rattle.fc_spec.specs.Columns.{is_text, IsText, IsLong, texts_in, longs_in, column_of}
-use Rattle.fc_spec.specs.Schema.{FieldType, holds_texts, texts_held, Field, Schema}
-use Rattle.fc_spec.specs.ValidBlocks.{is_value_of, AreValuesOf, IsDocumentOf, IsBlockOf}
-use Rattle.fc_spec.proofs.BlockTotals.{valid_documents_of, valid_documents}
-use Rattle.fc_spec.proofs.ValueKinds.{kind_of_value, texts_whole, longs_whole}
+use Rattle.fc_spec.specs.documents.Val.{Text, Val, text, long}
+use Rattle.fc_spec.specs.documents.Document.{Document, Block, values_of}
+use Rattle.fc_spec.specs.documents.Totals.{documents_of, documents_in}
+use Rattle.fc_spec.specs.documents.Columns.{is_text, IsText, IsLong, texts_in, longs_in, column_of}
+use Rattle.fc_spec.specs.documents.Schema.{FieldType, holds_texts, texts_held, Field, Schema}
+use Rattle.fc_spec.specs.documents.ValidBlocks.{is_value_of, AreValuesOf, IsDocumentOf, IsBlockOf}
+use Rattle.fc_spec.proofs.documents.BlockTotals.{valid_documents_of, valid_documents}
+use Rattle.fc_spec.proofs.documents.ValueKinds.{kind_of_value, texts_whole, longs_whole}
 use Rattle.fc_docs.specs.declared.block.Block.{Block as Code}
 use Rattle.fc_docs.specs.View.{block_view}
 use Rattle.fc_segment.specs.Building.{IsRow}

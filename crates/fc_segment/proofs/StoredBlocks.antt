@@ -3,9 +3,9 @@ use Rattle.std.proofs.Common.{◌≡◌, ℕ, ◌<◌, List, [], length, get_or,
 use Rattle.std.specs.List.{range_with_len}
 use Rattle.std.proofs.lemmas.List.{get_or-map, length-map}
 use Rattle.std.proofs.lemmas.List.FromFn.{length-map-range_with_len, get_or-map-range_with_len}
-use Rattle.fc_spec.specs.Document.{Document, Block, values_of}
-use Rattle.fc_spec.specs.Totals.{documents_in, document_total}
-use Rattle.fc_spec.specs.Columns.{column_of}
+use Rattle.fc_spec.specs.documents.Document.{Document, Block, values_of}
+use Rattle.fc_spec.specs.documents.Totals.{documents_in, document_total}
+use Rattle.fc_spec.specs.documents.Columns.{column_of}
 use Rattle.fc_segment.specs.declared.column.Column.{Column}
 use Rattle.fc_segment.specs.declared.segment.Segment.TheInside.{Inside}
 use Rattle.fc_segment.specs.Columns.{column_values, is_text_column}

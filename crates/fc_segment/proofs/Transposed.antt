@@ -4,9 +4,9 @@ use Rattle.std.specs.List.{range_with_len}
 use Rattle.std.proofs.lemmas.List.{get_or-map, map_push}
 use Rattle.std.proofs.lemmas.List.FromFn.{fill_by_all}
 use Rattle.std.proofs.lemmas.Simd.{map-map}
-use Rattle.fc_spec.specs.Val.{Val}
-use Rattle.fc_spec.specs.Document.{Document}
-use Rattle.fc_spec.specs.Columns.{column_of}
+use Rattle.fc_spec.specs.documents.Val.{Val}
+use Rattle.fc_spec.specs.documents.Document.{Document}
+use Rattle.fc_spec.specs.documents.Columns.{column_of}
 use Rattle.fc_segment.specs.Stored.{document_at, documents_at}
 
 pub column_of-documents_at : (columns : List (List (List Val))) (count field : ℕ) → field < length columns → length (get_or columns field []) ≡ count

@@ -1,7 +1,7 @@
 -- What a column that is being made stands for.
 use Rattle.std.specs.Prelude.{◌≡◌, List, map, All, Bool, true, false}
-use Rattle.fc_spec.specs.Val as definition
-use Rattle.fc_spec.specs.Columns.{IsAscending, is_text}
+use Rattle.fc_spec.specs.documents.Val as definition
+use Rattle.fc_spec.specs.documents.Columns.{IsAscending, is_text}
 use Rattle.fc_segment.specs.declared.builder.Builder.{Builder}
 use Rattle.fc_segment.specs.declared.builder.Builder.TheVariants.{Text, Long}
 

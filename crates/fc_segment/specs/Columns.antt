@@ -1,6 +1,6 @@
 -- What a column stands for.
 use Rattle.std.specs.Prelude.{List, map, Bool, true, false}
-use Rattle.fc_spec.specs.Val as definition
+use Rattle.fc_spec.specs.documents.Val as definition
 use Rattle.fc_segment.specs.declared.column.Column.{Column}
 use Rattle.fc_segment.specs.declared.column.Column.TheVariants.{Text, Long}
 

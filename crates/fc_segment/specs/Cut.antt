@@ -1,6 +1,6 @@
 -- Documents cut into blocks, each block behind its parent.
 use Rattle.std.specs.Prelude.{List, [], ◌∷◌, ◌++◌, Bool, true, false}
-use Rattle.fc_spec.specs.Document.{Document, Block}
+use Rattle.fc_spec.specs.documents.Document.{Document, Block}
 
 -- the blocks of documents, where it is known which of them are parents and which children came before
 abbrev pub cut_behind : List Document → List Bool → List Document → List Block

@@ -1,6 +1,6 @@
 -- What a segment is.
 use Rattle.std.specs.Prelude.{List, Bool}
-use Rattle.fc_spec.specs.Document.{Block}
+use Rattle.fc_spec.specs.documents.Document.{Block}
 
 -- for each field whether it holds texts; and the blocks
 pub record Segmented : Type 0 where

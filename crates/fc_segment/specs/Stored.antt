@@ -1,8 +1,8 @@
 -- What columns stand for, position by position.
 use Rattle.std.specs.Prelude.{◌≡◌, ℕ, List, [], length, map, slice_index_or, All, true}
 use Rattle.std.specs.List.{range_with_len}
-use Rattle.fc_spec.specs.Val.{Val}
-use Rattle.fc_spec.specs.Document.{Document}
+use Rattle.fc_spec.specs.documents.Val.{Val}
+use Rattle.fc_spec.specs.documents.Document.{Document}
 use Rattle.fc_segment.specs.Columns.{column_values, is_text_column}
 use Rattle.fc_segment.specs.Cut.{cut, ends_with_parent}
 use Rattle.fc_segment.specs.Segmented.{Segmented}

@@ -1,8 +1,8 @@
 // Making the column of one field.
 ghost use Rattle.std.specs.Prelude.{◌≡◌, [], ◌∷◌, ◌++◌, map, All, IfOk, OnOk};
-ghost use Rattle.fc_spec.specs.Columns.{column_of};
-ghost use Rattle.fc_spec.specs.Totals.{documents_of};
-ghost use Rattle.fc_spec.specs.Schema.{holds_texts};
+ghost use Rattle.fc_spec.specs.documents.Columns.{column_of};
+ghost use Rattle.fc_spec.specs.documents.Totals.{documents_of};
+ghost use Rattle.fc_spec.specs.documents.Schema.{holds_texts};
 ghost use Rattle.fc_base.specs.View.{field_type_view, val_view};
 ghost use Rattle.fc_docs.specs.View.{block_view};
 ghost use Rattle.fc_segment.specs.Building.{IsRow, builds_texts, values_built};

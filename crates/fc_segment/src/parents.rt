@@ -1,6 +1,6 @@
 // The positions of the parents of a batch.
 ghost use Rattle.std.specs.Prelude.{◌≡◌, ◌^◌, ◌<◌, map, IfOk};
-ghost use Rattle.fc_spec.specs.Totals.{document_total};
+ghost use Rattle.fc_spec.specs.documents.Totals.{document_total};
 ghost use Rattle.fc_docs.specs.View.{block_view};
 ghost use Rattle.fc_segment.specs.Parents.{parents_in};
 

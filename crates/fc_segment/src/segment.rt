@@ -1,10 +1,10 @@
 // Segments.
 ghost use Rattle.std.specs.Prelude.{◌≡◌, ◌<◌, ◌≤◌, length, map, slice_index_or, All, IfOk, false};
 ghost use Rattle.std.specs.List.{range_with_len};
-ghost use Rattle.fc_spec.specs.Columns.{column_of};
-ghost use Rattle.fc_spec.specs.Totals.{document_total, documents_in};
-ghost use Rattle.fc_spec.specs.Schema.{texts_held};
-ghost use Rattle.fc_spec.specs.ValidBlocks.{IsBlockOf};
+ghost use Rattle.fc_spec.specs.documents.Columns.{column_of};
+ghost use Rattle.fc_spec.specs.documents.Totals.{document_total, documents_in};
+ghost use Rattle.fc_spec.specs.documents.Schema.{texts_held};
+ghost use Rattle.fc_spec.specs.documents.ValidBlocks.{IsBlockOf};
 ghost use Rattle.fc_docs.specs.View.{batch_view};
 ghost use Rattle.fc_segment.specs.Columns.{column_values, is_text_column};
 ghost use Rattle.fc_segment.specs.Parents.{parents_in};

@@ -1,7 +1,7 @@
 // Segments of small batches.
 ghost use Rattle.std.specs.Prelude.{◌≡◌, ◌≤◌, ◌*◌, length, All, IfOk};
-ghost use Rattle.fc_spec.specs.Totals.{document_total};
-ghost use Rattle.fc_spec.specs.ValidBlocks.{IsBlockOf};
+ghost use Rattle.fc_spec.specs.documents.Totals.{document_total};
+ghost use Rattle.fc_spec.specs.documents.ValidBlocks.{IsBlockOf};
 ghost use Rattle.fc_docs.specs.View.{batch_view};
 
 use super::*;

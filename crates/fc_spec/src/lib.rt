@@ -4,13 +4,13 @@
 //! asked for.
 #![tactic(auto)]
 
-ghost use Rattle.fc_spec.specs.CombiningLaw.{CombinesLists, CombinesParts};
-ghost use Rattle.fc_spec.specs.JsonValues.{TextsAreJson};
-ghost use Rattle.fc_spec.specs.Merging.{MergesIntoReply};
-ghost use Rattle.fc_spec.specs.QueryReadingLaw.{HasOneReading};
-ghost use Rattle.fc_spec.specs.QuerySpellingLaw.{HasOneTree};
-ghost use Rattle.fc_spec.specs.RefinedPaths.{AreRefinedPathsExact};
-ghost use Rattle.fc_spec.specs.RequestLaws.{
+ghost use Rattle.fc_spec.specs.laws.CombiningLaw.{CombinesLists, CombinesParts};
+ghost use Rattle.fc_spec.specs.scripts.JsonValues.{TextsAreJson};
+ghost use Rattle.fc_spec.specs.laws.Merging.{MergesIntoReply};
+ghost use Rattle.fc_spec.specs.laws.QueryReadingLaw.{HasOneReading};
+ghost use Rattle.fc_spec.specs.laws.QuerySpellingLaw.{HasOneTree};
+ghost use Rattle.fc_spec.specs.laws.RefinedPaths.{AreRefinedPathsExact};
+ghost use Rattle.fc_spec.specs.laws.RequestLaws.{
   ReadAreValid,
   ReadAreValidWhole,
   ScriptsAskValid,
@@ -19,11 +19,11 @@ ghost use Rattle.fc_spec.specs.RequestLaws.{
   ValidHaveFewDepths,
   ValidHaveFewRounds,
 };
-ghost use Rattle.fc_spec.specs.RoundsEnd.{NothingLacksBeyond, RoundsAnswer, RoundsAreFew, RoundsComplete, SearchesEnd};
-ghost use Rattle.fc_spec.specs.ShardAlone.{AnswersFromItsBlocks};
-ghost use Rattle.fc_spec.specs.SortingLaw.{PagesAreCuts, RanksAreFronts};
-ghost use Rattle.fc_spec.specs.SpellingLaw.{HasOneSpelling};
-ghost use Rattle.fc_spec.specs.WithoutLimits.{
+ghost use Rattle.fc_spec.specs.laws.RoundsEnd.{NothingLacksBeyond, RoundsAnswer, RoundsAreFew, RoundsComplete, SearchesEnd};
+ghost use Rattle.fc_spec.specs.laws.ShardAlone.{AnswersFromItsBlocks};
+ghost use Rattle.fc_spec.specs.laws.SortingLaw.{PagesAreCuts, RanksAreFronts};
+ghost use Rattle.fc_spec.specs.laws.SpellingLaw.{HasOneSpelling};
+ghost use Rattle.fc_spec.specs.laws.WithoutLimits.{
   IsExactOverSingle,
   IsExactWithoutLimits,
   IsSingleWithoutLimits,

@@ -2,7 +2,7 @@
 ghost use Rattle.std.specs.Prelude.{◌≡◌, ◌<◌, IfOk, length, map, option_and_then, option_map};
 ghost use Rattle.std.specs.List.{list_all};
 ghost use Rattle.serde_json.specs.View.{view, members_view};
-ghost use Rattle.fc_spec.specs.SchemaReading.{shards_of, type_named, type_for, field_of, fields_of, is_field_name, is_name_byte, is_underscored, schema_of, with_id};
+ghost use Rattle.fc_spec.specs.documents.SchemaReading.{shards_of, type_named, type_for, field_of, fields_of, is_field_name, is_name_byte, is_underscored, schema_of, with_id};
 ghost use Rattle.fc_base.specs.Answers.{Answers, one_fault, or_fault};
 ghost use Rattle.fc_base.specs.ValidSchema.{IsFieldList};
 ghost use Rattle.fc_base.specs.View.{field_view, field_type_view};

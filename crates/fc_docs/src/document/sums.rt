@@ -1,7 +1,7 @@
 // The absolute values of a document's integers, added to the sums of their fields.
 ghost use Rattle.std.specs.Prelude.{◌≡◌, ℕ, ◌+◌, ◌≤◌, All, Decides, length, map, nat_le, slice_index, slice_set, if◌then◌else◌};
 ghost use Rattle.std.specs.Bool.{OnTrue};
-ghost use Rattle.fc_spec.specs.ScriptTotals.{total_limit};
+ghost use Rattle.fc_spec.specs.scripts.ScriptTotals.{total_limit};
 ghost use Rattle.fc_base.specs.View.{val_view};
 ghost use Rattle.fc_docs.specs.Fields.{Ascend};
 ghost use Rattle.fc_docs.specs.Sums.{absolute_kept, absolute_row, absolute_value};

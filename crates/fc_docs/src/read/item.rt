@@ -1,11 +1,11 @@
 // One value of a field.
 ghost use Rattle.std.specs.Prelude.{IfOk, IsTrue};
 ghost use Rattle.serde_json.specs.View.{view};
-ghost use Rattle.fc_spec.specs.DocFault.{long_term};
-ghost use Rattle.fc_spec.specs.Walks.{unless};
-ghost use Rattle.fc_spec.specs.BlockReading.{is_term, long_item, text_item, value_of};
-ghost use Rattle.fc_spec.specs.ValidBlocks.{is_value_of};
-ghost use Rattle.fc_spec.specs.Schema.{string, plong};
+ghost use Rattle.fc_spec.specs.documents.DocFault.{long_term};
+ghost use Rattle.fc_spec.specs.words.Walks.{unless};
+ghost use Rattle.fc_spec.specs.documents.BlockReading.{is_term, long_item, text_item, value_of};
+ghost use Rattle.fc_spec.specs.documents.ValidBlocks.{is_value_of};
+ghost use Rattle.fc_spec.specs.documents.Schema.{string, plong};
 ghost use Rattle.fc_base.specs.Answers.{Answers};
 ghost use Rattle.fc_base.specs.View.{field_type_view, val_view};
 ghost use Rattle.fc_docs.specs.View.{fault_view};

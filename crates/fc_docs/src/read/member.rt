@@ -1,8 +1,8 @@
 // Which field a member of a document gives values to.
 ghost use Rattle.std.specs.Prelude.{◌≡◌, ◌<◌, ◌&&◌, IfOk, IfSome, length, nat_le, option_map};
 ghost use Rattle.serde_json.specs.View.{view};
-ghost use Rattle.fc_spec.specs.BlockReading.{holds_nothing};
-ghost use Rattle.fc_spec.specs.SchemaReading.{is_underscored};
+ghost use Rattle.fc_spec.specs.documents.BlockReading.{holds_nothing};
+ghost use Rattle.fc_spec.specs.documents.SchemaReading.{is_underscored};
 ghost use Rattle.fc_base.specs.Answers.{Answers};
 ghost use Rattle.fc_docs.specs.Members.{field_given};
 ghost use Rattle.fc_docs.specs.View.{fault_view, role_view};

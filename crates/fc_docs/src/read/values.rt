@@ -1,9 +1,9 @@
 // The values of one member.
 ghost use Rattle.std.specs.Prelude.{◌≡◌, All, IfOk, IsTrue};
 ghost use Rattle.serde_json.specs.View.{view, items_view};
-ghost use Rattle.fc_spec.specs.Walks.{each};
-ghost use Rattle.fc_spec.specs.BlockReading.{items_in, takes, value_of, values_for, without_nulls};
-ghost use Rattle.fc_spec.specs.ValidBlocks.{AreValuesOf, is_value_of};
+ghost use Rattle.fc_spec.specs.words.Walks.{each};
+ghost use Rattle.fc_spec.specs.documents.BlockReading.{items_in, takes, value_of, values_for, without_nulls};
+ghost use Rattle.fc_spec.specs.documents.ValidBlocks.{AreValuesOf, is_value_of};
 ghost use Rattle.fc_base.specs.Answers.{Answers};
 ghost use Rattle.fc_base.specs.View.{field_type_view, val_view};
 ghost use Rattle.fc_docs.specs.View.{fault_view, values_view};

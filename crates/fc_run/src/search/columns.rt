@@ -1,6 +1,6 @@
 // How many documents of a segment have each value of a field.
 ghost use Rattle.std.specs.Prelude.{◌≡◌, ℕ, ℤ, ◌+◌, ◌==◌, ◌<◌, ◌≤◌, ◌^◌, length, map, replicate, slice_index, slice_index_or, count_by, All, EachIndex, IfOk, OnOk};
-ghost use Rattle.fc_spec.specs.Val.{Text, text, long, same_text};
+ghost use Rattle.fc_spec.specs.documents.Val.{Text, text, long, same_text};
 ghost use Rattle.fc_segment.specs.Columns.{column_values};
 ghost use Rattle.fc_column.specs.Terms.{terms_of};
 ghost use Rattle.fc_run.specs.Term.{term_view};

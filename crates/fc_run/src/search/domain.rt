@@ -1,7 +1,7 @@
 // The root domain of a request in a segment.
 ghost use Rattle.std.specs.Prelude.{◌≡◌, [], map, IfOk};
-ghost use Rattle.fc_spec.specs.Base.{meets_base};
-ghost use Rattle.fc_spec.specs.Totals.{documents_in};
+ghost use Rattle.fc_spec.specs.requests.Base.{meets_base};
+ghost use Rattle.fc_spec.specs.documents.Totals.{documents_in};
 ghost use Rattle.fc_run.specs.Fitting.{Fits};
 ghost use Rattle.fc_script.specs.View.{request_view};
 

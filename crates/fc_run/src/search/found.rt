@@ -1,8 +1,8 @@
 // What a search finds in segments.
 ghost use Rattle.std.specs.Prelude.{◌≡◌, ◌+◌, ◌^◌, ◌<◌, ◌≤◌, length, map, All, IfOk, IfSome, OnOk, option_map};
 ghost use Rattle.std.specs.List.{items_where_true};
-ghost use Rattle.fc_spec.specs.Lists.{joined};
-ghost use Rattle.fc_spec.specs.Totals.{document_total, documents_in};
+ghost use Rattle.fc_spec.specs.words.Lists.{joined};
+ghost use Rattle.fc_spec.specs.documents.Totals.{document_total, documents_in};
 ghost use Rattle.fc_run.specs.Fitting.{AreDifferentIn, Fits};
 ghost use Rattle.fc_run.specs.Found.{asked_values, Finds};
 ghost use Rattle.fc_run.specs.PlainReply.{asked_counts, root_documents};

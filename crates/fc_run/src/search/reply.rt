@@ -2,12 +2,12 @@
 ghost use Rattle.std.specs.Prelude.{◌≡◌, ◌≤◌, [], ◌∷◌, length, map, codes, All, Some, option_map, IfOk};
 ghost use Rattle.serde_json.specs.Data.{string, array, object, member, no_members, put};
 ghost use Rattle.serde_json.specs.View.{view};
-ghost use Rattle.fc_spec.specs.Lists.{joined};
-ghost use Rattle.fc_spec.specs.Totals.{document_total};
-ghost use Rattle.fc_spec.specs.Reply.{bucket, no_facets};
-ghost use Rattle.fc_spec.specs.Json.{natural_data, val_data, bucket_data, listed_items};
-ghost use Rattle.fc_spec.specs.Lines.{numbers_data, reply_line};
-ghost use Rattle.fc_spec.specs.Distributed.{distributed};
+ghost use Rattle.fc_spec.specs.words.Lists.{joined};
+ghost use Rattle.fc_spec.specs.documents.Totals.{document_total};
+ghost use Rattle.fc_spec.specs.replies.Reply.{bucket, no_facets};
+ghost use Rattle.fc_spec.specs.replies.Json.{natural_data, val_data, bucket_data, listed_items};
+ghost use Rattle.fc_spec.specs.scripts.Lines.{numbers_data, reply_line};
+ghost use Rattle.fc_spec.specs.replies.Distributed.{distributed};
 ghost use Rattle.fc_run.specs.Fitting.{AreDifferentIn, Fits};
 ghost use Rattle.fc_run.specs.PlainReply.{counted_row, reply_with, IsPlainOnOneShard};
 ghost use Rattle.fc_run.specs.Tally.{tally_view};

@@ -2,7 +2,7 @@
 ghost use Rattle.std.specs.Prelude.{◌≡◌, refl};
 ghost use Rattle.std.specs.Cmp.{partial_equiv_from_equiv};
 ghost use Rattle.std.specs.Ordering.{on, as_partial_cmp};
-ghost use Rattle.fc_spec.specs.Val.{val_cmp, same_val};
+ghost use Rattle.fc_spec.specs.documents.Val.{val_cmp, same_val};
 ghost use Rattle.fc_run.specs.Term.{term_view, terms_equiv, terms_po, terms_total};
 
 use fc_base::Name;

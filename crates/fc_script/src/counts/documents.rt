@@ -2,11 +2,11 @@
 ghost use Rattle.std.specs.Prelude.{◌≡◌, ◌+◌, ◌≤◌, ℕ, [], ◌∷◌, ◌++◌, length, map, nat_le, slice_index, All, IfOk, List};
 ghost use Rattle.std.specs.Bool.{OnTrue};
 ghost use Rattle.std.specs.List.{list_all, range_with_len};
-ghost use Rattle.fc_spec.specs.Document as definition;
-ghost use Rattle.fc_spec.specs.ScriptReading.{check_documents};
-ghost use Rattle.fc_spec.specs.ScriptTotals as totals;
-ghost use Rattle.fc_spec.specs.Totals.{documents_in, documents_of};
-ghost use Rattle.fc_spec.specs.ValidBlocks.{IsBlockOf};
+ghost use Rattle.fc_spec.specs.documents.Document as definition;
+ghost use Rattle.fc_spec.specs.scripts.ScriptReading.{check_documents};
+ghost use Rattle.fc_spec.specs.scripts.ScriptTotals as totals;
+ghost use Rattle.fc_spec.specs.documents.Totals.{documents_in, documents_of};
+ghost use Rattle.fc_spec.specs.documents.ValidBlocks.{IsBlockOf};
 ghost use Rattle.fc_base.specs.Answers.{Answers};
 ghost use Rattle.fc_docs.specs.View.{block_view};
 ghost use Rattle.fc_script.specs.DocumentCounts.{AreDocumentCounts};

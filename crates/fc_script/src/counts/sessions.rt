@@ -1,7 +1,7 @@
 // The sessions of a script.
 ghost use Rattle.std.specs.Prelude.{◌≡◌, ◌≤◌, length, map, nat_le, true, IfOk};
 ghost use Rattle.std.specs.List.{list_any};
-ghost use Rattle.fc_spec.specs.Val.{same_text};
+ghost use Rattle.fc_spec.specs.documents.Val.{same_text};
 ghost use Rattle.fc_script.specs.Sessions.{with_session};
 
 use fc_base::{Name, WantMemory};

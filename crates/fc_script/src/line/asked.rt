@@ -1,7 +1,7 @@
 // Lines whose requests are read.
 ghost use Rattle.std.specs.Prelude.{IfOk};
 ghost use Rattle.serde_json.specs.View.{view};
-ghost use Rattle.fc_spec.specs.Script.{asks};
+ghost use Rattle.fc_spec.specs.scripts.Script.{asks};
 ghost use Rattle.fc_base.specs.Answers.{Answers};
 ghost use Rattle.fc_script.specs.Counts.{IsLineOf};
 ghost use Rattle.fc_script.specs.ValidRequests.{IsAskedOf};

@@ -2,14 +2,14 @@
 ghost use Rattle.std.specs.Prelude.{◌≡◌, ◌<◌, IfOk, IfSome, option_map};
 ghost use Rattle.std.specs.Result.{result_map_both};
 ghost use Rattle.serde_json.specs.View.{view, members_view};
-ghost use Rattle.fc_spec.specs.LineReading as reading;
-ghost use Rattle.fc_spec.specs.BlockReading.{block_of};
-ghost use Rattle.fc_spec.specs.ScriptFault.{bad_document};
-ghost use Rattle.fc_spec.specs.Walks.{with_fault};
+ghost use Rattle.fc_spec.specs.scripts.LineReading as reading;
+ghost use Rattle.fc_spec.specs.documents.BlockReading.{block_of};
+ghost use Rattle.fc_spec.specs.scripts.ScriptFault.{bad_document};
+ghost use Rattle.fc_spec.specs.words.Walks.{with_fault};
 ghost use Rattle.fc_base.specs.Answers.{Answers};
 ghost use Rattle.fc_docs.specs.View.{block_view};
-ghost use Rattle.fc_spec.specs.Schema.{Schema};
-ghost use Rattle.fc_spec.specs.ValidBlocks.{IsBlockOf};
+ghost use Rattle.fc_spec.specs.documents.Schema.{Schema};
+ghost use Rattle.fc_spec.specs.documents.ValidBlocks.{IsBlockOf};
 ghost use Rattle.fc_script.specs.Counts.{IsLineOf};
 ghost use Rattle.fc_script.specs.ScriptView.{line_fault_view, said_view};
 

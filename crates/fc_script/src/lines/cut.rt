@@ -1,7 +1,7 @@
 // The lines of a script's bytes, and the JSON of a line.
 ghost use Rattle.std.specs.Prelude.{◌≡◌, ◌==◌, ◌^◌, ◌<◌, ◌∷◌, suc, length, position, IfOk, OnSome, MatchOption, option_map, []};
 ghost use Rattle.serde_json.specs.View.{view};
-ghost use Rattle.fc_spec.specs.ScriptLines.{lines_of, is_blank as blank, json_of as json};
+ghost use Rattle.fc_spec.specs.scripts.ScriptLines.{lines_of, is_blank as blank, json_of as json};
 
 use fc_base::WantMemory;
 use serde_json::Value;
@@ -60,7 +60,7 @@ pub(crate) struct Lines<'a> {
 
 impl<'a> Model for Lines<'a> {
     ghost use Rattle.std.specs.Prelude.{◌+◌, ◌^◌, ◌<◌, length};
-    ghost use Rattle.fc_spec.specs.ScriptLines.{lines_of};
+    ghost use Rattle.fc_spec.specs.scripts.ScriptLines.{lines_of};
     ghost use Rattle.fc_script.specs.Left.{Left};
 
     ghost Value = { Left };

@@ -1,7 +1,7 @@
 // The lines of a script that say something, and the JSON of a line.
 ghost use Rattle.std.specs.Prelude.{◌≡◌, ◌∷◌, ◌<◌, ◌≤◌, [], length, nat_le, MatchOption, OnSome};
 ghost use Rattle.serde_json.specs.View.{view};
-ghost use Rattle.fc_spec.specs.ScriptReading.{value_on as defined, is_silent as silent};
+ghost use Rattle.fc_spec.specs.scripts.ScriptReading.{value_on as defined, is_silent as silent};
 ghost use Rattle.fc_base.specs.Answers.{Answers};
 ghost use Rattle.fc_script.specs.ScriptView.{line_fault_view, lines_left};
 

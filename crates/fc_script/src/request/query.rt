@@ -1,7 +1,7 @@
 // The query of a request.
 ghost use Rattle.std.specs.Prelude.{IfOk, option_map};
 ghost use Rattle.serde_json.specs.View.{view};
-ghost use Rattle.fc_spec.specs.ValidQueries.{IsValidQuery};
+ghost use Rattle.fc_spec.specs.queries.ValidQueries.{IsValidQuery};
 ghost use Rattle.fc_base.specs.Answers.{Answers};
 ghost use Rattle.fc_query.specs.QueryView.{query_view};
 ghost use Rattle.fc_script.specs.Requests as form;

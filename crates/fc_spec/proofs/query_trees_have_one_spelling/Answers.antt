@@ -1,4 +1,4 @@
-use Rattle.fc_spec.proofs.TreesOfTokens.{one_tree}
+use Rattle.fc_spec.proofs.queries.TreesOfTokens.{one_tree}
 use Rattle.fc_spec.proofs.query_trees_have_one_spelling.Goals as goal
 
 pub returns : goal.returns

@@ -1,4 +1,4 @@
-use Rattle.fc_spec.proofs.SortedEntries.{page_is_cut, below_rank_is_front}
+use Rattle.fc_spec.proofs.requests.SortedEntries.{page_is_cut, below_rank_is_front}
 use Rattle.fc_spec.proofs.ranks_are_sorting.Goals as goal
 
 pub returns-clause-pages : goal.returns-clause-pages

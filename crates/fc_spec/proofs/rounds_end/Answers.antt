@@ -1,6 +1,6 @@
-use Rattle.fc_spec.proofs.Beyond.{nothing_lacks_beyond}
-use Rattle.fc_spec.proofs.RoundComplete.{rounds_complete, rounds_answer}
-use Rattle.fc_spec.proofs.SearchEnds.{searches_end, rounds_are_few}
+use Rattle.fc_spec.proofs.messages.Beyond.{nothing_lacks_beyond}
+use Rattle.fc_spec.proofs.messages.RoundComplete.{rounds_complete, rounds_answer}
+use Rattle.fc_spec.proofs.messages.SearchEnds.{searches_end, rounds_are_few}
 use Rattle.fc_spec.proofs.rounds_end.Goals as goal
 
 pub returns-clause-complete : goal.returns-clause-complete

@@ -3,14 +3,14 @@ use Rattle.std.specs.Prelude.{◌≡◌, ℕ, ℤ, List, [], ◌∷◌, Bool, fa
 use Prim.Native.String.{String}
 use Rattle.std.specs.Fmt.{digits}
 use Rattle.serde_json.proofs.OnLiterals.{serde_json_on_literals}
-use Rattle.fc_spec.specs.Val.{Text, Val, text, long}
-use Rattle.fc_spec.specs.Document.{Document, Block}
-use Rattle.fc_spec.specs.Query.{Query, all, is}
-use Rattle.fc_spec.specs.World.{World}
-use Rattle.fc_spec.specs.Request.{Filter, stay, DomainChange, Sort, by_count, by_index, by_statistic, Terms, Range, StatKind, Stat, Kind, Facet, Nodes, Request}
-use Rattle.fc_spec.specs.Exact.{exact}
-use Rattle.fc_spec.specs.Distributed.{distributed}
-use Rattle.fc_spec.specs.Json.{facets_text}
+use Rattle.fc_spec.specs.documents.Val.{Text, Val, text, long}
+use Rattle.fc_spec.specs.documents.Document.{Document, Block}
+use Rattle.fc_spec.specs.queries.Query.{Query, all, is}
+use Rattle.fc_spec.specs.documents.World.{World}
+use Rattle.fc_spec.specs.requests.Request.{Filter, stay, DomainChange, Sort, by_count, by_index, by_statistic, Terms, Range, StatKind, Stat, Kind, Facet, Nodes, Request}
+use Rattle.fc_spec.specs.replies.Exact.{exact}
+use Rattle.fc_spec.specs.replies.Distributed.{distributed}
+use Rattle.fc_spec.specs.replies.Json.{facets_text}
 
 -- what an answer unfolds to compute the text of a literal
 unfoldable pub written : ⊤

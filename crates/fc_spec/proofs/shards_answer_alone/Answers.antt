@@ -1,4 +1,4 @@
-use Rattle.fc_spec.proofs.OwnBlocks.{answers_from_its_blocks}
+use Rattle.fc_spec.proofs.messages.OwnBlocks.{answers_from_its_blocks}
 use Rattle.fc_spec.proofs.shards_answer_alone.Goals as goal
 
 pub returns : goal.returns

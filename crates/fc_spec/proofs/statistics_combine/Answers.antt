@@ -1,5 +1,5 @@
-use Rattle.fc_spec.proofs.Statistics.{stats_over-append}
-use Rattle.fc_spec.proofs.StatisticsOfParts.{stats_over_parts}
+use Rattle.fc_spec.proofs.requests.Statistics.{stats_over-append}
+use Rattle.fc_spec.proofs.requests.StatisticsOfParts.{stats_over_parts}
 use Rattle.fc_spec.proofs.statistics_combine.Goals as goal
 
 pub returns-clause-lists : goal.returns-clause-lists

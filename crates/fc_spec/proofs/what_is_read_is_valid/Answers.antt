@@ -1,5 +1,5 @@
-use Rattle.fc_spec.proofs.ValidSearches.{scripts_ask_valid}
-use Rattle.fc_spec.proofs.ValidWalk.{read_are_valid, read_are_valid_whole}
+use Rattle.fc_spec.proofs.scripts.ValidSearches.{scripts_ask_valid}
+use Rattle.fc_spec.proofs.requests.ValidWalk.{read_are_valid, read_are_valid_whole}
 use Rattle.fc_spec.proofs.what_is_read_is_valid.Goals as goal
 
 pub returns-clause-parts : goal.returns-clause-parts

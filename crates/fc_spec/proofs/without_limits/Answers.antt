@@ -1,5 +1,5 @@
-use Rattle.fc_spec.proofs.NoLimits.{exact_without_limits}
-use Rattle.fc_spec.proofs.SingleIndex.{exact_over_single, single_without_limits}
+use Rattle.fc_spec.proofs.replies.NoLimits.{exact_without_limits}
+use Rattle.fc_spec.proofs.replies.SingleIndex.{exact_over_single, single_without_limits}
 use Rattle.fc_spec.proofs.without_limits.Goals as goal
 
 pub returns-clause-same_world : goal.returns-clause-same_world

@@ -1,8 +1,8 @@
 use Rattle.std.proofs.Common.{◌≡◌, false, true, sym, ◌∙◌, ap, map, string_bytes}
 use Rattle.std.specs.List.{list_any}
 use Rattle.serde_json.specs.View.{members_view}
-use Rattle.fc_spec.specs.Val.{same_text}
-use Rattle.fc_spec.specs.JsonObjects.{only_names}
+use Rattle.fc_spec.specs.documents.Val.{same_text}
+use Rattle.fc_spec.specs.scripts.JsonObjects.{only_names}
 use Rattle.fc_base.proofs.JsonObjects.{among, not_among}
 use Rattle.fc_base.proofs.json.has_only.Goals as goal
 

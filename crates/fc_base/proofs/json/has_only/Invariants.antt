@@ -1,6 +1,6 @@
 use Rattle.std.proofs.Common.{◌≡◌, map}
 use Rattle.serde_json.specs.View.{members_view}
-use Rattle.fc_spec.specs.JsonObjects.{only_names}
+use Rattle.fc_spec.specs.scripts.JsonObjects.{only_names}
 use Rattle.fc_base.proofs.json.has_only.Given as goal
 
 abbrev pub invariant-loop-name : goal.invariant-loop-name

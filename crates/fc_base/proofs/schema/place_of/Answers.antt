@@ -1,6 +1,6 @@
 use Rattle.std.proofs.Common.{◌∙◌, rules}
 use Rattle.std.proofs.lemmas.Fn.{always_returns_same}
-use Rattle.fc_spec.specs.Val.{text_cmp}
+use Rattle.fc_spec.specs.documents.Val.{text_cmp}
 use Rattle.fc_base.proofs.Searching.{search_gives}
 use Rattle.fc_base.proofs.schema.place_of.Goals as goal
 

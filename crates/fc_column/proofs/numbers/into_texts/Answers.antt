@@ -1,7 +1,7 @@
 use Rattle.std.proofs.Common.{◌≡◌, subst, sym, rules}
 use Rattle.std.proofs.lemmas.Map.Keys.{Less-from_sorted}
-use Rattle.fc_spec.specs.Val.{text_cmp}
-use Rattle.fc_spec.specs.Columns.{IsAscending}
+use Rattle.fc_spec.specs.documents.Val.{text_cmp}
+use Rattle.fc_spec.specs.documents.Columns.{IsAscending}
 use Rattle.fc_column.proofs.Numberings.{texts_of}
 use Rattle.fc_column.proofs.numbers.into_texts.Goals as goal
 

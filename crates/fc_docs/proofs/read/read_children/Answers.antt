@@ -1,9 +1,9 @@
 use Rattle.std.proofs.Common.{◌∙◌, ◌+◌, ap, drop}
 use Rattle.std.proofs.lemmas.List.Elements.{All-push}
 use Rattle.serde_json.specs.View.{view, items_view}
-use Rattle.fc_spec.specs.Walks.{each}
-use Rattle.fc_spec.specs.BlockReading.{all_items, as_child, document_of}
-use Rattle.fc_spec.specs.ValidBlocks.{IsDocumentOf}
+use Rattle.fc_spec.specs.words.Walks.{each}
+use Rattle.fc_spec.specs.documents.BlockReading.{all_items, as_child, document_of}
+use Rattle.fc_spec.specs.documents.ValidBlocks.{IsDocumentOf}
 use Rattle.fc_docs.proofs.Items.{behind, one_more, next_item}
 use Rattle.fc_docs.proofs.read.read_children.Goals as goal
 

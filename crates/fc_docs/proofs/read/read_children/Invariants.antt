@@ -1,8 +1,8 @@
 use Rattle.std.proofs.Common.{◌≡◌, All, drop}
 use Rattle.serde_json.specs.View.{items_view}
-use Rattle.fc_spec.specs.Walks.{each}
-use Rattle.fc_spec.specs.BlockReading.{all_items, as_child, document_of}
-use Rattle.fc_spec.specs.ValidBlocks.{IsDocumentOf}
+use Rattle.fc_spec.specs.words.Walks.{each}
+use Rattle.fc_spec.specs.documents.BlockReading.{all_items, as_child, document_of}
+use Rattle.fc_spec.specs.documents.ValidBlocks.{IsDocumentOf}
 use Rattle.fc_docs.proofs.Items.{behind}
 use Rattle.fc_docs.proofs.read.read_children.Given as goal
 

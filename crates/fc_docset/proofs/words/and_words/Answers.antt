@@ -1,6 +1,6 @@
 use Rattle.std.proofs.Common.{◌==◌, ◌&&◌, refl, ap, ◌∙◌, arith}
 use Rattle.std.specs.Int.{bit_at}
-use Rattle.fc_spec.proofs.WordBits.{has_bit_joined, and_joins}
+use Rattle.fc_spec.proofs.documents.WordBits.{has_bit_joined, and_joins}
 use Rattle.fc_docset.proofs.words.and_words.Goals as goal
 
 pub returns : goal.returns

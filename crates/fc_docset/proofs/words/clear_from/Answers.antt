@@ -1,4 +1,4 @@
-use Rattle.fc_spec.proofs.WordBits.{cleared_past, has_bit-cleared}
+use Rattle.fc_spec.proofs.documents.WordBits.{cleared_past, has_bit-cleared}
 use Rattle.fc_docset.proofs.words.clear_from.Goals as goal
 
 pub returns-then-used-ne0 : goal.returns-then-used-ne0

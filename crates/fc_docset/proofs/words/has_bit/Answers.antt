@@ -1,6 +1,6 @@
 use Rattle.std.proofs.Common.{◌/◌, ◌%◌, ◌==◌, ap, get_or}
 use Rattle.std.proofs.lemmas.Nat.Bits.{shr_and_one}
-use Rattle.fc_spec.specs.Bits.{has_bit}
+use Rattle.fc_spec.specs.documents.Bits.{has_bit}
 use Rattle.fc_docset.proofs.words.has_bit.Goals as goal
 
 pub returns : goal.returns

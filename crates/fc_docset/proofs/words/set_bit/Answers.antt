@@ -1,4 +1,4 @@
-use Rattle.fc_spec.proofs.WordBits.{has_bit-set_one}
+use Rattle.fc_spec.proofs.documents.WordBits.{has_bit-set_one}
 use Rattle.fc_docset.proofs.words.set_bit.Goals as goal
 
 pub returns : goal.returns

@@ -1,6 +1,6 @@
 use Rattle.std.proofs.Common.{◌≡◌, ℤ, ◌&&◌, int_le, w64, to_z, of_z, ◌∙◌, refl, sym, ap₂, rules}
 use Rattle.fc_query.specs.QueryView.{bound_view}
-use Rattle.fc_spec.specs.Val.{long}
+use Rattle.fc_spec.specs.documents.Val.{long}
 use Rattle.fc_domain.specs.Within.{PassesFromTo, meets}
 use Rattle.fc_domain.proofs.LongRows.{longs_pass}
 use Rattle.fc_domain.proofs.longs.select_between.Goals as goal

@@ -5,12 +5,12 @@ use Rattle.fc_base.specs.View.{val_view}
 use Rattle.fc_query.specs.QueryView.{Part, bound_view, clause_step, clauses_view, need_view, query_step, query_view}
 use Rattle.fc_query.specs.declared.query.Clause.{Clause}
 use Rattle.fc_query.specs.declared.query.Query.TheFolds.{fold_out-Clause}
-use Rattle.fc_spec.specs.Query as definition
-use Rattle.fc_spec.specs.Document.{Document, values_of}
-use Rattle.fc_spec.specs.Lists.{is_empty}
-use Rattle.fc_spec.specs.Matching.{answers, matches, same_need}
-use Rattle.fc_spec.specs.Totals.{documents_in}
-use Rattle.fc_spec.specs.Val.{has_val}
+use Rattle.fc_spec.specs.queries.Query as definition
+use Rattle.fc_spec.specs.documents.Document.{Document, values_of}
+use Rattle.fc_spec.specs.words.Lists.{is_empty}
+use Rattle.fc_spec.specs.queries.Matching.{answers, matches, same_need}
+use Rattle.fc_spec.specs.documents.Totals.{documents_in}
+use Rattle.fc_spec.specs.documents.Val.{has_val}
 use Rattle.fc_domain.specs.FieldsFit.{AllFitFields}
 use Rattle.fc_domain.specs.Grouping.{all_taken}
 use Rattle.fc_domain.specs.Within.{has_meeting}

@@ -1,6 +1,6 @@
 use Rattle.std.proofs.Common.{◌≡◌, drop, length}
 use Rattle.fc_query.specs.QueryView.{clauses_view, need_view}
-use Rattle.fc_spec.specs.Totals.{documents_in}
+use Rattle.fc_spec.specs.documents.Totals.{documents_in}
 use Rattle.fc_domain.specs.FieldsFit.{AllFitFields}
 use Rattle.fc_domain.proofs.TakenSoFar.{AreTaken}
 use Rattle.fc_domain.proofs.matching.+matching.Given as goal

@@ -1,8 +1,8 @@
 use Rattle.std.proofs.Common.{nat_le, sym, ap, ◌∙◌}
 use Rattle.fc_column.specs.Terms.{terms_below}
-use Rattle.fc_spec.specs.Matching.{is_above}
-use Rattle.fc_spec.specs.Query.{including, excluding}
-use Rattle.fc_spec.specs.Val.{text}
+use Rattle.fc_spec.specs.queries.Matching.{is_above}
+use Rattle.fc_spec.specs.queries.Query.{including, excluding}
+use Rattle.fc_spec.specs.documents.Val.{text}
 use Rattle.fc_query.specs.QueryView.{bound_view}
 use Rattle.fc_domain.proofs.TextRows.{from_including, from_excluding}
 use Rattle.fc_domain.proofs.texts.first_above.Goals as goal

@@ -1,8 +1,8 @@
 use Rattle.std.proofs.Common.{nat_lt, sym, ap, ◌∙◌}
 use Rattle.fc_column.specs.Terms.{terms_below}
-use Rattle.fc_spec.specs.Matching.{is_below}
-use Rattle.fc_spec.specs.Query.{including, excluding}
-use Rattle.fc_spec.specs.Val.{text}
+use Rattle.fc_spec.specs.queries.Matching.{is_below}
+use Rattle.fc_spec.specs.queries.Query.{including, excluding}
+use Rattle.fc_spec.specs.documents.Val.{text}
 use Rattle.fc_query.specs.QueryView.{bound_view}
 use Rattle.fc_domain.proofs.TextRows.{to_including, to_excluding, to_end}
 use Rattle.fc_domain.proofs.texts.first_beyond.Goals as goal

@@ -1,7 +1,7 @@
 use Rattle.std.proofs.Common.{◌≡◌, ◌∙◌, ap, sym, refl, ◌-◌, map, [], ◌∷◌, ◌++◌, false, true, arith}
 use Rattle.std.proofs.lemmas.List.{map-append}
 use Rattle.std.proofs.lemmas.Result.{err_from_is_err_and}
-use Rattle.fc_spec.specs.TreeReading.{clause_at, deeper_than, group_within}
+use Rattle.fc_spec.specs.queries.TreeReading.{clause_at, deeper_than, group_within}
 use Rattle.fc_query.specs.TreeView.{behind_operator, clause_view, is_end_of, row_of}
 use Rattle.fc_query.proofs.GroupsSoFar.{first_read, no_first, next_read, no_next, next_is_shorter, group_ends, group_is, none_deeper, group_deeper}
 use Rattle.fc_query.proofs.NestedAtoms.{stops_on, no_group, not_closed, is_closed}

@@ -1,5 +1,5 @@
 use Rattle.std.proofs.Common.{◌+◌, ◌*◌, length, map}
-use Rattle.fc_spec.specs.TreeReading.{deeper_than, group_within}
+use Rattle.fc_spec.specs.queries.TreeReading.{deeper_than, group_within}
 use Rattle.fc_query.specs.TreeView.{clause_view, row_of}
 use Rattle.fc_query.proofs.GroupsSoFar.{IsGroupSoFar}
 use Rattle.fc_query.proofs.descent.+descent.Given as goal

@@ -1,5 +1,5 @@
 use Rattle.std.proofs.Common.{◌≡◌, drop}
-use Rattle.fc_spec.specs.QueryMeaning.{mixes_inside}
+use Rattle.fc_spec.specs.queries.QueryMeaning.{mixes_inside}
 use Rattle.fc_query.specs.TreeView.{group_view}
 use Rattle.fc_query.proofs.faults.+mixing.Given as goal
 

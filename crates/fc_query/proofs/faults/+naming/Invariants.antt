@@ -1,5 +1,5 @@
 use Rattle.std.proofs.Common.{◌≡◌, drop}
-use Rattle.fc_spec.specs.QueryMeaning.{has_unknown}
+use Rattle.fc_spec.specs.queries.QueryMeaning.{has_unknown}
 use Rattle.fc_query.specs.TreeView.{group_view}
 use Rattle.fc_query.proofs.faults.+naming.Given as goal
 

@@ -1,7 +1,7 @@
 use Rattle.std.proofs.Common.{◌≡◌, ◌∙◌, Bool, true, false, ◌&&◌, ◌||◌, eqb, ap, sym, codes, string_bytes}
 use Rattle.std.specs.Cmp.Lexicographic.{pointwise, texts_ties}
-use Rattle.fc_spec.specs.Val.{Text, same_text}
-use Rattle.fc_spec.specs.Lists.{is_empty}
+use Rattle.fc_spec.specs.documents.Val.{Text, same_text}
+use Rattle.fc_spec.specs.words.Lists.{is_empty}
 use Rattle.fc_query.proofs.lex.is_no_end.Goals as goal
 
 is_to : (t s : Text) (plain r : Bool) → is_empty s ≡ false → plain ≡ true → t ≡ s → r ≡ pointwise eqb t (codes "TO") → r ≡ (is_empty s || plain && same_text s (codes "TO"))

@@ -1,8 +1,8 @@
 use Rattle.std.proofs.Common.{◌≡◌, ◌∙◌, codes, refl}
-use Rattle.fc_spec.specs.Val.{Text}
-use Rattle.fc_spec.specs.QueryTokens.{value, word}
-use Rattle.fc_spec.specs.QueryWords.{plain_word}
-use Rattle.fc_spec.proofs.Texts.{differs}
+use Rattle.fc_spec.specs.documents.Val.{Text}
+use Rattle.fc_spec.specs.queries.QueryTokens.{value, word}
+use Rattle.fc_spec.specs.queries.QueryWords.{plain_word}
+use Rattle.fc_spec.proofs.words.Texts.{differs}
 use Rattle.fc_query.proofs.lex.plain_word_token.Goals as goal
 
 no_meaning : (t : Text) → (t ≡ codes "AND" → ⊥) → (t ≡ codes "&&" → ⊥) → (t ≡ codes "OR" → ⊥) → (t ≡ codes "||" → ⊥) → (t ≡ codes "NOT" → ⊥) → value (word t) ≡ plain_word t

@@ -2,7 +2,7 @@ use Rattle.std.proofs.Common.{◌≡◌, ◌∙◌, ◌++◌, ◌&&◌, [], List
 use Rattle.std.proofs.Math.Bool.{and-true}
 use Rattle.std.specs.Char.{encode_utf8}
 use Rattle.std.specs.List.{list_all, take_while}
-use Rattle.fc_spec.specs.QueryCharacters.{Character, code, behind, is_bare, text_of}
+use Rattle.fc_spec.specs.queries.QueryCharacters.{Character, code, behind, is_bare, text_of}
 use Rattle.fc_query.specs.declared.lex.Run.{Run}
 use Rattle.fc_query.specs.Takes.{IsRun}
 use Rattle.fc_query.specs.View.{character_view, part_test}

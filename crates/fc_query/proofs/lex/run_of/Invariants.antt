@@ -1,6 +1,6 @@
 use Rattle.std.proofs.Common.{◌≡◌, ◌++◌, length, string_bytes, ◌&&◌}
 use Rattle.std.specs.List.{list_all, take_while}
-use Rattle.fc_spec.specs.QueryCharacters.{behind, is_bare, text_of}
+use Rattle.fc_spec.specs.queries.QueryCharacters.{behind, is_bare, text_of}
 use Rattle.fc_query.specs.View.{part_test}
 use Rattle.fc_query.proofs.lex.run_of.Given as goal
 

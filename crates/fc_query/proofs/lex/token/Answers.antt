@@ -1,7 +1,7 @@
 use Rattle.std.proofs.Common.{◌≡◌, ◌∙◌, sym, ap, subst, List, Option, false}
-use Rattle.fc_spec.specs.QueryTokens.{Token}
-use Rattle.fc_spec.specs.QueryCharacters.{Character, code}
-use Rattle.fc_spec.specs.QueryRow.{begins_word, marked_at}
+use Rattle.fc_spec.specs.queries.QueryTokens.{Token}
+use Rattle.fc_spec.specs.queries.QueryCharacters.{Character, code}
+use Rattle.fc_spec.specs.queries.QueryRow.{begins_word, marked_at}
 use Rattle.fc_query.specs.Takes.{Takes}
 use Rattle.fc_query.specs.View.{character_view, token_view}
 use Rattle.fc_query.proofs.FirstTokens.{marked_first}

@@ -1,8 +1,8 @@
 use Rattle.std.proofs.Common.{◌≡◌, ◌∙◌, ◌++◌, ◌∷◌, [], ap, sym, map, List, Bool, true, false, Option, Some}
 use Rattle.std.proofs.lemmas.List.{map-append}
-use Rattle.fc_spec.specs.QueryTokens.{Token}
-use Rattle.fc_spec.specs.QueryCharacters.{Character, is_blank}
-use Rattle.fc_spec.specs.QueryRow.{token_at, tokens_of}
+use Rattle.fc_spec.specs.queries.QueryTokens.{Token}
+use Rattle.fc_spec.specs.queries.QueryCharacters.{Character, is_blank}
+use Rattle.fc_spec.specs.queries.QueryRow.{token_at, tokens_of}
 use Rattle.fc_query.specs.View.{character_view, token_view, tokens_view}
 use Rattle.std.specs.Prelude.{slice_get}
 use Rattle.std.proofs.Common.{Err}

@@ -1,5 +1,5 @@
 use Rattle.std.proofs.Common.{length, map}
-use Rattle.fc_spec.specs.QueryRow.{tokens_of}
+use Rattle.fc_spec.specs.queries.QueryRow.{tokens_of}
 use Rattle.fc_query.specs.View.{token_view}
 use Rattle.fc_query.proofs.SoFar.{IsSoFar}
 use Rattle.fc_query.proofs.lex.tokens.Given as goal

@@ -1,8 +1,8 @@
 use Rattle.std.proofs.Common.{◌≡◌, ◌∙◌, ◌+◌, ◌<◌, ◌-◌, List, ap, sym, subst, suc, take, add-one, drop, drop-cons, length, map, [], ◌∷◌, ◌++◌, option_map, arith}
 use Rattle.std.proofs.lemmas.List.{map-append, take_all, drop_all, length-drop}
-use Rattle.fc_spec.specs.QueryTrees.{Atom, Group}
-use Rattle.fc_spec.specs.Query.{Query}
-use Rattle.fc_spec.specs.QueryMeaning.{clauses_query, need_of, next_operator}
+use Rattle.fc_spec.specs.queries.QueryTrees.{Atom, Group}
+use Rattle.fc_spec.specs.queries.Query.{Query}
+use Rattle.fc_spec.specs.queries.QueryMeaning.{clauses_query, need_of, next_operator}
 use Rattle.fc_query.specs.declared.query.Query.TheFolds.{fold-roll-Clause}
 use Rattle.fc_query.specs.declared.query.Query.TheViews.{roll-Clause}
 use Rattle.fc_query.specs.declared.trees.Clause.{Clause}

@@ -1,5 +1,5 @@
 use Rattle.std.proofs.Common.{drop, map, option_map}
-use Rattle.fc_spec.specs.QueryMeaning.{clauses_query}
+use Rattle.fc_spec.specs.queries.QueryMeaning.{clauses_query}
 use Rattle.fc_query.specs.QueryView.{clause_view}
 use Rattle.fc_query.specs.TreeView.{group_view}
 use Rattle.fc_query.proofs.ClausesSoFar.{AreSoFar}

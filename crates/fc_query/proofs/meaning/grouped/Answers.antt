@@ -2,7 +2,7 @@ use Rattle.std.proofs.Common.{◌≡◌, ◌∙◌, ap, sym, map, [], ◌∷◌,
 use Rattle.std.proofs.lemmas.List.{map-append}
 use Rattle.fc_query.specs.declared.query.Query.TheFolds.{fold_out-Clause}
 use Rattle.fc_query.specs.QueryView.{clause_view, clauses_view, is_one_optional_of, query_step, clause_step, Part}
-use Rattle.fc_spec.specs.Query.{Query}
+use Rattle.fc_spec.specs.queries.Query.{Query}
 use Rattle.fc_query.proofs.OneOptional.{grouped_one}
 use Rattle.fc_query.proofs.meaning.grouped.Goals as goal
 

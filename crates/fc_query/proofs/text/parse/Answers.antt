@@ -1,7 +1,7 @@
 use Rattle.std.proofs.Common.{◌≡◌, ◌∙◌, ap, sym, Some}
 use Rattle.std.proofs.lemmas.Result.{err_from_is_err_and}
-use Rattle.fc_spec.specs.QueryRow.{tokens_of}
-use Rattle.fc_spec.specs.TreeReading.{tree_of}
+use Rattle.fc_spec.specs.queries.QueryRow.{tokens_of}
+use Rattle.fc_spec.specs.queries.TreeReading.{tree_of}
 use Rattle.fc_query.specs.TreeView.{group_view, row_of}
 use Rattle.fc_query.proofs.Readings.{without_row, without_tree, with_tree, is_valid}
 use Rattle.fc_query.proofs.text.parse.Goals as goal

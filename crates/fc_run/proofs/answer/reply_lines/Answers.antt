@@ -1,4 +1,4 @@
-use Rattle.fc_run.proofs.Printed.{all_printed, few_documents}
+use Rattle.fc_run.proofs.scripts.Printed.{all_printed, few_documents}
 use Rattle.fc_run.proofs.answer.reply_lines.Goals as goal
 
 pub lines_text-requires-clause-few : goal.lines_text-requires-clause-few

@@ -1,4 +1,4 @@
-use Rattle.fc_run.proofs.Leaving.{left_of_all, left_of_many, left_by_usage, left_by_read, left_by_memory}
+use Rattle.fc_run.proofs.scripts.Leaving.{left_of_all, left_of_many, left_by_usage, left_by_read, left_by_memory}
 use Rattle.fc_run.proofs.call.run.Goals as goal
 
 pub returns-then-words-ne1-clause-leaves : goal.returns-then-words-ne1-clause-leaves

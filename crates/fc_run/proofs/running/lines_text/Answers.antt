@@ -1,13 +1,13 @@
 use Rattle.std.proofs.Common.{◌≡◌, ◌∷◌, map}
 use Rattle.std.specs.List.{filter_map}
 use Rattle.std.proofs.lemmas.List.Elements.{All-rest}
-use Rattle.fc_spec.specs.Distributed.{distributed}
-use Rattle.fc_spec.specs.ScriptTotals.{added}
+use Rattle.fc_spec.specs.replies.Distributed.{distributed}
+use Rattle.fc_spec.specs.scripts.ScriptTotals.{added}
 use Rattle.fc_script.specs.ValidRequests.{IsAskedOf}
 use Rattle.fc_run.specs.Running.{nothing, lines_text, shard_view}
 use Rattle.fc_script.specs.ScriptView.{line_view}
-use Rattle.fc_run.proofs.IndexPremises.{index_now}
-use Rattle.fc_run.proofs.RunningText.{blocks_left, text_left}
+use Rattle.fc_run.proofs.finding.IndexPremises.{index_now}
+use Rattle.fc_run.proofs.scripts.RunningText.{blocks_left, text_left}
 use Rattle.fc_run.proofs.running.lines_text.Goals as goal
 
 pub run-requires-clause-index : goal.run-requires-clause-index

@@ -1,7 +1,7 @@
 use Rattle.std.proofs.Common.{◌≡◌, ◌++◌, map, All}
 use Rattle.std.specs.List.{filter_map}
-use Rattle.fc_spec.specs.Distributed.{distributed}
-use Rattle.fc_spec.specs.ScriptTotals.{added}
+use Rattle.fc_spec.specs.replies.Distributed.{distributed}
+use Rattle.fc_spec.specs.scripts.ScriptTotals.{added}
 use Rattle.fc_script.specs.ValidRequests.{IsAskedOf}
 use Rattle.fc_run.specs.Running.{nothing, lines_text, blocks_in, shard_view, HasKinds}
 use Rattle.fc_script.specs.ScriptView.{line_view}

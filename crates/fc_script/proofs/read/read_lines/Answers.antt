@@ -1,9 +1,9 @@
 use Rattle.std.proofs.Common.{◌≡◌, ℕ, List, [], ◌∷◌, Result, Ok, sym, ◌∙◌, ap, subst}
-use Rattle.fc_spec.specs.Schema.{Schema}
-use Rattle.fc_spec.specs.ScriptReading.{Numbered}
-use Rattle.fc_spec.specs.ScriptTotals.{Limits}
-use Rattle.fc_spec.specs.Val.{Text}
-use Rattle.fc_spec.specs.Walks.{◌>>=◌}
+use Rattle.fc_spec.specs.documents.Schema.{Schema}
+use Rattle.fc_spec.specs.scripts.ScriptReading.{Numbered}
+use Rattle.fc_spec.specs.scripts.ScriptTotals.{Limits}
+use Rattle.fc_spec.specs.documents.Val.{Text}
+use Rattle.fc_spec.specs.words.Walks.{◌>>=◌}
 use Rattle.fc_base.specs.Answers.{Answers}
 use Rattle.fc_script.specs.ReadSoFar.{ReadSoFar, at_line, schema_read, read_from, with_rest}
 use Rattle.fc_script.specs.ReadView.{reading_view}

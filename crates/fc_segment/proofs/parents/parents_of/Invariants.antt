@@ -1,5 +1,5 @@
 use Rattle.std.proofs.Common.{◌≡◌, ◌+◌, map, take, drop, length}
-use Rattle.fc_spec.specs.Totals.{document_total}
+use Rattle.fc_spec.specs.documents.Totals.{document_total}
 use Rattle.fc_docs.specs.View.{block_view}
 use Rattle.fc_segment.specs.Parents.{parents_in}
 use Rattle.fc_segment.proofs.Marking.{marked}

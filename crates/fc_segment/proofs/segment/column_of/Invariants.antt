@@ -1,6 +1,6 @@
 use Rattle.std.proofs.Common.{◌≡◌, map, take}
-use Rattle.fc_spec.specs.Columns.{column_of}
-use Rattle.fc_spec.specs.Totals.{documents_in}
+use Rattle.fc_spec.specs.documents.Columns.{column_of}
+use Rattle.fc_spec.specs.documents.Totals.{documents_in}
 use Rattle.fc_docs.specs.View.{block_view}
 use Rattle.fc_segment.specs.Building.{builds_texts, values_built}
 use Rattle.fc_segment.proofs.segment.column_of.Given as goal

@@ -1,9 +1,9 @@
 use Rattle.std.proofs.Common.{◌<◌, ◌∙◌, sym, length, false, arith}
 use Rattle.std.proofs.lemmas.List.{take_more, length-map}
 use Rattle.std.proofs.lemmas.List.FromFn.{map-range_with_len_more}
-use Rattle.fc_spec.specs.Columns.{column_of}
-use Rattle.fc_spec.specs.Totals.{documents_in}
-use Rattle.fc_spec.specs.Schema.{Field, holds_texts, texts_held}
+use Rattle.fc_spec.specs.documents.Columns.{column_of}
+use Rattle.fc_spec.specs.documents.Totals.{documents_in}
+use Rattle.fc_spec.specs.documents.Schema.{Field, holds_texts, texts_held}
 use Rattle.fc_docs.specs.View.{batch_view}
 use Rattle.fc_segment.specs.Columns.{column_values, is_text_column}
 use Rattle.fc_segment.proofs.Transposed.{map-pushed}

@@ -1,8 +1,8 @@
 use Rattle.std.proofs.Common.{◌≡◌, map, take}
 use Rattle.std.specs.List.{range_with_len}
-use Rattle.fc_spec.specs.Columns.{column_of}
-use Rattle.fc_spec.specs.Totals.{documents_in}
-use Rattle.fc_spec.specs.Schema.{texts_held}
+use Rattle.fc_spec.specs.documents.Columns.{column_of}
+use Rattle.fc_spec.specs.documents.Totals.{documents_in}
+use Rattle.fc_spec.specs.documents.Schema.{texts_held}
 use Rattle.fc_docs.specs.View.{batch_view}
 use Rattle.fc_segment.specs.Columns.{column_values, is_text_column}
 use Rattle.fc_segment.proofs.segment.columns_of.Given as goal

@@ -1,12 +1,12 @@
 use Rattle.std.proofs.Common.{◌≡◌, ◌+◌, List, [], ◌∷◌, ◌++◌, length, map, All, sym, ap, ◌∙◌, subst, arith}
 use Rattle.std.proofs.lemmas.List.{map_push}
 use Rattle.std.proofs.lemmas.List.Elements.{All-push}
-use Rattle.fc_spec.specs.Schema.{Schema}
-use Rattle.fc_spec.specs.Totals.{document_total}
-use Rattle.fc_spec.specs.ValidBlocks.{IsBlockOf}
+use Rattle.fc_spec.specs.documents.Schema.{Schema}
+use Rattle.fc_spec.specs.documents.Totals.{document_total}
+use Rattle.fc_spec.specs.documents.ValidBlocks.{IsBlockOf}
 use Rattle.fc_docs.specs.declared.block.Block.{Block}
 use Rattle.fc_docs.specs.View.{block_view}
-use Rattle.fc_spec.proofs.BlockTotals.{document_total-append, document_total-cons}
+use Rattle.fc_spec.proofs.documents.BlockTotals.{document_total-append, document_total-cons}
 use Rattle.fc_segment.proofs.tests.batch_of.Goals as goal
 
 -- one more block

@@ -1,6 +1,6 @@
 use Rattle.std.proofs.Common.{◌≤◌, ◌*◌, map, All}
-use Rattle.fc_spec.specs.Totals.{document_total}
-use Rattle.fc_spec.specs.ValidBlocks.{IsBlockOf}
+use Rattle.fc_spec.specs.documents.Totals.{document_total}
+use Rattle.fc_spec.specs.documents.ValidBlocks.{IsBlockOf}
 use Rattle.fc_docs.specs.View.{block_view}
 use Rattle.fc_segment.proofs.tests.batch_of.Given as goal
 

@@ -2,7 +2,7 @@ use Rattle.std.proofs.Common.{◌≡◌, Some, option_and_then, ap, rules}
 use Rattle.std.specs.Prelude.{codes}
 use Rattle.serde_json.specs.Find.{get, as_object}
 use Rattle.serde_json.specs.View.{view, members_view}
-use Rattle.fc_spec.specs.SchemaReading.{shards_of}
+use Rattle.fc_spec.specs.documents.SchemaReading.{shards_of}
 use Rattle.fc_base.specs.Answers.{or_fault}
 use Rattle.fc_base.proofs.SchemaMembers.{not_two_members, two_members, not_two, schema_is}
 use Rattle.fc_base.proofs.OrFault.{given_by_ok}

@@ -1,12 +1,12 @@
 use Rattle.std.proofs.Common.{◌≡◌, [], ◌∷◌, ◌++◌, Some, None, false, map, string_bytes, sym, ◌∙◌, ap, append-nil, rules}
 use Rattle.std.specs.Prelude.{codes}
 use Rattle.std.proofs.lemmas.Map.Text.{is_eq-slice_cmp}
-use Rattle.fc_spec.specs.Val.{same_text}
+use Rattle.fc_spec.specs.documents.Val.{same_text}
 use Rattle.std.proofs.lemmas.List.{map-append, length-map}
 use Rattle.std.proofs.lemmas.Result.{err_from_is_err_and}
 use Rattle.serde_json.specs.View.{view, members_view}
-use Rattle.fc_spec.specs.Schema.{Field}
-use Rattle.fc_spec.specs.SchemaReading.{field_of}
+use Rattle.fc_spec.specs.documents.Schema.{Field}
+use Rattle.fc_spec.specs.documents.SchemaReading.{field_of}
 use Rattle.fc_base.specs.Answers.{or_fault}
 use Rattle.fc_base.specs.View.{field_view, field_type_view}
 use Rattle.fc_base.proofs.GatheredFields.{gathered, one_bad, one_more, all_bad, is_field_list}

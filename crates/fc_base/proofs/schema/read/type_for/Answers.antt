@@ -2,8 +2,8 @@ use Rattle.std.proofs.Common.{◌≡◌, false, nat_eq, Some, refl}
 use Rattle.std.specs.Cmp.Lexicographic.{pointwise}
 use Rattle.std.proofs.lemmas.Map.Text.{is_eq-slice_cmp}
 use Rattle.std.specs.Prelude.{codes}
-use Rattle.fc_spec.specs.Val.{Text}
-use Rattle.fc_spec.specs.SchemaReading.{type_for}
+use Rattle.fc_spec.specs.documents.Val.{Text}
+use Rattle.fc_spec.specs.documents.SchemaReading.{type_for}
 use Rattle.fc_base.specs.declared.field.FieldType.{FieldType}
 use Rattle.fc_base.specs.declared.field.FieldType.TheVariants.{Str, Strs, Long, Longs}
 use Rattle.fc_base.specs.View.{field_type_view}

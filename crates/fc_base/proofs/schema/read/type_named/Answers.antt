@@ -1,5 +1,5 @@
 use Rattle.std.proofs.Common.{refl}
-use Rattle.fc_spec.proofs.Texts.{differs}
+use Rattle.fc_spec.proofs.words.Texts.{differs}
 use Rattle.fc_base.proofs.schema.read.type_named.Goals as goal
 
 pub returns-in_default : goal.returns-in_default

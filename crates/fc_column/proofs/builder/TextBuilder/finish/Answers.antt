@@ -1,8 +1,8 @@
 use Rattle.std.proofs.Common.{ℕ, ◌<◌, length, get_or, map, All, subst, sym, ap, ◌∙◌, arith}
 use Rattle.std.proofs.lemmas.List.{length-map}
 use Rattle.std.specs.List.{list_any}
-use Rattle.fc_spec.specs.Val.{Text, text_cmp}
-use Rattle.fc_spec.specs.Columns.{IsAscending}
+use Rattle.fc_spec.specs.documents.Val.{Text, text_cmp}
+use Rattle.fc_spec.specs.documents.Columns.{IsAscending}
 use Rattle.fc_column.specs.Terms.{has_text}
 use Rattle.fc_column.specs.Dictionary.{term_at}
 use Rattle.fc_column.proofs.Ranked.{numbers_in, all_ranked, rows_ranked, ranks_within, terms_are}

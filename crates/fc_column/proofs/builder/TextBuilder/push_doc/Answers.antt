@@ -4,8 +4,8 @@ use Rattle.std.proofs.lemmas.List.{take_all}
 use Rattle.std.proofs.lemmas.List.Elements.{All-push}
 use Rattle.std.specs.List.{list_any}
 use Rattle.fc_base.specs.View.{val_view}
-use Rattle.fc_spec.specs.Val.{text_cmp}
-use Rattle.fc_spec.specs.Columns.{IsText, IsAscending, texts_in}
+use Rattle.fc_spec.specs.documents.Val.{text_cmp}
+use Rattle.fc_spec.specs.documents.Columns.{IsText, IsAscending, texts_in}
 use Rattle.fc_column.specs.Terms.{has_text}
 use Rattle.fc_column.specs.Numbering.{has_number, text_numbered}
 use Rattle.fc_column.proofs.ValueLists.{texts_more, holds_of_value}

@@ -1,6 +1,6 @@
 use Rattle.std.proofs.Common.{◌≡◌, take, map, true}
 use Rattle.fc_base.specs.View.{val_view}
-use Rattle.fc_spec.specs.Columns.{texts_in}
+use Rattle.fc_spec.specs.documents.Columns.{texts_in}
 use Rattle.fc_column.proofs.Grown.{Grown}
 use Rattle.fc_column.proofs.builder.TextBuilder.push_doc.Given as goal
 

@@ -3,7 +3,7 @@ use Rattle.std.proofs.lemmas.List.{take_all}
 use Rattle.std.proofs.lemmas.List.Elements.{All-push}
 use Rattle.std.specs.Ordering.{int_cmp}
 use Rattle.fc_base.specs.View.{val_view}
-use Rattle.fc_spec.specs.Columns.{IsLong, IsAscending, longs_in}
+use Rattle.fc_spec.specs.documents.Columns.{IsLong, IsAscending, longs_in}
 use Rattle.fc_column.proofs.ValueLists.{longs_more, holds_of_value}
 use Rattle.fc_column.proofs.Ascents.{longs_ascend}
 use Rattle.fc_column.proofs.long.LongBuilder.push_doc.Goals as goal

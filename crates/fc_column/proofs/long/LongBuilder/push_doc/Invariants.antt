@@ -1,6 +1,6 @@
 use Rattle.std.proofs.Common.{◌≡◌, take, map, true}
 use Rattle.fc_base.specs.View.{val_view}
-use Rattle.fc_spec.specs.Columns.{longs_in}
+use Rattle.fc_spec.specs.documents.Columns.{longs_in}
 use Rattle.fc_column.proofs.long.LongBuilder.push_doc.Given as goal
 
 abbrev pub invariant-loop-value : goal.invariant-loop-value

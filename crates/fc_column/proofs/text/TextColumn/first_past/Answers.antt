@@ -1,8 +1,8 @@
 use Rattle.std.proofs.Common.{count_by, subst, sym, ap, ◌∙◌, rules, of_calls}
 use Rattle.std.specs.Ordering.{is_le}
 use Rattle.std.proofs.lemmas.Fn.{always_returns_same}
-use Rattle.fc_spec.specs.Val.{text_cmp}
-use Rattle.fc_spec.specs.Columns.{IsAscending}
+use Rattle.fc_spec.specs.documents.Val.{text_cmp}
+use Rattle.fc_spec.specs.documents.Columns.{IsAscending}
 use Rattle.fc_column.specs.Terms.{terms_of}
 use Rattle.fc_column.proofs.SortedTerms.{up_to_in_front, terms_in_front}
 use Rattle.fc_column.proofs.text.TextColumn.first_past.Goals as goal

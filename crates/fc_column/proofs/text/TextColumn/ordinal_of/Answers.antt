@@ -1,8 +1,8 @@
 use Rattle.std.proofs.Common.{count_by, subst, sym, ap, ◌∙◌, rules, of_calls}
 use Rattle.std.proofs.lemmas.Fn.{always_returns_same}
 use Rattle.std.specs.Ordering.{is_lt}
-use Rattle.fc_spec.specs.Val.{text_cmp}
-use Rattle.fc_spec.specs.Columns.{IsAscending}
+use Rattle.fc_spec.specs.documents.Val.{text_cmp}
+use Rattle.fc_spec.specs.documents.Columns.{IsAscending}
 use Rattle.fc_column.specs.Terms.{terms_of, has_text}
 use Rattle.fc_column.proofs.SortedTerms.{searchable}
 use Rattle.fc_column.proofs.TermLists.{has_text-terms_of, text_at_place, text_missing}

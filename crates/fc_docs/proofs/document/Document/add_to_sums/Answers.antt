@@ -1,7 +1,7 @@
 use Rattle.std.proofs.Common.{ℕ, ◌+◌, ◌≤◌, length, slice_index, arith, sym, ◌∙◌, ap}
 use Rattle.std.proofs.lemmas.Bool.{OnTrue_at, OnTrue_from}
 use Rattle.std.proofs.lemmas.Bool.Decides.{Decides-like}
-use Rattle.fc_spec.specs.ScriptTotals.{total_limit}
+use Rattle.fc_spec.specs.scripts.ScriptTotals.{total_limit}
 use Rattle.fc_docs.specs.Sums.{absolute_sum, absolute_kept}
 use Rattle.fc_docs.proofs.AbsoluteSums.{absolute_sum-document_of, none_past, sum_within, each_within, fits_below}
 use Rattle.fc_docs.proofs.document.Document.add_to_sums.Goals as goal

@@ -1,5 +1,5 @@
 use Rattle.std.proofs.Common.{ap, sym, ◌∙◌}
-use Rattle.fc_spec.specs.Document.{values_of}
+use Rattle.fc_spec.specs.documents.Document.{values_of}
 use Rattle.fc_docs.specs.Fields.{values_at}
 use Rattle.fc_docs.proofs.FieldLists.{values_of-document_of}
 use Rattle.fc_docs.proofs.document.Document.values.Goals as goal

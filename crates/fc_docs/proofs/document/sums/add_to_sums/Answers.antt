@@ -1,7 +1,7 @@
 use Rattle.std.proofs.Common.{◌≡◌, ℕ, ◌+◌, ◌<◌, ◌≤◌, ◌∷◌, drop, get_or, length, map, nat_le, slice_index, true, false, arith, ◌∙◌, ap, sym, refl, subst, true≢false}
 use Rattle.std.proofs.lemmas.Bool.Decides.{nat_tests}
 use Rattle.std.proofs.lemmas.List.{at_drop_all, drop_more}
-use Rattle.fc_spec.specs.ScriptTotals.{total_limit}
+use Rattle.fc_spec.specs.scripts.ScriptTotals.{total_limit}
 use Rattle.fc_base.specs.View.{val_view}
 use Rattle.fc_docs.specs.Fields.{FieldValues}
 use Rattle.fc_docs.specs.Sums.{absolute_row}

@@ -1,5 +1,5 @@
 use Rattle.std.proofs.Common.{◌≡◌, ℕ, ◌+◌, ◌≤◌, drop, slice_index}
-use Rattle.fc_spec.specs.ScriptTotals.{total_limit}
+use Rattle.fc_spec.specs.scripts.ScriptTotals.{total_limit}
 use Rattle.fc_docs.proofs.AbsoluteSums.{added}
 use Rattle.fc_docs.proofs.document.sums.add_to_sums.Given as goal
 

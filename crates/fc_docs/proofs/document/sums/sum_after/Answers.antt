@@ -2,7 +2,7 @@ use Rattle.std.proofs.Common.{◌+◌, map, arith, sym, ◌∙◌, ap}
 use Rattle.std.specs.List.{sum_by}
 use Rattle.std.proofs.lemmas.List.{take_all}
 use Rattle.std.proofs.lemmas.List.Sums.{sum_by_more_le}
-use Rattle.fc_spec.specs.ScriptTotals.{total_limit}
+use Rattle.fc_spec.specs.scripts.ScriptTotals.{total_limit}
 use Rattle.fc_base.specs.View.{val_view}
 use Rattle.fc_docs.specs.Sums.{absolute_row, absolute_value}
 use Rattle.fc_docs.proofs.AbsoluteSums.{row_by_value, sum_grown, sum_outgrown, not_more}

@@ -1,6 +1,6 @@
 use Rattle.std.proofs.Common.{◌≡◌, ◌+◌, ◌≤◌, take}
 use Rattle.std.specs.List.{sum_by}
-use Rattle.fc_spec.specs.ScriptTotals.{total_limit}
+use Rattle.fc_spec.specs.scripts.ScriptTotals.{total_limit}
 use Rattle.fc_base.specs.View.{val_view}
 use Rattle.fc_docs.specs.Sums.{absolute_value}
 use Rattle.fc_docs.proofs.document.sums.sum_after.Given as goal

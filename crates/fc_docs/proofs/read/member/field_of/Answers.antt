@@ -2,9 +2,9 @@ use Rattle.std.proofs.Common.{◌≡◌, Some, None, false, true, sym, ◌∙◌
 use Rattle.std.proofs.lemmas.Map.Text.{is_eq-slice_cmp}
 use Rattle.std.proofs.lemmas.Result.{err_from_is_err_and}
 use Rattle.serde_json.specs.View.{view}
-use Rattle.fc_spec.specs.Val.{same_text}
-use Rattle.fc_spec.specs.Schema.{field_named}
-use Rattle.fc_spec.specs.BlockReading.{children_key}
+use Rattle.fc_spec.specs.documents.Val.{same_text}
+use Rattle.fc_spec.specs.documents.Schema.{field_named}
+use Rattle.fc_spec.specs.documents.BlockReading.{children_key}
 use Rattle.fc_docs.specs.declared.fault.DocFault.TheVariants.{UnknownField}
 use Rattle.fc_docs.specs.View.{role_view}
 use Rattle.fc_docs.proofs.MemberFields.{ok_or_none, is_passed_over, passed_over, unknown, known}

@@ -1,8 +1,8 @@
 use Rattle.std.proofs.Common.{◌≡◌, All, IsTrue, drop}
 use Rattle.serde_json.specs.View.{items_view}
-use Rattle.fc_spec.specs.Walks.{each}
-use Rattle.fc_spec.specs.BlockReading.{value_of, without_nulls}
-use Rattle.fc_spec.specs.ValidBlocks.{is_value_of}
+use Rattle.fc_spec.specs.words.Walks.{each}
+use Rattle.fc_spec.specs.documents.BlockReading.{value_of, without_nulls}
+use Rattle.fc_spec.specs.documents.ValidBlocks.{is_value_of}
 use Rattle.fc_base.specs.View.{field_type_view, val_view}
 use Rattle.fc_docs.specs.View.{values_view}
 use Rattle.fc_docs.proofs.Items.{behind}

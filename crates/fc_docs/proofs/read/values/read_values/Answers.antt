@@ -1,8 +1,8 @@
 use Rattle.std.proofs.Common.{◌≡◌, ◌≤◌, true, length, Ok, sym, ◌∙◌, arith}
 use Rattle.std.proofs.lemmas.List.{length-map}
 use Rattle.serde_json.specs.View.{view}
-use Rattle.fc_spec.specs.Walks.{each}
-use Rattle.fc_spec.specs.BlockReading.{items_in, takes, value_of}
+use Rattle.fc_spec.specs.words.Walks.{each}
+use Rattle.fc_spec.specs.documents.BlockReading.{items_in, takes, value_of}
 use Rattle.fc_base.specs.View.{field_type_view}
 use Rattle.fc_docs.specs.View.{values_view}
 use Rattle.fc_docs.proofs.DifferentValues.{AreSorted, are_distinct}

@@ -1,6 +1,6 @@
 use Rattle.std.proofs.Common.{◌≡◌, false, replicate, ap, ◌∙◌, rules}
-use Rattle.fc_spec.specs.Bits.{has_bit}
-use Rattle.fc_spec.proofs.WordBits.{has_bit_of_zeros}
+use Rattle.fc_spec.specs.documents.Bits.{has_bit}
+use Rattle.fc_spec.proofs.documents.WordBits.{has_bit_of_zeros}
 use Rattle.fc_docset.proofs.BitLists.{first_bits_all}
 use Rattle.fc_docset.proofs.set.DocSet.empty.Goals as goal
 

@@ -1,5 +1,5 @@
 use Rattle.std.proofs.Common.{false, get_or, ap, ◌∙◌, arith}
-use Rattle.fc_spec.specs.Bits.{has_bit}
+use Rattle.fc_spec.specs.documents.Bits.{has_bit}
 use Rattle.fc_docset.proofs.BitLists.{length_of, HasBits-first_bits}
 use Rattle.fc_docset.proofs.set.DocSet.words.Goals as goal
 

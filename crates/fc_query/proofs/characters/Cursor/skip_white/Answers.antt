@@ -1,5 +1,5 @@
 use Rattle.std.proofs.Common.{◌∙◌, sym}
-use Rattle.fc_spec.specs.QueryCharacters.{behind, is_blank}
+use Rattle.fc_spec.specs.queries.QueryCharacters.{behind, is_blank}
 use Rattle.std.proofs.Common.{◌≡◌, ap, true}
 use Rattle.fc_query.specs.View.{character_view}
 use Rattle.fc_query.proofs.Fronts.{left_goes_on}

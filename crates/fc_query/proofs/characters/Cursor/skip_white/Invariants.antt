@@ -1,5 +1,5 @@
 use Rattle.std.proofs.Common.{◌≡◌, length}
-use Rattle.fc_spec.specs.QueryCharacters.{behind, is_blank}
+use Rattle.fc_spec.specs.queries.QueryCharacters.{behind, is_blank}
 use Rattle.fc_query.proofs.characters.Cursor.skip_white.Given as goal
 
 abbrev pub invariant-loop-first : goal.invariant-loop-first

@@ -1,7 +1,7 @@
 use Rattle.std.proofs.Common.{◌≡◌, refl}
 use Rattle.std.proofs.lemmas.List.Elements.{All-push}
-use Rattle.fc_spec.specs.Schema.{texts_held}
-use Rattle.fc_run.proofs.IndexPremises.{waiting_valid}
+use Rattle.fc_spec.specs.documents.Schema.{texts_held}
+use Rattle.fc_run.proofs.finding.IndexPremises.{waiting_valid}
 use Rattle.fc_run.proofs.running.Running.commit.Goals as goal
 
 pub commit-requires-clause-valid : goal.commit-requires-clause-valid

@@ -1,6 +1,6 @@
 use Rattle.std.proofs.Common.{subst}
 use Rattle.fc_script.specs.ValidRequests.{IsAskedOf}
-use Rattle.fc_run.proofs.IndexPremises.{committed_different, committed_few, segments_fit}
+use Rattle.fc_run.proofs.finding.IndexPremises.{committed_different, committed_few, segments_fit}
 use Rattle.fc_run.proofs.running.Running.run.Goals as goal
 
 pub search-requires-clause-fits : goal.search-requires-clause-fits

@@ -1,7 +1,7 @@
 use Rattle.std.proofs.Common.{ℕ, ◌<◌, ◌++◌, ◌∙◌, [], length, get_or, ap, ap₂, sym, zero-add, arith, append_assoc}
 use Rattle.std.specs.List.{flat_map}
 use Rattle.std.proofs.lemmas.List.Elements.{All-tail}
-use Rattle.fc_run.proofs.PickedValues.{positions_below, flat_map-positions}
+use Rattle.fc_run.proofs.finding.PickedValues.{positions_below, flat_map-positions}
 use Rattle.fc_run.proofs.search.columns.longs_of.Goals as goal
 
 pub loop-doc-init : goal.loop-doc-init

@@ -3,11 +3,11 @@ use Rattle.std.proofs.lemmas.List.{take_all, take-append-le, get_or-replicate, g
 use Rattle.std.proofs.lemmas.List.Elements.{All-tail}
 use Rattle.std.proofs.lemmas.List.Sums.{sum_by-append}
 use Rattle.std.specs.List.{flat_map}
-use Rattle.fc_spec.specs.Val.{Text, same_text}
+use Rattle.fc_spec.specs.documents.Val.{Text, same_text}
 use Rattle.fc_column.specs.Terms.{terms_of, ordinals_in}
 use Rattle.fc_run.specs.Tally.{picked_values}
-use Rattle.fc_run.proofs.PickedValues.{positions_below}
-use Rattle.fc_run.proofs.TermCounts.{positions_counted}
+use Rattle.fc_run.proofs.finding.PickedValues.{positions_below}
+use Rattle.fc_run.proofs.tallies.TermCounts.{positions_counted}
 use Rattle.fc_run.proofs.search.columns.ordinal_counts.Goals as goal
 
 pub loop-doc-init : goal.loop-doc-init

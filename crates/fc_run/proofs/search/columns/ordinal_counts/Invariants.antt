@@ -1,6 +1,6 @@
 use Rattle.std.proofs.Common.{◌≡◌, ℕ, ◌+◌, ◌<◌, ◌==◌, [], length, get_or, count_by, All}
 use Rattle.std.specs.List.{flat_map}
-use Rattle.fc_spec.specs.Val.{same_text}
+use Rattle.fc_spec.specs.documents.Val.{same_text}
 use Rattle.fc_column.specs.Terms.{terms_of, ordinals_in}
 use Rattle.fc_run.specs.Tally.{picked_values}
 use Rattle.fc_run.proofs.search.columns.ordinal_counts.Given as goal

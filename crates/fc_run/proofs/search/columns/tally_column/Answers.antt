@@ -1,5 +1,5 @@
-use Rattle.fc_spec.specs.Val.{text, long}
-use Rattle.fc_run.proofs.PickedValues.{picked_values-map}
+use Rattle.fc_spec.specs.documents.Val.{text, long}
+use Rattle.fc_run.proofs.finding.PickedValues.{picked_values-map}
 use Rattle.fc_run.proofs.search.columns.tally_column.Goals as goal
 
 pub tally_texts-requires-clause-room : goal.tally_texts-requires-clause-room

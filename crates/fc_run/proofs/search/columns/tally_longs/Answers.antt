@@ -1,7 +1,7 @@
 use Rattle.std.proofs.Common.{map}
 use Rattle.std.proofs.lemmas.Result.{on_ok_weaker}
-use Rattle.fc_spec.specs.Val.{long}
-use Rattle.fc_run.proofs.SameCounts.{permuted_alike, HasRoom-alike, Counts-alike}
+use Rattle.fc_spec.specs.documents.Val.{long}
+use Rattle.fc_run.proofs.tallies.SameCounts.{permuted_alike, HasRoom-alike, Counts-alike}
 use Rattle.fc_run.proofs.search.columns.tally_longs.Goals as goal
 
 pub tally_runs-requires : goal.tally_runs-requires

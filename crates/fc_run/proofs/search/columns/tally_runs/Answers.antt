@@ -3,10 +3,10 @@ use lib.IntN.{pos}
 use mir.Val.{SFits}
 use Rattle.std.proofs.lemmas.Int.{to_z-of_z}
 use Rattle.std.proofs.lemmas.List.{take_all, length-drop}
-use Rattle.fc_spec.specs.Val.{long}
+use Rattle.fc_spec.specs.documents.Val.{long}
 use Rattle.fc_run.specs.Tally.{Counts}
-use Rattle.fc_run.proofs.TallySteps.{HasRoom-front, HasRoom-rest, Counts-append}
-use Rattle.fc_run.proofs.SameCounts.{first_run}
+use Rattle.fc_run.proofs.tallies.TallySteps.{HasRoom-front, HasRoom-rest, Counts-append}
+use Rattle.fc_run.proofs.tallies.SameCounts.{first_run}
 use Rattle.fc_run.proofs.search.columns.tally_runs.Goals as goal
 
 pub count_term-requires-clause-room : goal.count_term-requires-clause-room

@@ -1,5 +1,5 @@
 use Rattle.std.proofs.Common.{◌≤◌, length, map}
-use Rattle.fc_spec.specs.Val.{long}
+use Rattle.fc_spec.specs.documents.Val.{long}
 use Rattle.fc_run.specs.Tally.{Tally, Counts, HasRoom}
 use Rattle.fc_run.proofs.search.columns.tally_runs.Given as goal
 

@@ -1,14 +1,14 @@
 use Rattle.std.proofs.Common.{◌<◌, ◌∙◌, [], map, length, arith}
 use Rattle.std.specs.List.{flat_map}
 use Rattle.std.proofs.lemmas.List.{get_or_default}
-use Rattle.fc_spec.specs.Val.{text, same_val}
-use Rattle.fc_spec.proofs.MappedLists.{count_by-map}
+use Rattle.fc_spec.specs.documents.Val.{text, same_val}
+use Rattle.fc_spec.proofs.words.MappedLists.{count_by-map}
 use Rattle.fc_column.specs.Terms.{terms_of}
 use Rattle.fc_run.specs.Tally.{picked_values}
-use Rattle.fc_run.proofs.TallySteps.{HasRoom-at, Counts-all, Counts-more, Counts-none}
-use Rattle.fc_run.proofs.SameCounts.{HasRoom-alike, Counts-alike}
-use Rattle.fc_run.proofs.TermCounts.{terms_ascend, picked_term}
-use Rattle.fc_run.proofs.TermCopies.{copies_in, copies_alike, number_of_term}
+use Rattle.fc_run.proofs.tallies.TallySteps.{HasRoom-at, Counts-all, Counts-more, Counts-none}
+use Rattle.fc_run.proofs.tallies.SameCounts.{HasRoom-alike, Counts-alike}
+use Rattle.fc_run.proofs.tallies.TermCounts.{terms_ascend, picked_term}
+use Rattle.fc_run.proofs.tallies.TermCopies.{copies_in, copies_alike, number_of_term}
 use Rattle.fc_run.proofs.search.columns.tally_texts.Goals as goal
 
 pub ordinal_counts-requires-clause-room : goal.ordinal_counts-requires-clause-room

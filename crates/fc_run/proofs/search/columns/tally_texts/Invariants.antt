@@ -2,7 +2,7 @@ use Rattle.std.proofs.Common.{take}
 use Rattle.std.specs.List.{flat_map}
 use Rattle.fc_column.specs.Terms.{terms_of}
 use Rattle.fc_run.specs.Tally.{Counts, picked_values}
-use Rattle.fc_run.proofs.TermCopies.{copies_in}
+use Rattle.fc_run.proofs.tallies.TermCopies.{copies_in}
 use Rattle.fc_run.proofs.search.columns.tally_texts.Given as goal
 
 abbrev pub invariant-loop-ord : goal.invariant-loop-ord

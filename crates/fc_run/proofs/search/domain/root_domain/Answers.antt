@@ -1,6 +1,6 @@
 use Rattle.std.proofs.Common.{arith, ◌∙◌}
 use Rattle.fc_query.specs.QueryView.{query_view}
-use Rattle.fc_run.proofs.RootDomain.{meets_first-more, meets_first-all}
+use Rattle.fc_run.proofs.finding.RootDomain.{meets_first-more, meets_first-all}
 use Rattle.fc_run.proofs.search.domain.root_domain.Goals as goal
 
 pub loop-filter-preserved : goal.loop-filter-preserved

@@ -1,7 +1,7 @@
 use Rattle.std.proofs.Common.{◌≡◌, take, map, length}
-use Rattle.fc_spec.specs.Totals.{documents_in, document_total}
+use Rattle.fc_spec.specs.documents.Totals.{documents_in, document_total}
 use Rattle.fc_query.specs.QueryView.{query_view}
-use Rattle.fc_run.proofs.RootDomain.{meets_first}
+use Rattle.fc_run.proofs.finding.RootDomain.{meets_first}
 use Rattle.fc_run.proofs.search.domain.root_domain.Given as goal
 
 abbrev pub invariant-loop-filter : goal.invariant-loop-filter

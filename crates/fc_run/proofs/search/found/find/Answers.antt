@@ -4,7 +4,7 @@ use Rattle.fc_run.specs.Fitting.{Fits}
 use Rattle.fc_run.specs.Found.{Finds}
 use Rattle.fc_run.specs.PlainReply.{root_documents}
 use Rattle.fc_script.specs.View.{facet_view, request_view}
-use Rattle.fc_run.proofs.FoundSegments.{blocks_of, searched_none, next_few, next_room, segment_next, segment_searched, root_different, counts_found}
+use Rattle.fc_run.proofs.finding.FoundSegments.{blocks_of, searched_none, next_few, next_room, segment_next, segment_searched, root_different, counts_found}
 use Rattle.fc_run.proofs.search.found.find.Goals as goal
 
 pub loop-segment-init : goal.loop-segment-init

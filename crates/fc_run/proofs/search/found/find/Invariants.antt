@@ -1,7 +1,7 @@
 use Rattle.std.proofs.Common.{take, drop, map, option_map}
-use Rattle.fc_spec.specs.Lists.{joined}
+use Rattle.fc_spec.specs.words.Lists.{joined}
 use Rattle.fc_script.specs.View.{facet_view, request_view}
-use Rattle.fc_run.proofs.FoundSegments.{IsSearched}
+use Rattle.fc_run.proofs.finding.FoundSegments.{IsSearched}
 use Rattle.fc_run.proofs.search.found.find.Given as goal
 
 abbrev pub invariant-loop-segment : goal.invariant-loop-segment

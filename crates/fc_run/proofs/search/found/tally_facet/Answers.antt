@@ -1,7 +1,7 @@
 use Rattle.std.proofs.Common.{sym, subst}
-use Rattle.fc_spec.specs.Totals.{documents_in}
+use Rattle.fc_spec.specs.documents.Totals.{documents_in}
 use Rattle.fc_run.specs.Tally.{Counts, HasRoom}
-use Rattle.fc_run.proofs.FoundValues.{picked_are_asked}
+use Rattle.fc_run.proofs.finding.FoundValues.{picked_are_asked}
 use Rattle.fc_run.proofs.search.found.tally_facet.Goals as goal
 
 pub tally_column-requires-clause-room : goal.tally_column-requires-clause-room

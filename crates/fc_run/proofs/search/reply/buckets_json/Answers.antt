@@ -2,7 +2,7 @@ use Rattle.std.proofs.Common.{◌++◌, map, sym, ◌∙◌, ap, append-nil}
 use Rattle.serde_json.specs.Data.{array}
 use Rattle.serde_json.specs.View.{view, items_of}
 use Rattle.serde_json.proofs.Views.{view-Array}
-use Rattle.fc_run.proofs.ReplyJson.{entry_data, push_bucket, listed_items-counted_row}
+use Rattle.fc_run.proofs.replies.ReplyJson.{entry_data, push_bucket, listed_items-counted_row}
 use Rattle.fc_run.proofs.search.reply.buckets_json.Goals as goal
 
 pub loop-term-init : goal.loop-term-init

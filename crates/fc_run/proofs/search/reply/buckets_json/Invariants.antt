@@ -1,6 +1,6 @@
 use Rattle.std.proofs.Common.{◌≡◌, ◌++◌, map}
 use Rattle.serde_json.specs.View.{view}
-use Rattle.fc_run.proofs.ReplyJson.{entry_data}
+use Rattle.fc_run.proofs.replies.ReplyJson.{entry_data}
 use Rattle.fc_run.proofs.search.reply.buckets_json.Given as goal
 
 abbrev pub invariant-loop-term : goal.invariant-loop-term

@@ -1,4 +1,4 @@
-use Rattle.fc_run.proofs.PlainReplies.{plain_from_laws}
+use Rattle.fc_run.proofs.replies.PlainReplies.{plain_from_laws}
 use Rattle.fc_run.proofs.search.reply.plain_replies.Goals as goal
 
 pub returns : goal.returns

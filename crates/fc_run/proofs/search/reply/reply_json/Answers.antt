@@ -2,7 +2,7 @@ use Rattle.std.proofs.Common.{◌∙◌}
 use Rattle.std.proofs.lemmas.Result.{IfOk-weaker}
 use Rattle.fc_run.specs.Tally.{tally_view}
 use Rattle.serde_json.specs.View.{view}
-use Rattle.fc_run.proofs.ReplyJson.{faceted_reply}
+use Rattle.fc_run.proofs.replies.ReplyJson.{faceted_reply}
 use Rattle.fc_run.proofs.search.reply.reply_json.Goals as goal
 
 pub returns-in_ok-buckets-in-Some : goal.returns-in_ok-buckets-in-Some

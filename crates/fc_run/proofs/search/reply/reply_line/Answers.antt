@@ -2,7 +2,7 @@ use Rattle.std.proofs.Common.{◌∙◌, ap, length, option_map}
 use Rattle.fc_run.specs.PlainReply.{reply_with}
 use Rattle.fc_run.specs.Tally.{tally_view}
 use Rattle.fc_script.specs.View.{facet_view}
-use Rattle.fc_run.proofs.NoFloats.{line_data, has_float-line_data}
+use Rattle.fc_run.proofs.replies.NoFloats.{line_data, has_float-line_data}
 use Rattle.fc_run.proofs.search.reply.reply_line.Goals as goal
 
 pub text_line-requires : goal.text_line-requires

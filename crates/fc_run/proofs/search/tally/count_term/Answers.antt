@@ -2,7 +2,7 @@ use Rattle.std.proofs.Common.{◌≡◌, unwrap_or, arith, rules}
 use Rattle.std.specs.BTreeMap.{get}
 use Rattle.std.specs.BTreeMap.Entry.{map_with_value}
 use Rattle.fc_run.specs.Tally.{key_cmp}
-use Rattle.fc_run.proofs.TallySteps.{Counts-from_written, HasRoom-copies}
+use Rattle.fc_run.proofs.tallies.TallySteps.{Counts-from_written, HasRoom-copies}
 use Rattle.fc_run.proofs.search.tally.count_term.Goals as goal
 
 pub overflow_add-tally : goal.overflow_add-tally

@@ -7,15 +7,15 @@ use Rattle.std.proofs.lemmas.Result.{err_from_is_err_and}
 use Rattle.fc_base.specs.Answers.{Answers}
 use Rattle.fc_base.specs.declared.error.Refusal.{Refusal}
 use Rattle.fc_base.specs.declared.error.Refusal.TheVariants as refusal
-use Rattle.fc_spec.specs.ScriptFault as fault
+use Rattle.fc_spec.specs.scripts.ScriptFault as fault
 use Rattle.fc_script.specs.ScriptView.{line_fault_view}
 use Rattle.fc_script.specs.View.{request_view}
 use Rattle.fc_script.specs.declared.counts.Counts.{Counts}
 use Rattle.fc_script.specs.declared.counts.documents.DocumentCounts.{DocumentCounts}
 use Rattle.fc_script.specs.declared.line.fault.LineFault.{LineFault}
-use Rattle.fc_spec.specs.ScriptReading.{check_documents}
-use Rattle.fc_spec.specs.ScriptTotals.{added}
-use Rattle.fc_spec.specs.Totals.{documents_in}
+use Rattle.fc_spec.specs.scripts.ScriptReading.{check_documents}
+use Rattle.fc_spec.specs.scripts.ScriptTotals.{added}
+use Rattle.fc_spec.specs.documents.Totals.{documents_in}
 use Rattle.fc_docs.specs.View.{block_view}
 use Rattle.fc_script.specs.Commits.{more_at}
 use Rattle.fc_script.proofs.CountedLines.{added-add, with_add, with_commit, with_sync, with_search, commit_fits, search_fits, sync_fits}

@@ -1,8 +1,8 @@
 use Rattle.std.proofs.Common.{◌≡◌, ◌+◌, List, [], ◌∷◌, ◌++◌, get_or, length, sym, ◌∙◌, ap, subst, arith}
 use Rattle.std.specs.Prelude.{nat_le, All}
 use Rattle.std.specs.List.{list_all, range_with_len}
-use Rattle.fc_spec.specs.Document.{Document}
-use Rattle.fc_spec.specs.ScriptTotals.{absolute_total, total_limit}
+use Rattle.fc_spec.specs.documents.Document.{Document}
+use Rattle.fc_spec.specs.scripts.ScriptTotals.{absolute_total, total_limit}
 use Rattle.fc_script.proofs.SumsOfBlocks.{child_fails, parent_decides, parent_room, child_room}
 use Rattle.fc_script.proofs.counts.documents.add_to_sums.Goals as goal
 

@@ -1,6 +1,6 @@
 use Rattle.std.proofs.Common.{◌≡◌, ◌+◌, ◌≤◌, ℕ, get_or, take}
 use Rattle.std.specs.Prelude.{All}
-use Rattle.fc_spec.specs.ScriptTotals.{absolute_total, total_limit}
+use Rattle.fc_spec.specs.scripts.ScriptTotals.{absolute_total, total_limit}
 use Rattle.fc_script.proofs.counts.documents.add_to_sums.Given as goal
 
 abbrev pub invariant-loop-child : goal.invariant-loop-child

@@ -1,5 +1,5 @@
 use Rattle.std.proofs.Common.{Result, Ok, Err, cond, ◌∙◌, ap}
-use Rattle.fc_spec.specs.ScriptFault.{LineFault, duplicate_id}
+use Rattle.fc_spec.specs.scripts.ScriptFault.{LineFault, duplicate_id}
 use Rattle.fc_script.proofs.IdSets.{if_new-added, known_too}
 use Rattle.fc_script.proofs.counts.ids.insert_id.Goals as goal
 

@@ -1,7 +1,7 @@
 use Rattle.std.proofs.Common.{map}
 use Rattle.std.specs.List.{flat_map}
 use Rattle.std.proofs.lemmas.Result.{err_from_is_err_and, on_ok_weaker}
-use Rattle.fc_spec.specs.Document.{values_of}
+use Rattle.fc_spec.specs.documents.Document.{values_of}
 use Rattle.fc_base.specs.View.{val_view}
 use Rattle.fc_docs.specs.View.{block_view}
 use Rattle.fc_script.proofs.NewIds.{none_inserted, inserted, Inserted-all, Inserted-more, refused_at, refused_front, if_new_behind, known_together, ids_are}

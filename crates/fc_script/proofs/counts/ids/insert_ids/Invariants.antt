@@ -1,6 +1,6 @@
 use Rattle.std.proofs.Common.{map, take}
 use Rattle.std.specs.List.{flat_map}
-use Rattle.fc_spec.specs.Document.{values_of}
+use Rattle.fc_spec.specs.documents.Document.{values_of}
 use Rattle.fc_base.specs.View.{val_view}
 use Rattle.fc_script.proofs.NewIds.{Inserted}
 use Rattle.fc_script.proofs.counts.ids.insert_ids.Given as goal

@@ -1,6 +1,6 @@
 use Rattle.std.proofs.Common.{refl}
 use Rattle.fc_script.proofs.line.said.line_said.Goals as goal
-use Rattle.fc_spec.proofs.Texts.{differs}
+use Rattle.fc_spec.proofs.words.Texts.{differs}
 
 pub returns-in_default-clause-answer : goal.returns-in_default-clause-answer
 returns-in_default-clause-answer c =

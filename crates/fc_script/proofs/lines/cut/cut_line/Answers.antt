@@ -1,6 +1,6 @@
 use Rattle.std.proofs.Common.{◌+◌, ◌-◌, ◌∷◌, length, take, drop, sym, ◌∙◌, ap, arith, length-drop}
 use Rattle.std.proofs.lemmas.List.{take_all}
-use Rattle.fc_spec.specs.ScriptLines.{lines_of}
+use Rattle.fc_spec.specs.scripts.ScriptLines.{lines_of}
 use Rattle.fc_script.proofs.CutLines.{lines_of-at, lines_of-uncut}
 use Rattle.fc_script.proofs.lines.cut.cut_line.Goals as goal
 

@@ -2,12 +2,12 @@ use Rattle.std.proofs.Common.{◌≡◌, Result, Ok, sym, ◌∙◌, ap, subst}
 use Rattle.std.proofs.lemmas.Result.{err_from_is_err_and}
 use Rattle.serde_json.specs.Data.{Data}
 use Rattle.serde_json.specs.View.{view}
-use Rattle.fc_spec.specs.ScriptFault as fault
-use Rattle.fc_spec.specs.Script.{Line}
-use Rattle.fc_spec.specs.ScriptReading.{value_on}
-use Rattle.fc_spec.specs.LineReading.{line_said}
-use Rattle.fc_spec.specs.Val.{Text}
-use Rattle.fc_spec.specs.Walks.{◌>>=◌, with_fault}
+use Rattle.fc_spec.specs.scripts.ScriptFault as fault
+use Rattle.fc_spec.specs.scripts.Script.{Line}
+use Rattle.fc_spec.specs.scripts.ScriptReading.{value_on}
+use Rattle.fc_spec.specs.scripts.LineReading.{line_said}
+use Rattle.fc_spec.specs.documents.Val.{Text}
+use Rattle.fc_spec.specs.words.Walks.{◌>>=◌, with_fault}
 use Rattle.fc_base.specs.Answers.{Answers}
 use Rattle.fc_script.specs.Refusals.{refused}
 use Rattle.fc_script.specs.ReadSoFar.{ReadSoFar, asked_line, with_asked, with_text}

@@ -1,6 +1,6 @@
 use Rattle.std.proofs.Common.{◌≡◌, map, drop, All}
 use Rattle.serde_json.specs.View.{items_view}
-use Rattle.fc_spec.specs.ValidQueries.{IsValidQuery}
+use Rattle.fc_spec.specs.queries.ValidQueries.{IsValidQuery}
 use Rattle.fc_query.specs.FilterView.{filter_view}
 use Rattle.fc_query.specs.QueryView.{query_view}
 use Rattle.fc_script.specs.Requests.{filters_of}

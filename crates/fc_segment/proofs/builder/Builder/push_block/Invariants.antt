@@ -1,5 +1,5 @@
 use Rattle.std.proofs.Common.{◌≡◌, ◌++◌, take}
-use Rattle.fc_spec.specs.Columns.{column_of}
+use Rattle.fc_spec.specs.documents.Columns.{column_of}
 use Rattle.fc_segment.specs.Building.{builds_texts, values_built}
 use Rattle.fc_segment.proofs.builder.Builder.push_block.Given as goal
 

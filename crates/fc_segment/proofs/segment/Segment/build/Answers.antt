@@ -1,5 +1,5 @@
 use Rattle.std.proofs.Common.{length}
-use Rattle.fc_spec.specs.Schema.{texts_held}
+use Rattle.fc_spec.specs.documents.Schema.{texts_held}
 use Rattle.fc_docs.specs.View.{batch_view}
 use Rattle.fc_segment.specs.declared.segment.Segment.TheInside.{Inside}
 use Rattle.fc_segment.proofs.Rows.{length-valid_documents}

@@ -1,7 +1,7 @@
 use Rattle.std.proofs.Common.{◌<◌, ◌∙◌, ap, sym, length, arith}
 use Rattle.std.proofs.lemmas.List.{length-map}
-use Rattle.fc_spec.specs.Columns.{column_of}
-use Rattle.fc_spec.specs.Totals.{documents_in}
+use Rattle.fc_spec.specs.documents.Columns.{column_of}
+use Rattle.fc_spec.specs.documents.Totals.{documents_in}
 use Rattle.fc_segment.specs.Columns.{is_text_column}
 use Rattle.fc_segment.specs.Segmented.{Segmented}
 use Rattle.fc_segment.proofs.StoredBlocks.{column_of-stored}

@@ -1,5 +1,5 @@
 use Rattle.std.proofs.Common.{◌∙◌, ap, sym}
-use Rattle.fc_spec.specs.Totals.{document_total}
+use Rattle.fc_spec.specs.documents.Totals.{document_total}
 use Rattle.fc_segment.specs.Segmented.{Segmented}
 use Rattle.fc_segment.proofs.StoredBlocks.{document_total-stored}
 use Rattle.fc_segment.proofs.segment.Segment.doc_count.Goals as goal

@@ -2,7 +2,7 @@ use Rattle.std.proofs.Common.{sym, ◌∙◌, ap, ◌+◌, option_map, subst}
 use Rattle.fc_run.specs.Found.{asked_values}
 use Rattle.fc_run.specs.Tally.{Counts, HasRoom}
 use Rattle.fc_script.specs.View.{facet_view, request_view}
-use Rattle.fc_run.proofs.FoundValues.{root_count, root_picked}
+use Rattle.fc_run.proofs.finding.FoundValues.{root_count, root_picked}
 use Rattle.fc_run.proofs.search.found.Found.with.Goals as goal
 
 pub tally_facet-requires-clause-room : goal.tally_facet-requires-clause-room

@@ -1,0 +1,5 @@
+pub mod PlainKeys
+pub mod PlainPlaces
+pub mod PlainReplies
+pub mod ReplyJson
+pub mod NoFloats

@@ -1,0 +1,13 @@
+pub mod ValOrder
+pub mod Ascending
+pub mod WordBits
+pub mod Shards
+pub mod AllShards
+pub mod AlikePlaces
+pub mod Renumbered
+pub mod JoinedNumbers
+pub mod JoinedPlaces
+pub mod JoinedShards
+pub mod BlockTotals
+pub mod PlacedDocuments
+pub mod ValueKinds

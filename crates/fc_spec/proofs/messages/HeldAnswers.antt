@@ -1,0 +1,115 @@
+-- What is held of answers is the answer, wherever it was told.
+use Rattle.std.proofs.Common.{◌≡◌, ℕ, zero, suc, List, [], ◌∷◌, Bool, true, false, cond, ◌==◌, Option, None, Some, is_some, refl, sym, ◌∙◌, ap, inl, inr}
+use Rattle.std.specs.List.{AllByRecursion}
+use Rattle.std.specs.Option.{option_and_then}
+use Rattle.std.proofs.lemmas.Bool.{false≢true, eqb-true}
+use Rattle.fc_spec.specs.documents.World.{World, Place, on_shards}
+use Rattle.fc_spec.specs.requests.Request.{Facet, Nodes, no_nodes, statistic, facet, Request, stats_of}
+use Rattle.fc_spec.specs.requests.Base.{root_domain}
+use Rattle.fc_spec.specs.requests.Domain.{domain}
+use Rattle.fc_spec.specs.requests.Buckets.{Key, bucket_places}
+use Rattle.fc_spec.specs.messages.KeyOrder.{same_key}
+use Rattle.fc_spec.specs.requests.Statistics.{Stats, stats_over}
+use Rattle.fc_spec.specs.messages.Message.{Partials, no_partials, Rows, Way}
+use Rattle.fc_spec.specs.messages.Answer.{partials_of, answer_keys, answer_domain, answer_rows, facet_at, nodes_in, Spot, spot_at, spot_in, way_spot}
+use Rattle.fc_spec.specs.messages.Held.{HeldBucket, Told, find_key, row_at, descend, behind, held_in, held, or_else}
+use Rattle.fc_spec.proofs.words.Members.{Member}
+use Rattle.fc_spec.proofs.requests.Locality.{domain_local, bucket_local}
+use Rattle.fc_spec.proofs.messages.Keys.{same_key_exact, same_key_itself}
+use Rattle.fc_spec.proofs.messages.Ways.{some_exact, none_not_some, spot_at-append, behind_is}
+
+-- shard i's part of places
+abbrev pub part : ℕ → List Place → List Place
+part i S = on_shards (i ∷ []) S
+
+-- shard i's bucket, from its part of the bucket
+abbrev pub answer_of : Request → World → ℕ → Nodes → List Place → HeldBucket
+answer_of r W i nodes X = record { stats = stats_over (stats_of nodes) X; nodes = nodes; rows = answer_rows r W i nodes X }
+
+-- at a spot
+abbrev pub answer_at : Request → World → ℕ → Spot → HeldBucket
+answer_at r W i s = answer_of r W i s.nodes (part i s.places)
+
+-- the bucket of a key in a list of buckets, one for each of some keys
+pub find_key-partials_of : (nodes : Nodes) (stats : Key → Stats) (rows : Key → Rows) (keys : List Key) (key : Key) (b : HeldBucket) → find_key nodes key (partials_of stats rows keys) ≡ Some b → b ≡ record { stats = stats key; nodes = nodes; rows = rows key }
+find_key-partials_of nodes stats rows [] key b h = absurd (none_not_some b h)
+find_key-partials_of nodes stats rows (k ∷ ks) key b h = go (same_key key k) refl h (find_key-partials_of nodes stats rows ks key b)
+  where
+    go : (c : Bool) → same_key key k ≡ c → cond c (Some (record { stats = stats k; nodes = nodes; rows = rows k })) (find_key nodes key (partials_of stats rows ks)) ≡ Some b → (find_key nodes key (partials_of stats rows ks) ≡ Some b → b ≡ record { stats = stats key; nodes = nodes; rows = rows key }) → b ≡ record { stats = stats key; nodes = nodes; rows = rows key }
+    go true e f ih = sym (some_exact (record { stats = stats k; nodes = nodes; rows = rows k }) b f) ∙ ap (λ l. record { stats = stats l; nodes = nodes; rows = rows l }) (sym (same_key_exact key k e))
+    go false e f ih = ih f
+
+-- it is there for each of them
+pub find_key-member : (nodes : Nodes) (stats : Key → Stats) (rows : Key → Rows) (keys : List Key) (key : Key) → Member key keys → is_some (find_key nodes key (partials_of stats rows keys)) ≡ true
+find_key-member nodes stats rows [] key m = absurd m
+find_key-member nodes stats rows (k ∷ ks) key m = go (same_key key k) refl m (find_key-member nodes stats rows ks key)
+  where
+    go : (c : Bool) → same_key key k ≡ c → Member key (k ∷ ks) → (Member key ks → is_some (find_key nodes key (partials_of stats rows ks)) ≡ true) → is_some (cond c (Some (record { stats = stats k; nodes = nodes; rows = rows k })) (find_key nodes key (partials_of stats rows ks))) ≡ true
+    go true e m ih = refl
+    go false e (inl h) ih = absurd (false≢true (sym e ∙ ap (same_key key) (sym h) ∙ same_key_itself key))
+    go false e (inr m) ih = ih m
+
+-- what shard i lists for a facet, from its part X of the bucket around it
+abbrev pub listed_for : Request → World → ℕ → List Place → Option (Facet × Nodes) → Partials
+listed_for r W i X None = no_partials
+listed_for r W i X (Some f) =
+    partials_of (λ k. stats_over (stats_of f.1) (bucket_places (f.0).kind k (answer_domain r W i f.0 X))) (λ k. answer_rows r W i f.1 (bucket_places (f.0).kind k (answer_domain r W i f.0 X)))
+    (answer_keys (f.0).kind f.1 (answer_domain r W i f.0 X) i)
+
+pub row_at-answer_rows : (r : Request) (W : World) (i n : ℕ) (nodes : Nodes) (X : List Place) → row_at n nodes (answer_rows r W i nodes X) ≡ listed_for r W i X (facet_at n nodes)
+row_at-answer_rows r W i n no_nodes X = refl
+row_at-answer_rows r W i zero (statistic name s rest) X = refl
+row_at-answer_rows r W i (suc n) (statistic name s rest) X = row_at-answer_rows r W i n rest X
+row_at-answer_rows r W i zero (facet f inner rest) X = refl
+row_at-answer_rows r W i (suc n) (facet f inner rest) X = row_at-answer_rows r W i n rest X
+
+-- shard i's part of the bucket of a key is made from its part of the bucket around
+pub part_of_bucket : (r : Request) (W : World) (i : ℕ) (f : Facet) (key : Key) (S : List Place) → bucket_places f.kind key (answer_domain r W i f (part i S)) ≡ part i (bucket_places f.kind key (domain r W f.change S))
+part_of_bucket r W i f key S = ap (bucket_places f.kind key) (domain_local r W f.change (i ∷ []) S) ∙ sym (bucket_local f.kind key (i ∷ []) (domain r W f.change S))
+
+-- one step down from an answer is an answer
+pub step_down : (r : Request) (W : World) (i : ℕ) (s : Spot) (key : Key) (f : Option (Facet × Nodes)) (b : HeldBucket) → find_key (nodes_in f) key (listed_for r W i (part i s.places) f) ≡ Some b → b ≡ answer_at r W i (spot_in r W key s.places f)
+step_down r W i s key None b h = absurd (none_not_some b h)
+step_down r W i s key (Some f) b h =
+    find_key-partials_of f.1 _ _ (answer_keys (f.0).kind f.1 (answer_domain r W i f.0 (part i s.places)) i) key b h ∙ ap (answer_of r W i f.1) (part_of_bucket r W i f.0 key s.places)
+
+-- and so is what any way down leads to
+pub descend_answer : (r : Request) (W : World) (i : ℕ) (way : Way) (s : Spot) (b : HeldBucket) → descend way (answer_at r W i s) ≡ Some b → b ≡ answer_at r W i (spot_at r W way s)
+descend_answer r W i [] s b h = sym (some_exact (answer_at r W i s) b h)
+descend_answer r W i (step ∷ way) s b h =
+    go (find_key (nodes_in (facet_at step.node s.nodes)) step.key (listed_for r W i (part i s.places) (facet_at step.node s.nodes))) refl
+    (ap (λ ps. option_and_then (descend way) (find_key (nodes_in (facet_at step.node s.nodes)) step.key ps)) (sym (row_at-answer_rows r W i step.node s.nodes (part i s.places))) ∙ h) (descend_answer r W i way (spot_in r W step.key s.places (facet_at step.node s.nodes)) b)
+  where
+    next : Spot
+    next = spot_in r W step.key s.places (facet_at step.node s.nodes)
+
+    go : (o : Option HeldBucket) → find_key (nodes_in (facet_at step.node s.nodes)) step.key (listed_for r W i (part i s.places) (facet_at step.node s.nodes)) ≡ o → option_and_then (descend way) o ≡ Some b
+        → (descend way (answer_at r W i next) ≡ Some b → b ≡ answer_at r W i (spot_at r W way next)) → b ≡ answer_at r W i (spot_at r W way next)
+    go None e k ih = absurd (none_not_some b k)
+    go (Some c) e k ih = ih (ap (descend way) (sym (step_down r W i s step.key (facet_at step.node s.nodes) c e)) ∙ k)
+
+-- a told bucket is the answer of its shard
+abbrev pub IsTold : Request → World → Told → Type 0
+IsTold r W t = t.bucket ≡ answer_at r W t.shard (way_spot r W t.way)
+
+pub held_in_answer : (r : Request) (W : World) (t : Told) (way : Way) (b : HeldBucket) → IsTold r W t → held_in t way ≡ Some b → b ≡ answer_at r W t.shard (way_spot r W way)
+held_in_answer r W t way b told h = go (behind t.way way) refl h
+  where
+    go : (o : Option Way) → behind t.way way ≡ o → option_and_then (λ rest. descend rest t.bucket) o ≡ Some b → b ≡ answer_at r W t.shard (way_spot r W way)
+    go None e k = absurd (none_not_some b k)
+    go (Some rest) e k =
+        descend_answer r W t.shard rest (way_spot r W t.way) b (ap (descend rest) (sym told) ∙ k)
+        ∙ ap (answer_at r W t.shard) (sym (spot_at-append r W t.way rest (record { nodes = r.nodes; places = root_domain r W }))) ∙ ap (λ w. answer_at r W t.shard (way_spot r W w)) (sym (behind_is t.way way rest e))
+
+-- what is held of told answers is the answer
+pub held_answer : (r : Request) (W : World) (A : List Told) (i : ℕ) (way : Way) (b : HeldBucket) → AllByRecursion (IsTold r W) A → held A i way ≡ Some b → b ≡ answer_at r W i (way_spot r W way)
+held_answer r W [] i way b all h = absurd (none_not_some b h)
+held_answer r W (t ∷ ts) i way b all h = go (t.shard == i) refl h (held_answer r W ts i way b all.1)
+  where
+    here : t.shard ≡ i → (o : Option HeldBucket) → held_in t way ≡ o → or_else o (held ts i way) ≡ Some b → (held ts i way ≡ Some b → b ≡ answer_at r W i (way_spot r W way)) → b ≡ answer_at r W i (way_spot r W way)
+    here same None e k ih = ih k
+    here same (Some c) e k ih = sym (some_exact c b k) ∙ held_in_answer r W t way c all.0 e ∙ ap (λ j. answer_at r W j (way_spot r W way)) same
+
+    go : (c : Bool) → (t.shard == i) ≡ c → or_else (cond c (held_in t way) None) (held ts i way) ≡ Some b → (held ts i way ≡ Some b → b ≡ answer_at r W i (way_spot r W way)) → b ≡ answer_at r W i (way_spot r W way)
+    go true e k ih = here (eqb-true t.shard i e) (held_in t way) refl k ih
+    go false e k ih = ih k

@@ -1,0 +1,14 @@
+pub mod Locality
+pub mod RenumberedDomains
+pub mod FoundValues
+pub mod LeastAndGreatest
+pub mod Statistics
+pub mod StatisticsOfParts
+pub mod EntryOrder
+pub mod SortedEntries
+pub mod Together
+pub mod ValidChanges
+pub mod ValidKinds
+pub mod ValidNodes
+pub mod ValidStatistics
+pub mod ValidWalk

@@ -1,0 +1,120 @@
+-- Valid nodes exclude tags on outermost facets only, and their terms facets, answers and rounds are no deeper than they are.
+use Rattle.std.proofs.Common.{◌≡◌, refl, ap, ℕ, zero, suc, ◌+◌, ◌≤◌, max, List, [], ◌∷◌, Bool, true, false, ◌&&◌, Option, None, Some, arith}
+use Rattle.std.specs.List.{AllByRecursion}
+use Rattle.fc_spec.specs.words.Lists.{is_empty}
+use Rattle.fc_spec.specs.documents.Schema.{Schema}
+use Rattle.fc_spec.specs.documents.World.{World, Place, on_shards}
+use Rattle.fc_spec.specs.requests.Base.{root_domain}
+use Rattle.fc_spec.specs.requests.Request.{Kind, terms, range, query, Facet, Nodes, no_nodes, statistic, facet, Request, stats_of}
+use Rattle.fc_spec.specs.requests.Buckets.{Key, whole, bucket_places}
+use Rattle.fc_spec.specs.requests.Statistics.{Stats, stats_over}
+use Rattle.fc_spec.specs.requests.ValidRequests.{AreValidNodes, node_depth}
+use Rattle.fc_spec.specs.requests.Shape.{no_exclusions, outermost_exclusions}
+use Rattle.fc_spec.specs.messages.Lacks.{own_depth, terms_depth}
+use Rattle.fc_spec.specs.messages.Message.{Partials, no_partials, Rows, Way, Want, way_of, Ask, first, more}
+use Rattle.fc_spec.specs.messages.Answer.{answer_rows, answer, partials_of, answer_keys, answer_domain, facet_at, nodes_in, spot_in, spot_at, way_spot, answer_bucket, answer_wants, Spot}
+use Rattle.fc_spec.specs.messages.Nesting.{nesting, rows_nesting}
+use Rattle.fc_spec.specs.messages.Rounds.{SentMessage, search_rounds}
+use Rattle.fc_spec.specs.laws.RequestLaws.{ValidExcludeOutermost, ValidHaveFewDepths, ValidHaveFewRounds, ValidAnswersNestLittle}
+use Rattle.fc_spec.proofs.messages.SearchEnds.{rounds_are_few}
+
+-- ---- exclusions
+
+both : (a b : Bool) → a ≡ true → b ≡ true → (a && b) ≡ true
+both true b e h = h
+both false b e h = absurd cc
+
+nothing_excluded : (s : Schema) (nodes : Nodes) → AreValidNodes s false nodes → no_exclusions nodes ≡ true
+nothing_excluded s no_nodes h = refl
+nothing_excluded s (statistic name st rest) h = nothing_excluded s rest h.1
+nothing_excluded s (facet f inner rest) h =
+    both (is_empty f.change.exclude && no_exclusions inner) (no_exclusions rest) (both (is_empty f.change.exclude) (no_exclusions inner) (ap is_empty ((h.0).outermost refl)) (nothing_excluded s inner h.2)) (nothing_excluded s rest h.3)
+
+excluded_outermost : (s : Schema) (outermost : Bool) (nodes : Nodes) → AreValidNodes s outermost nodes → outermost_exclusions nodes ≡ true
+excluded_outermost s outermost no_nodes h = refl
+excluded_outermost s outermost (statistic name st rest) h = excluded_outermost s outermost rest h.1
+excluded_outermost s outermost (facet f inner rest) h = both (no_exclusions inner) (outermost_exclusions rest) (nothing_excluded s inner h.2) (excluded_outermost s outermost rest h.3)
+
+pub valid_exclude_outermost : ValidExcludeOutermost
+valid_exclude_outermost s r h = excluded_outermost s true r.nodes h.nodes
+
+-- ---- rounds
+
+own_is_one : (kind : Kind) → own_depth kind ≤ 1
+own_is_one (terms t) = omega arith
+own_is_one (range g) = omega arith
+own_is_one (query q) = omega arith
+
+-- terms facets are among the nodes
+terms_within : (nodes : Nodes) → terms_depth nodes ≤ node_depth nodes
+terms_within no_nodes = omega arith
+terms_within (statistic name st rest) = let h = terms_within rest in omega arith
+terms_within (facet f inner rest) = let h = terms_within inner in let k = terms_within rest in let o = own_is_one f.kind in omega arith
+
+pub valid_have_few_depths : ValidHaveFewDepths
+valid_have_few_depths s r h = let k = terms_within r.nodes in let d = h.depth in omega arith
+
+few : (n : ℕ) (sent : List SentMessage) → n ≤ 8 → AllByRecursion (λ m. (1 ≤ m.round) × (m.round ≤ n + 1)) sent → AllByRecursion (λ m. (1 ≤ m.round) × (m.round ≤ 9)) sent
+few n [] h all = tt
+few n (m ∷ ms) h all = ((all.0.0, (let k : m.round ≤ n + 1 = all.0.1 in omega arith)), few n ms h all.1)
+
+pub valid_have_few_rounds : ValidHaveFewRounds
+valid_have_few_rounds s r W h = few (terms_depth r.nodes) (search_rounds r W) (valid_have_few_depths s r h) (rounds_are_few r W)
+
+-- ---- answers
+
+-- one bucket for each key, each with rows that nest so deep at most
+partials_nest : (stats : Key → Stats) (rows : Key → Rows) (n : ℕ) → ((k : Key) → rows_nesting (rows k) ≤ n) → (keys : List Key) → nesting (partials_of stats rows keys) ≤ suc n
+partials_nest stats rows n h [] = omega arith
+partials_nest stats rows n h (k ∷ ks) = let here = h k in let more = partials_nest stats rows n h ks in omega arith
+
+both_within : (a b m n : ℕ) → a ≤ m → b ≤ n → max a b ≤ max m n
+both_within a b m n h k = omega arith
+
+rows_nest : (r : Request) (W : World) (i : ℕ) (nodes : Nodes) (X : List Place) → rows_nesting (answer_rows r W i nodes X) ≤ node_depth nodes
+rows_nest r W i no_nodes X = omega arith
+rows_nest r W i (statistic name st rest) X = let h = rows_nest r W i rest X in omega arith
+rows_nest r W i (facet f inner rest) X =
+    let Y = answer_domain r W i f X in
+    both_within _ _ _ _
+    (partials_nest (λ k. stats_over (stats_of inner) (bucket_places f.kind k Y)) (λ k. answer_rows r W i inner (bucket_places f.kind k Y)) (node_depth inner) (λ k. rows_nest r W i inner (bucket_places f.kind k Y)) (answer_keys f.kind inner Y i))
+    (rows_nest r W i rest X)
+
+-- the nodes nested in one of them are no deeper
+deeper : (n : ℕ) (nodes : Nodes) → node_depth (nodes_in (facet_at n nodes)) ≤ node_depth nodes
+deeper n no_nodes = omega arith
+deeper zero (statistic name st rest) = omega arith
+deeper zero (facet f inner rest) = omega arith
+deeper (suc n) (statistic name st rest) = let h = deeper n rest in omega arith
+deeper (suc n) (facet f inner rest) = let h = deeper n rest in omega arith
+
+step_in : (r : Request) (W : World) (key : Key) (X : List Place) (o : Option (Facet × Nodes)) → (spot_in r W key X o).nodes ≡ nodes_in o
+step_in r W key X None = refl
+step_in r W key X (Some f) = refl
+
+ways_lead_in : (r : Request) (W : World) (way : Way) (s : Spot) → node_depth (spot_at r W way s).nodes ≤ node_depth s.nodes
+ways_lead_in r W [] s = omega arith
+ways_lead_in r W (step ∷ way) s =
+    let o = facet_at step.node s.nodes in
+    let further : node_depth (spot_at r W way (spot_in r W step.key s.places o)).nodes ≤ node_depth (spot_in r W step.key s.places o).nodes = ways_lead_in r W way (spot_in r W step.key s.places o) in
+    let same : node_depth (spot_in r W step.key s.places o).nodes ≡ node_depth (nodes_in o) = ap node_depth (step_in r W step.key s.places o) in
+    let here : node_depth (nodes_in o) ≤ node_depth s.nodes = deeper step.node s.nodes in
+    omega arith
+
+bucket_nests : (r : Request) (W : World) (i : ℕ) (way : Way) (key : Key) (rest : Partials) → node_depth r.nodes ≤ 8 → nesting rest ≤ 9 → nesting (answer_bucket r W i way key rest) ≤ 9
+bucket_nests r W i way key rest shallow h =
+    let s = way_spot r W way in
+    let here : rows_nesting (answer_rows r W i s.nodes (on_shards (i ∷ []) s.places)) ≤ node_depth s.nodes = rows_nest r W i s.nodes (on_shards (i ∷ []) s.places) in
+    let inside : node_depth s.nodes ≤ node_depth r.nodes = ways_lead_in r W way (record { nodes = r.nodes; places = root_domain r W }) in
+    omega arith
+
+wants_nest : (r : Request) (W : World) (i : ℕ) (wants : List Want) → node_depth r.nodes ≤ 8 → nesting (answer_wants r W i wants) ≤ 9
+wants_nest r W i [] shallow = omega arith
+wants_nest r W i (w ∷ ws) shallow = bucket_nests r W i (way_of w) w.key (answer_wants r W i ws) shallow (wants_nest r W i ws shallow)
+
+answers_nest : (r : Request) (W : World) (i : ℕ) (ask : Ask) → node_depth r.nodes ≤ 8 → nesting (answer r W i ask) ≤ 9
+answers_nest r W i first shallow = bucket_nests r W i [] whole no_partials shallow (omega arith)
+answers_nest r W i (more wants) shallow = wants_nest r W i wants shallow
+
+pub valid_answers_nest_little : ValidAnswersNestLittle
+valid_answers_nest_little s r W i ask h = answers_nest r W i ask h.depth

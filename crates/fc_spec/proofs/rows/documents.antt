@@ -1,0 +1,5 @@
+pub mod Blocks
+pub mod ByteOrder
+pub mod Integers
+pub mod Schemas
+pub mod Totals

@@ -1,0 +1,13 @@
+pub mod MessageRounds
+pub mod MessageExample
+pub mod MessageWords
+pub mod KeysInOrder
+pub mod ShardAnswers
+pub mod ShortCountRounds
+pub mod WantsByDepth
+pub mod ShopRounds
+pub mod EmptyRootRounds
+pub mod ShapedMessages
+pub mod MessageParts
+pub mod SeveralWants
+pub mod RefiningInside

@@ -1,0 +1,11 @@
+pub mod DomainFaults
+pub mod ReadRanges
+pub mod ReadRequests
+pub mod RequestBounds
+pub mod RequestFaults
+pub mod RequestOrder
+pub mod RequestSizes
+pub mod RequestWords
+pub mod SortTexts
+pub mod StatisticTexts
+pub mod WorkedRequests

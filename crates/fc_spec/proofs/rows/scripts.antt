@@ -1,0 +1,12 @@
+pub mod Scripts
+pub mod ScriptLimits
+pub mod ErrorLines
+pub mod FaultLines
+pub mod Sessions
+pub mod ShardCommits
+pub mod WholeOutputs
+pub mod SessionOutputs
+pub mod ShopOutput
+pub mod LongLines
+pub mod LineForms
+pub mod DocumentLimits

@@ -1,0 +1,3 @@
+pub mod JsonMembers
+pub mod JsonTexts
+pub mod ValidSearches

@@ -1,0 +1,15 @@
+pub mod Members
+pub mod AlikeLists
+pub mod MappedLists
+pub mod Picked
+pub mod Permuted
+pub mod PermutedFilters
+pub mod Counting
+pub mod Ranked
+pub mod Sorting
+pub mod Present
+pub mod Cancelling
+pub mod Orderings
+pub mod SortedLists
+pub mod Texts
+pub mod ReadingWords

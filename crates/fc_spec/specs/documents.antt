@@ -1,0 +1,13 @@
+pub mod Val
+pub mod Document
+pub mod Schema
+pub mod World
+pub mod Bits
+pub mod Columns
+pub mod IntegerTexts
+pub mod SchemaReading
+pub mod DocFault
+pub mod BlockReading
+pub mod ValidBlocks
+pub mod Totals
+pub mod ValOrder

@@ -1,0 +1,21 @@
+-- Documents, blocks and batches. Guide: Indexing Nested Child Documents.
+use Rattle.std.specs.Prelude.{ℕ, List, []}
+use Rattle.std.specs.List.{slice_index_or}
+use Rattle.fc_spec.specs.documents.Val.{Val}
+
+-- for each field's number its values, different and in index order
+abbrev pub Document : Type 0
+Document = List (List Val)
+
+-- the document's values in a field; none where it has none
+abbrev pub values_of : Document → ℕ → List Val
+values_of d field = slice_index_or d field []
+
+-- child documents and the parent that follows them
+pub record Block : Type 0 where
+  pub children : List Document
+  pub parent : Document
+
+-- what one commit adds to a shard
+abbrev pub Batch : Type 0
+Batch = List Block

@@ -1,0 +1,11 @@
+pub mod CombiningLaw
+pub mod SortingLaw
+pub mod WithoutLimits
+pub mod RefinedPaths
+pub mod ShardAlone
+pub mod Merging
+pub mod RoundsEnd
+pub mod SpellingLaw
+pub mod QuerySpellingLaw
+pub mod QueryReadingLaw
+pub mod RequestLaws

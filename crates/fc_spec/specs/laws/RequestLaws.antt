@@ -1,0 +1,55 @@
+-- What is read is valid; and what holds of valid requests: where they exclude, how deep their terms facets and the messages for them nest.
+use Rattle.std.specs.Prelude.{◌≡◌, ℕ, List, ◌≤◌, IsTrue, true, Ok, All}
+use Rattle.serde_json.specs.Data.{Data}
+use Rattle.std.specs.List.{AllByRecursion}
+use Rattle.fc_spec.specs.documents.Schema.{Schema}
+use Rattle.fc_spec.specs.documents.World.{World}
+use Rattle.fc_spec.specs.requests.Request.{Request}
+use Rattle.fc_spec.specs.queries.ValidQueries.{IsValidQuery}
+use Rattle.fc_spec.specs.requests.ValidRequests.{IsValidFilter, AreValidNodes, node_depth, IsValidRequest}
+use Rattle.fc_spec.specs.scripts.JsonValues.{HasNumbers, HasAscendingKeys}
+use Rattle.fc_spec.specs.scripts.Script.{Line, add, commit, sync, asks, Script}
+use Rattle.fc_spec.specs.scripts.ScriptTotals.{Limits}
+use Rattle.fc_spec.specs.scripts.ScriptReading.{script_of}
+use Rattle.fc_spec.specs.requests.RequestReading.{request_of}
+use Rattle.fc_spec.specs.requests.Shape.{outermost_exclusions}
+use Rattle.fc_spec.specs.messages.Lacks.{terms_depth}
+use Rattle.fc_spec.specs.messages.Rounds.{search_rounds}
+use Rattle.fc_spec.specs.messages.Message.{Ask}
+use Rattle.fc_spec.specs.messages.Answer.{answer}
+use Rattle.fc_spec.specs.messages.Nesting.{nesting}
+
+-- for data whose numbers are those of JSON, the query, the filters and each node of the request that is read are valid, and nodes nest at most eight deep
+abbrev pub ReadAreValid : Type 0
+ReadAreValid = (s : Schema) (d : Data) (r : Request) → HasNumbers d → request_of s d ≡ Ok r → IsValidQuery s r.query × All (IsValidFilter s) r.filters × AreValidNodes s true r.nodes × (node_depth r.nodes ≤ 8)
+
+-- where the keys of each object ascend too, the request is valid
+abbrev pub ReadAreValidWhole : Type 0
+ReadAreValidWhole = (s : Schema) (d : Data) (r : Request) → HasNumbers d → HasAscendingKeys d → request_of s d ≡ Ok r → IsValidRequest s r
+
+-- what a line's search asks is a valid request, where it is one
+abbrev pub AsksValid : Schema → Line Data → Type 0
+AsksValid s (asks session d) = (r : Request) → request_of s d ≡ Ok r → IsValidRequest s r
+AsksValid s (add shard block) = Unit {0}
+AsksValid s (commit shard) = Unit {0}
+AsksValid s sync = Unit {0}
+
+-- so are the requests of every script that bytes spell
+abbrev pub ScriptsAskValid : Type 0
+ScriptsAskValid = (limits : Limits) (bytes : List ℕ) (S : Script Data) → script_of limits bytes ≡ Ok S → All (AsksValid S.schema) S.lines
+
+-- exclusions stand on outermost facets only
+abbrev pub ValidExcludeOutermost : Type 0
+ValidExcludeOutermost = (s : Schema) (r : Request) → IsValidRequest s r → IsTrue (outermost_exclusions r.nodes)
+
+-- at most eight terms facets stand around each other
+abbrev pub ValidHaveFewDepths : Type 0
+ValidHaveFewDepths = (s : Schema) (r : Request) → IsValidRequest s r → terms_depth r.nodes ≤ 8
+
+-- so the rounds of a search have the numbers from 1 to 9
+abbrev pub ValidHaveFewRounds : Type 0
+ValidHaveFewRounds = (s : Schema) (r : Request) (W : World) → IsValidRequest s r → AllByRecursion (λ m. (1 ≤ m.round) × (m.round ≤ 9)) (search_rounds r W)
+
+-- buckets nest at most nine deep in each answer of a shard
+abbrev pub ValidAnswersNestLittle : Type 0
+ValidAnswersNestLittle = (s : Schema) (r : Request) (W : World) (i : ℕ) (ask : Ask) → IsValidRequest s r → nesting (answer r W i ask) ≤ 9

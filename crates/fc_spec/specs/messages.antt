@@ -1,0 +1,11 @@
+pub mod KeyOrder
+pub mod Message
+pub mod Answer
+pub mod Held
+pub mod Merged
+pub mod MessageShape
+pub mod Lacks
+pub mod Rounds
+pub mod MessageBytes
+pub mod Nesting
+pub mod Trace

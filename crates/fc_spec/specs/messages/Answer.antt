@@ -1,0 +1,96 @@
+-- What a shard answers: by the definitions of replies, on its own places.
+use Rattle.std.specs.Prelude.{ℕ, zero, suc, List, [], ◌∷◌, ◌++◌, map, not, Option, None, Some}
+use Rattle.std.specs.List.{filter}
+use Rattle.fc_spec.specs.words.Lists.{is_empty}
+use Rattle.fc_spec.specs.documents.World.{World, Place, on_shards}
+use Rattle.fc_spec.specs.requests.Request.{Kind, terms, range, query, Facet, Nodes, no_nodes, statistic, facet, Request, stats_of}
+use Rattle.fc_spec.specs.requests.Base.{root_domain}
+use Rattle.fc_spec.specs.requests.Domain.{domain}
+use Rattle.fc_spec.specs.requests.Buckets.{Key, value, missing, whole, bucket_places}
+use Rattle.fc_spec.specs.requests.Paths.{places_inside}
+use Rattle.fc_spec.specs.requests.Statistics.{Stats, stats_over}
+use Rattle.fc_spec.specs.replies.Printed.{asked, range_keys}
+use Rattle.fc_spec.specs.replies.Reading.{offered}
+use Rattle.fc_spec.specs.messages.Message.{Partials, no_partials, partial, Rows, no_rows, row, Way, Want, way_of, Ask, first, more}
+
+-- those of the keys whose bucket is not empty
+abbrev pub not_empty : Kind → List Place → List Key → List Key
+not_empty kind Y keys = filter (λ k. not (is_empty (bucket_places kind k Y))) keys
+
+-- the keys that shard i lists of a node over its part Y of the domain, in their order: what it offers, and missing where asked and not empty; the buckets of a range that are not empty; the whole
+abbrev pub answer_keys : Kind → Nodes → List Place → ℕ → List Key
+answer_keys (terms t) inner Y i = map value (offered t inner Y i) ++ not_empty (terms t) Y (asked t.missing missing)
+answer_keys (range g) inner Y i = not_empty (range g) Y (range_keys g)
+answer_keys (query q) inner Y i = whole ∷ []
+
+-- one bucket for each key
+abbrev pub partials_of : (stats : Key → Stats) → (rows : Key → Rows) → List Key → Partials
+partials_of stats rows [] = no_partials
+partials_of stats rows (k ∷ ks) = partial k (stats k) (rows k) (partials_of stats rows ks)
+
+-- shard i's part of the domain of a node in a bucket, from the bucket's part X there
+abbrev pub answer_domain : Request → World → ℕ → Facet → List Place → List Place
+answer_domain r W i f X = on_shards (i ∷ []) (domain r W f.change X)
+
+-- what shard i lists for the facets of a bucket, from its part X of the bucket
+abbrev pub answer_rows : Request → World → ℕ → Nodes → List Place → Rows
+answer_rows r W i no_nodes X = no_rows
+answer_rows r W i (statistic name s rest) X = answer_rows r W i rest X
+answer_rows r W i (facet f inner rest) X =
+    row
+    (partials_of (λ k. stats_over (stats_of inner) (bucket_places f.kind k (answer_domain r W i f X))) (λ k. answer_rows r W i inner (bucket_places f.kind k (answer_domain r W i f X)))
+    (answer_keys f.kind inner (answer_domain r W i f X) i))
+    (answer_rows r W i rest X)
+
+-- the facet with a number among nodes, and the nodes nested in it
+abbrev pub facet_at : ℕ → Nodes → Option (Facet × Nodes)
+facet_at n no_nodes = None
+facet_at zero (statistic name s rest) = None
+facet_at zero (facet f inner rest) = Some (f, inner)
+facet_at (suc n) (statistic name s rest) = facet_at n rest
+facet_at (suc n) (facet f inner rest) = facet_at n rest
+
+-- the nodes nested in it; none in no facet
+abbrev pub nodes_in : Option (Facet × Nodes) → Nodes
+nodes_in None = no_nodes
+nodes_in (Some f) = f.1
+
+-- the nodes nested in the one where a way leads
+abbrev pub nodes_at : Way → Nodes → Nodes
+nodes_at [] nodes = nodes
+nodes_at (step ∷ way) nodes = nodes_at way (nodes_in (facet_at step.node nodes))
+
+-- a set of places, with the nodes of its bucket
+pub record Spot : Type 0 where
+  pub nodes : Nodes
+  pub places : List Place
+
+-- one step further in; a step that names no facet leads nowhere
+abbrev pub spot_in : Request → World → Key → List Place → Option (Facet × Nodes) → Spot
+spot_in r W key X None = record { nodes = no_nodes; places = [] }
+spot_in r W key X (Some f) = record { nodes = f.1; places = places_inside r W f.0 key X }
+
+-- where a way leads, over all shards
+abbrev pub spot_at : Request → World → Way → Spot → Spot
+spot_at r W [] s = s
+spot_at r W (step ∷ way) s = spot_at r W way (spot_in r W step.key s.places (facet_at step.node s.nodes))
+
+abbrev pub way_spot : Request → World → Way → Spot
+way_spot r W way = spot_at r W way (record { nodes = r.nodes; places = root_domain r W })
+
+-- shard i's bucket of a key, where a way leads
+abbrev pub answer_bucket : Request → World → ℕ → Way → Key → Partials → Partials
+answer_bucket r W i way key rest =
+    let s = way_spot r W way in
+    let X = on_shards (i ∷ []) s.places in
+    partial key (stats_over (stats_of s.nodes) X) (answer_rows r W i s.nodes X) rest
+
+-- one bucket for each want, in their order
+abbrev pub answer_wants : Request → World → ℕ → List Want → Partials
+answer_wants r W i [] = no_partials
+answer_wants r W i (w ∷ ws) = answer_bucket r W i (way_of w) w.key (answer_wants r W i ws)
+
+-- the message of shard i for an ask
+abbrev pub answer : Request → World → ℕ → Ask → Partials
+answer r W i first = answer_bucket r W i [] whole no_partials
+answer r W i (more wants) = answer_wants r W i wants

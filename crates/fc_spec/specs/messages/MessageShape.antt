@@ -1,0 +1,88 @@
+-- The shape of a message for an ask.
+use Rattle.std.specs.Prelude.{ℕ, List, [], ◌∷◌, length, Bool, true, false, not, ◌&&◌, ◌||◌, nat_le, Option, None, Some}
+use Rattle.std.specs.Ordering.{is_lt}
+use Rattle.fc_spec.specs.requests.Request.{Stat, StatKind, min, max, Kind, terms, range, query, Facet, Nodes, no_nodes, statistic, facet, Request, stats_of}
+use Rattle.fc_spec.specs.requests.Buckets.{Key, whole, is_key_of, is_whole}
+use Rattle.fc_spec.specs.messages.KeyOrder.{key_cmp, same_key}
+use Rattle.fc_spec.specs.requests.Statistics.{StatValue, number, extreme, Stats}
+use Rattle.fc_spec.specs.requests.Ranks.{rank_bound}
+use Rattle.fc_spec.specs.messages.Held.{listed_values}
+use Rattle.fc_spec.specs.messages.Message.{Partials, no_partials, partial, Rows, no_rows, row, Want, way_of, Ask, first, more}
+use Rattle.fc_spec.specs.messages.Answer.{nodes_at}
+
+-- least and greatest values may be absent, the other statistics are numbers
+abbrev pub is_extreme : StatKind → Bool
+is_extreme min = true
+is_extreme max = true
+is_extreme _ = false
+
+abbrev pub value_fits : Stat → StatValue → Bool
+value_fits s (number n) = not (is_extreme s.of)
+value_fits s (extreme o) = is_extreme s.of
+
+-- one for each statistic, in order
+abbrev pub values_fit : List Stat → List StatValue → Bool
+values_fit [] [] = true
+values_fit [] (v ∷ vs) = false
+values_fit (s ∷ ss) [] = false
+values_fit (s ∷ ss) (v ∷ vs) = value_fits s v && values_fit ss vs
+
+-- every bucket but the whole has a place
+abbrev pub count_fits : Key → Stats → Bool
+count_fits k s = is_whole k || nat_le 1 s.count
+
+-- the key stands behind the one before it, where there is one
+abbrev pub key_ascends : Option Key → Key → Bool
+key_ascends None k = true
+key_ascends (Some earlier) k = is_lt (key_cmp earlier k)
+
+-- no bucket
+abbrev pub is_nothing : Partials → Bool
+is_nothing no_partials = true
+is_nothing _ = false
+
+-- the number is at most the bound, where there is one
+abbrev pub is_at_most_bound : Option ℕ → ℕ → Bool
+is_at_most_bound None n = true
+is_at_most_bound (Some bound) n = nat_le n bound
+
+-- a query facet lists its whole bucket; a terms facet with a limit no more values than a shard offers
+abbrev pub is_complete : Kind → Partials → Bool
+is_complete (terms t) ps = is_at_most_bound (rank_bound t.offset t.limit t.overrequest) (length (listed_values ps))
+is_complete (range g) ps = true
+is_complete (query q) ps = not (is_nothing ps)
+
+abbrev mutual
+  -- a list of buckets for each of the facets
+  pub rows_fit : Rows → Nodes → Bool
+  rows_fit no_rows no_nodes = true
+  rows_fit rows (statistic name s nodes) = rows_fit rows nodes
+  rows_fit (row ps rest) (facet f inner nodes) = is_complete f.kind ps && partials_fit ps f inner None && rows_fit rest nodes
+  rows_fit _ _ = false
+
+  -- buckets of a facet, with ascending keys of it
+  pub partials_fit : Partials → Facet → Nodes → Option Key → Bool
+  partials_fit no_partials f inner last = true
+  partials_fit (partial k stats rows rest) f inner last =
+      key_ascends last k && is_key_of f.kind k && count_fits k stats && values_fit (stats_of inner) stats.values && rows_fit rows inner && partials_fit rest f inner (Some k)
+
+-- a top bucket, read with its key and the nodes nested in its own
+abbrev pub top_fits : Key → Nodes → Key → Stats → Rows → Bool
+top_fits key nodes k stats rows = same_key key k && values_fit (stats_of nodes) stats.values && rows_fit rows nodes
+
+-- one bucket for each want, of the wanted key, read with the wanted node
+abbrev pub wants_fit : Nodes → List Want → Partials → Bool
+wants_fit nodes [] no_partials = true
+wants_fit nodes [] (partial k stats rows rest) = false
+wants_fit nodes (w ∷ ws) no_partials = false
+wants_fit nodes (w ∷ ws) (partial k stats rows rest) = top_fits w.key (nodes_at (way_of w) nodes) k stats rows && wants_fit nodes ws rest
+
+-- one bucket, the root's
+abbrev pub root_fits : Nodes → Partials → Bool
+root_fits nodes (partial k stats rows no_partials) = top_fits whole nodes k stats rows
+root_fits nodes _ = false
+
+-- the message has the shape that the ask demands
+abbrev pub is_shaped : Request → Ask → Partials → Bool
+is_shaped r first m = root_fits r.nodes m
+is_shaped r (more wants) m = wants_fit r.nodes wants m

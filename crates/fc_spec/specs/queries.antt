@@ -1,0 +1,15 @@
+pub mod Query
+pub mod Matching
+pub mod QueryFault
+pub mod QueryCharacters
+pub mod QueryTokens
+pub mod QueryWords
+pub mod QueryRanges
+pub mod QueryRow
+pub mod QueryTrees
+pub mod QueryForms
+pub mod QueryMeaning
+pub mod TreeReading
+pub mod QueryTexts
+pub mod FilterReading
+pub mod ValidQueries

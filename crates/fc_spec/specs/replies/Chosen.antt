@@ -1,0 +1,34 @@
+-- Candidates, chosen values and known shards. Guide: JSON Facet API, "Terms Facet" (`refine`, `overrefine`).
+use Rattle.std.specs.Prelude.{ℕ, List, map, None, if◌then◌else◌}
+use Rattle.std.specs.List.{filter, flat_map}
+use Rattle.fc_spec.specs.documents.Val.{Val, has_val, distinct}
+use Rattle.fc_spec.specs.requests.Request.{Terms, terms, Nodes, stats_of}
+use Rattle.fc_spec.specs.requests.Buckets.{value}
+use Rattle.fc_spec.specs.requests.Ranks.{Entry, below_rank, rank_bound}
+use Rattle.fc_spec.specs.replies.Reading.{Reading, stats_on}
+
+-- of a terms facet with its nested nodes, in a domain on the shards H
+module _ {B D : Type 0} (R : Reading B D) (t : Terms) (inner : Nodes) (H : List ℕ) (Y : D) where
+  -- the values that some shard of H offers, in index order
+  abbrev pub candidates : List Val
+  candidates = distinct (flat_map (λ i. R.offered_by t inner Y i) H)
+
+  -- the shards of H that offer the value
+  abbrev pub offering : Val → List ℕ
+  offering v = filter (λ i. has_val v (R.offered_by t inner Y i)) H
+
+  -- the value with the count and the statistics of its part on these shards
+  abbrev pub entry_on : List ℕ → Val → Entry
+  entry_on shards v = record { val = v; stats = stats_on R (stats_of inner) shards (R.bucket_at (terms t) Y (value v)) }
+
+  -- with refine and a limit the candidates whose rank, over the shards that offer them, is below the bound; else every candidate
+  abbrev pub chosen : List Val
+  chosen = map (λ e. e.val) (below_rank t.sort (if t.refine then rank_bound t.offset t.limit t.overrefine else None) (map (λ v. entry_on (offering v) v) candidates))
+
+  -- the shards over which a chosen value is counted: with refine all of H, else those that offer it
+  abbrev pub known : Val → List ℕ
+  known v = if t.refine then H else offering v
+
+  -- the chosen values, each over its known shards
+  abbrev pub chosen_entries : List Entry
+  chosen_entries = map (λ v. entry_on (known v) v) chosen

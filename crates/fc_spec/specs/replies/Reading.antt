@@ -1,0 +1,42 @@
+-- What the text of the distributed reply asks of buckets, apart from how they are held; and how places answer.
+use Rattle.std.specs.Prelude.{ℕ, List, [], ◌∷◌, map, length}
+use Rattle.std.specs.List.{enumerate_from}
+use Rattle.fc_spec.specs.documents.Val.{Val}
+use Rattle.fc_spec.specs.documents.World.{World, Place, on_shards}
+use Rattle.fc_spec.specs.requests.Request.{Stat, Terms, Kind, Facet, Nodes, Request, stats_of}
+use Rattle.fc_spec.specs.requests.Domain.{domain}
+use Rattle.fc_spec.specs.requests.Buckets.{Key, bucket_places}
+use Rattle.fc_spec.specs.requests.Statistics.{StatValue, Stats, value_over}
+use Rattle.fc_spec.specs.requests.Ranks.{below_rank, rank_bound}
+use Rattle.fc_spec.specs.replies.Values.{entries_in}
+
+-- B holds a bucket, D the domain of a node. A list of shards names each once; nodes and statistics are numbered from 0 among those of their bucket
+pub record Reading (B D : Type 0) : Type 0 where
+  -- the domain of a facet, by its number among the nodes: made from the bucket's part on the shards, and cut to the shards
+  pub domain_on : ℕ → Facet → List ℕ → B → D
+  -- the bucket of a key in a domain
+  pub bucket_at : Kind → D → Key → B
+  -- the count of the bucket's part on the shards
+  pub count_on : List ℕ → B → ℕ
+  -- a statistic of that part, by its number
+  pub statistic_on : ℕ → Stat → List ℕ → B → StatValue
+  -- the values that a shard offers of a terms facet with these nested nodes, in index order
+  pub offered_by : Terms → Nodes → D → ℕ → List Val
+
+-- the count of the bucket's part on the shards, and its statistics in order
+abbrev pub stats_on : {B D : Type 0} → Reading B D → List Stat → List ℕ → B → Stats
+stats_on R ss H X = record { count = R.count_on H X; values = map (λ s. R.statistic_on s.0 s.1 H X) (enumerate_from 0 ss) }
+
+-- a shard ranks its own values over its own places, and offers those below the bound. Guide: JSON Facet API, "Terms Facet" (`overrequest`)
+abbrev pub offered : Terms → Nodes → List Place → ℕ → List Val
+offered t inner Y i = map (λ e. e.val) (below_rank t.sort (rank_bound t.offset t.limit t.overrequest) (entries_in t (stats_of inner) (on_shards (i ∷ []) Y)))
+
+-- a bucket, and a domain, is a set of places
+abbrev pub over_places : Request → World → Reading (List Place) (List Place)
+over_places r W = record {
+  domain_on = λ n f H X. on_shards H (domain r W f.change (on_shards H X));
+  bucket_at = λ kind Y key. bucket_places kind key Y;
+  count_on = λ H X. length (on_shards H X);
+  statistic_on = λ m s H X. value_over s (on_shards H X);
+  offered_by = offered;
+}

@@ -1,0 +1,204 @@
+-- What request a JSON value is, or the first fault of a walk over it, with the names of the facets around it. Guide: JSON Request API; JSON Facet API.
+use Rattle.std.specs.Prelude.{ℕ, zero, suc, ◌+◌, List, [], ◌∷◌, codes, Bool, true, false, not, ◌||◌, ◌==◌, nat_lt, Option, None, Some, option_map, unwrap_or, ok_or, Result, Ok, Err, if◌then◌else◌}
+use Rattle.std.specs.Option.{option_and_then}
+use Rattle.serde_json.specs.Data.{Data, string, array, Items, no_items, item, Members, no_members, member}
+use Rattle.serde_json.specs.Find.{as_object, as_str, get_member}
+use Rattle.fc_spec.specs.documents.Val.{Text, same_text}
+use Rattle.fc_spec.specs.documents.Schema.{Schema}
+use Rattle.fc_spec.specs.scripts.JsonObjects.{natural_in}
+use Rattle.fc_spec.specs.queries.Query.{Query, all}
+use Rattle.fc_spec.specs.queries.QueryFault.{FilterFault, shape, query as of_query}
+use Rattle.fc_spec.specs.queries.FilterReading.{filter_of}
+use Rattle.fc_spec.specs.requests.Request.{Filter, Stat, DomainChange, Kind, terms, range, Nodes, no_nodes, statistic, facet, Request}
+use Rattle.fc_spec.specs.requests.RequestFault.{QFault, not_an_object, bad_command, unknown_type, bad_parameter, reserved_name, too_large, RequestFault}
+use Rattle.fc_spec.specs.requests.RequestWalk.{query_fault, outside, inside, check_names, required, optional, text_in}
+use Rattle.fc_spec.specs.requests.StatisticReading.{statistic_of}
+use Rattle.fc_spec.specs.requests.DomainReading.{change_in, query_in}
+use Rattle.fc_spec.specs.requests.SortReading.{sort_in}
+use Rattle.fc_spec.specs.requests.FacetReading.{terms_parts, terms_of, range_parts, query_part}
+use Rattle.fc_spec.specs.words.Walks.{◌>>=◌, unless, with_fault}
+
+-- ---- nodes
+
+-- a node that was read: a statistic, or a facet with the nodes nested in it
+pub data Node : Type 0 where
+  of_statistic : Stat → Node
+  of_facet : DomainChange → Kind → Nodes → Node
+
+-- nodes that were read, and how many nodes of the walk there are up to here
+pub record Walked (A : Type 0) : Type 0 where
+  pub read : A
+  pub nodes : ℕ
+
+-- in front of others, under its name
+abbrev pub with_node : Text → Node → Nodes → Nodes
+with_node name (of_statistic s) rest = statistic name s rest
+with_node name (of_facet change kind inner) rest = facet (record { name = name; change = change; kind = kind }) inner rest
+
+-- what reads the members of an object as nodes, behind so many nodes of the walk
+abbrev pub Reader : Type 0
+Reader = ℕ → Members → Result (Walked Nodes) RequestFault
+
+-- the members of an object, in the byte order of their names, each as a node; a fault has the node's name around it
+abbrev pub members_read : (node : ℕ → Text → Data → Result (Walked Node) RequestFault) → Reader
+members_read node n no_members = Ok (record { read = no_nodes; nodes = n })
+members_read node n (member name d ms) = do
+  first ← with_fault (inside name) (node n name d)
+  rest ← members_read node first.nodes ms
+  Ok (record { read = with_node name first.read rest.read; nodes = rest.nodes })
+
+-- the name is taken by what each bucket has
+abbrev pub is_reserved : Text → Bool
+is_reserved name = same_text name (codes "count") || same_text name (codes "val")
+
+-- the nodes nested in a facet
+abbrev pub inner_read : Reader → ℕ → Option Data → Result (Walked Nodes) RequestFault
+inner_read deeper n None = Ok (record { read = no_nodes; nodes = n })
+inner_read deeper n (Some d) = do
+  inner ← ok_or (as_object d) (outside not_an_object)
+  deeper n inner
+
+-- a step of the node itself
+abbrev pub own : {A : Type 0} → Result A QFault → Result A RequestFault
+own r = with_fault outside r
+
+-- a facet, read
+abbrev pub facet_read : DomainChange → Kind → Walked Nodes → Walked Node
+facet_read change kind inner = record { read = of_facet change kind inner.read; nodes = inner.nodes }
+
+-- the parameters of each type in their order; a terms facet's sort comes last, behind the statistics that it may name
+abbrev pub terms_read : Schema → (outermost : Bool) → Reader → ℕ → Members → Result (Walked Node) RequestFault
+terms_read s outermost deeper n ms = do
+  parts ← own (terms_parts s ms)
+  change ← own (change_in s outermost ms)
+  inner ← inner_read deeper n (get_member (codes "facet") ms)
+  sort ← own (sort_in inner.read ms)
+  Ok (facet_read change (terms (terms_of parts sort)) inner)
+
+abbrev pub range_read : Schema → (outermost : Bool) → Reader → ℕ → Members → Result (Walked Node) RequestFault
+range_read s outermost deeper n ms = do
+  g ← own (range_parts s ms)
+  change ← own (change_in s outermost ms)
+  inner ← inner_read deeper n (get_member (codes "facet") ms)
+  Ok (facet_read change (range g) inner)
+
+abbrev pub query_read : Schema → (outermost : Bool) → Reader → ℕ → Members → Result (Walked Node) RequestFault
+query_read s outermost deeper n ms = do
+  q ← own (query_part s ms)
+  change ← own (change_in s outermost ms)
+  inner ← inner_read deeper n (get_member (codes "facet") ms)
+  Ok (facet_read change q inner)
+
+abbrev pub statistic_read : Schema → ℕ → Text → Result (Walked Node) RequestFault
+statistic_read s n t = do
+  st ← own (statistic_of s t)
+  Ok (record { read = of_statistic st; nodes = n })
+
+abbrev pub func_read : Schema → ℕ → Members → Result (Walked Node) RequestFault
+func_read s n ms = do
+  d ← own (required (codes "func") ms)
+  t ← own (text_in d)
+  statistic_read s n t
+
+-- the types, and the names of their parameters
+pub data FacetType : Type 0 where
+  terms_type : FacetType
+  range_type : FacetType
+  query_type : FacetType
+  func_type : FacetType
+
+abbrev pub type_named : Text → Option FacetType
+type_named t =
+    if same_text t (codes "terms") then Some terms_type
+    else (if same_text t (codes "range") then Some range_type
+    else (if same_text t (codes "query") then Some query_type
+    else (if same_text t (codes "func") then Some func_type else None)))
+
+abbrev pub parameters : FacetType → List Text
+parameters terms_type =
+    codes "type" ∷ codes "field" ∷ codes "offset" ∷ codes "limit" ∷ codes "mincount" ∷ codes "missing" ∷ codes "prefix" ∷ codes "refine" ∷ codes "overrequest" ∷ codes "overrefine" ∷ codes "method" ∷ codes "domain" ∷ codes "facet" ∷ codes "sort" ∷ []
+parameters range_type =
+    codes "type" ∷ codes "field" ∷ codes "start" ∷ codes "end" ∷ codes "gap" ∷ codes "hardend" ∷ codes "other" ∷ codes "include" ∷ codes "domain" ∷ codes "facet" ∷ []
+parameters query_type = codes "type" ∷ codes "q" ∷ codes "domain" ∷ codes "facet" ∷ []
+parameters func_type = codes "type" ∷ codes "func" ∷ []
+
+abbrev pub typed_read : FacetType → Schema → (outermost : Bool) → Reader → ℕ → Members → Result (Walked Node) RequestFault
+typed_read terms_type s outermost deeper n ms = terms_read s outermost deeper n ms
+typed_read range_type s outermost deeper n ms = range_read s outermost deeper n ms
+typed_read query_type s outermost deeper n ms = query_read s outermost deeper n ms
+typed_read func_type s outermost deeper n ms = func_read s n ms
+
+-- the type that a command names
+abbrev pub type_of : Members → Result FacetType QFault
+type_of ms = do
+  d ← required (codes "type") ms
+  ok_or (option_and_then type_named (as_str d)) unknown_type
+
+-- a command: a text is a statistic, an object names its type
+abbrev pub command_read : Schema → (outermost : Bool) → Reader → ℕ → Data → Result (Walked Node) RequestFault
+command_read s outermost deeper n (string t) = statistic_read s n t
+command_read s outermost deeper n d = do
+  ms ← own (ok_or (as_object d) bad_command)
+  kind ← own (type_of ms)
+  _ ← own (check_names (parameters kind) ms)
+  typed_read kind s outermost deeper n ms
+
+-- a node behind n nodes of the walk: at most 64 are read, siblings and nested ones together
+abbrev pub node_read : Schema → (outermost : Bool) → Reader → ℕ → Text → Data → Result (Walked Node) RequestFault
+node_read s outermost deeper n name d = do
+  _ ← own (unless (nat_lt n 64) too_large)
+  _ ← own (unless (not (is_reserved name)) reserved_name)
+  command_read s outermost deeper (n + 1) d
+
+-- nodes with so many depths left; with none left each node is too deep
+abbrev pub nodes_within : ℕ → Schema → (outermost : Bool) → Reader
+nodes_within zero s outermost n ms = members_read (λ m name d. own (Err too_large)) n ms
+nodes_within (suc left) s outermost n ms = members_read (node_read s outermost (nodes_within left s false)) n ms
+
+-- ---- the request
+
+abbrev pub filter_fault : FilterFault → QFault
+filter_fault shape = bad_parameter
+filter_fault (of_query e) = query_fault e
+
+abbrev pub filter_read : Schema → Data → Result Filter QFault
+filter_read s d = with_fault filter_fault (filter_of s d)
+
+abbrev pub filters_of : Schema → Items → Result (List Filter) QFault
+filters_of s no_items = Ok []
+filters_of s (item d ds) = do
+  f ← filter_read s d
+  fs ← filters_of s ds
+  Ok (f ∷ fs)
+
+-- one filter, or an array of them
+abbrev pub filters_in : Schema → Data → Result (List Filter) QFault
+filters_in s (array ds) = filters_of s ds
+filters_in s d = do
+  f ← filter_read s d
+  Ok (f ∷ [])
+
+-- a text; every document where no query is named
+abbrev pub main_query : Schema → Data → Result Query QFault
+main_query s d = do
+  t ← text_in d
+  query_in s t
+
+-- the whole number 0: no documents are asked for
+abbrev pub zero_in : Data → Result (Unit {0}) QFault
+zero_in d = unless (unwrap_or (option_map (λ n. n == 0) (natural_in d)) false) bad_parameter
+
+abbrev pub request_members : Schema → Members → Result Request RequestFault
+request_members s ms = do
+  _ ← own (check_names (codes "query" ∷ codes "filter" ∷ codes "limit" ∷ codes "facet" ∷ []) ms)
+  q ← own (optional (main_query s) all (get_member (codes "query") ms))
+  fs ← own (optional (filters_in s) [] (get_member (codes "filter") ms))
+  _ ← own (optional zero_in tt (get_member (codes "limit") ms))
+  nodes ← inner_read (nodes_within 8 s true) 0 (get_member (codes "facet") ms)
+  Ok (record { query = q; filters = fs; nodes = nodes.read })
+
+-- the request, or its first fault
+unfoldable pub request_of : Schema → Data → Result Request RequestFault
+request_of s d = do
+  ms ← own (ok_or (as_object d) not_an_object)
+  request_members s ms

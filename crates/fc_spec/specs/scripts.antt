@@ -1,0 +1,13 @@
+pub mod JsonObjects
+pub mod ScriptFault
+pub mod Lines
+pub mod Script
+pub mod Phases
+pub mod Outputs
+pub mod ScriptLines
+pub mod ScriptTotals
+pub mod LineReading
+pub mod ScriptReading
+pub mod ScriptParts
+pub mod ValidScripts
+pub mod JsonValues
