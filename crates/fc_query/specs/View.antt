@@ -8,7 +8,7 @@ use Rattle.fc_query.specs.declared.characters.Character.{Character}
 use Rattle.fc_query.specs.declared.characters.Character.TheVariants.{Bare, Escaped}
 use Rattle.fc_query.specs.declared.classes.Part.{Part}
 use Rattle.fc_query.specs.declared.classes.Part.TheVariants.{Word, Quoted, End}
-use Rattle.fc_query.specs.declared.tokens.Range.{Range}
+use Rattle.fc_query.specs.declared.tokens.WrittenRange.{WrittenRange}
 use Rattle.fc_query.specs.declared.tokens.Value.{Value}
 use Rattle.fc_query.specs.declared.tokens.Value.TheVariants as v
 use Rattle.fc_query.specs.declared.tokens.Sign.{Sign}
@@ -28,7 +28,7 @@ part_test Word c = definition.goes_on c
 part_test Quoted c = definition.is_quotable c
 part_test End c = definition.stands_in_end c
 
-abbrev pub range_view : Range → token.WrittenRange
+abbrev pub range_view : WrittenRange → token.WrittenRange
 range_view r = record { low = option_map string_bytes r.low; high = option_map string_bytes r.high; has_low = r.has_low; has_high = r.has_high }
 
 abbrev pub value_view : Value → token.Value

@@ -14,7 +14,7 @@ ghost use Rattle.fc_query.specs.View.{part_test, token_view, tokens_view};
 use crate::QueryFault;
 use crate::characters::{Character, Cursor};
 use crate::classes::Part;
-use crate::tokens::{Operator, Range, Sign, Token, Value};
+use crate::tokens::{Operator, Sign, Token, Value, WrittenRange};
 use fc_base::{Refusal, WantMemory};
 use std::alloc::Global;
 
@@ -156,7 +156,7 @@ fn range(alloc: Global, cursor: &mut Cursor, has_low: bool) -> Result<Token, Ref
     let high = end(alloc, cursor)?;
     cursor.skip_white();
     let has_high = bracket(cursor)?;
-    Ok(Token::Value(Value::Range(Range {
+    Ok(Token::Value(Value::Range(WrittenRange {
         low,
         high,
         has_low,

@@ -8,7 +8,7 @@ ghost use Rattle.fc_query.specs.TreeView.{atom_view, group_view};
 ghost use Rattle.fc_query.specs.View.{operator_view, range_view, sign_view, value_view};
 
 use crate::query::{Bound, Need, Query};
-use crate::tokens::{Operator, Range, Sign, Value};
+use crate::tokens::{Operator, Sign, Value, WrittenRange};
 use crate::trees::{Atom, Clause};
 use crate::{QueryFault, query};
 use fc_base::{FieldId, FieldType, Name, Refusal, Schema, Val, long_of};
@@ -26,7 +26,7 @@ fn text_value(alloc: Global, kind: FieldType, text: &str) -> Result<Val, Refusal
     }
 }
 
-fn bound_of(
+fn written_bound(
     alloc: Global,
     kind: FieldType,
     has_end: bool,
@@ -51,15 +51,15 @@ fn range_query(
     alloc: Global,
     field: FieldId,
     kind: FieldType,
-    range: &Range,
+    range: &WrittenRange,
 ) -> Result<Query, Refusal<QueryFault>>
     ensures { Means query_view result (meaning.range_query field.0 (field_type_view kind) (range_view range.now)) }
 {
     if range.low.is_none() && range.high.is_none() {
         return Ok(Query::Has(field));
     }
-    let low = bound_of(alloc, kind, range.has_low, &range.low)?;
-    let high = bound_of(alloc, kind, range.has_high, &range.high)?;
+    let low = written_bound(alloc, kind, range.has_low, &range.low)?;
+    let high = written_bound(alloc, kind, range.has_high, &range.high)?;
     Ok(Query::Between(field, low, high))
 }
 

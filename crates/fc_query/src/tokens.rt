@@ -5,7 +5,7 @@ ghost use Rattle.fc_query.specs.View.{token_view};
 
 /// A range, as it is written: its two ends, and whether it has them. An end that is absent is a star.
 #[derive(Debug, Drop)]
-pub(crate) struct Range {
+pub(crate) struct WrittenRange {
     pub(crate) low: Option<String>,
     pub(crate) high: Option<String>,
     pub(crate) has_low: bool,
@@ -17,7 +17,7 @@ pub(crate) struct Range {
 pub(crate) enum Value {
     Word(String),
     Quoted(String),
-    Range(Range),
+    Range(WrittenRange),
     Star,
 }
 

@@ -13,10 +13,10 @@ use Rattle.fc_spec.specs.requests.Shape.{outermost_exclusions}
 use Rattle.fc_spec.specs.scripts.ScriptFault.{too_long}
 use Rattle.fc_base.specs.declared.error.WantMemory.{WantMemory}
 use Rattle.fc_io.specs.WriteEnd.{AppendsFront}
-use Rattle.fc_script.specs.Refusals.{FirstFault, faulty, refused_line}
+use Rattle.fc_script.specs.ShownFaults.{FirstFault, faulty, first_fault_line}
 use Rattle.fc_script.specs.Built.{AskedScript}
-use Rattle.fc_run.specs.declared.answer.Answer.{Answer}
-use Rattle.fc_run.specs.declared.answer.Answer.TheVariants.{Lines, Fault}
+use Rattle.fc_run.specs.declared.run_text.RunText.{RunText}
+use Rattle.fc_run.specs.declared.run_text.RunText.TheVariants.{Lines, Fault}
 use Rattle.fc_run.specs.declared.status.Status.{Status}
 use Rattle.fc_run.specs.declared.status.Status.TheVariants.{Done, Usage, Script, Read, Memory, Write}
 
@@ -27,7 +27,7 @@ takes words = length words == 1
 -- a whole output of the script, or the line of its fault
 abbrev pub IsWhole : Result AskedScript FirstFault → Text → Type 0
 IsWhole (Ok S) t = IsOutput S t
-IsWhole (Err f) t = t ≡ refused_line f
+IsWhole (Err f) t = t ≡ first_fault_line f
 
 -- nothing, or a front of such a text
 abbrev pub IsFront : Result AskedScript FirstFault → Text → Type 0
@@ -38,7 +38,7 @@ abbrev pub Leaves : Status → Result AskedScript FirstFault → Text → Type 0
 Leaves Done (Ok S) t = IsOutput S t
 Leaves Done (Err f) t = ⊥
 Leaves Script (Ok S) t = ⊥
-Leaves Script (Err f) t = t ≡ refused_line f
+Leaves Script (Err f) t = t ≡ first_fault_line f
 Leaves Usage spelled t = t ≡ []
 Leaves Read spelled t = t ≡ []
 Leaves Memory spelled t = IsFront spelled t
@@ -69,14 +69,14 @@ pub record ArePrinted (S : AskedScript) (t : Text) : Type 0 where
   pub counts : IsCountedOutput S t
 
 -- the answer to a script that is read: its lines, or the line of its fault
-abbrev pub IsAnswer : Result AskedScript FirstFault → Answer → Type 0
-IsAnswer (Ok S) (Lines text) = ArePrinted S text.items
-IsAnswer (Err f) (Fault text) = text.items ≡ refused_line f
-IsAnswer (Ok S) (Fault text) = ⊥
-IsAnswer (Err f) (Lines text) = ⊥
+abbrev pub IsRunText : Result AskedScript FirstFault → RunText → Type 0
+IsRunText (Ok S) (Lines text) = ArePrinted S text.items
+IsRunText (Err f) (Fault text) = text.items ≡ first_fault_line f
+IsRunText (Ok S) (Fault text) = ⊥
+IsRunText (Err f) (Lines text) = ⊥
 
 -- how writing an answer, or having none for want of memory, ends
-abbrev pub Ends : Status → Result Answer WantMemory → Option (List ℕ) → Option (List ℕ) → Type 0
+abbrev pub Ends : Status → Result RunText WantMemory → Option (List ℕ) → Option (List ℕ) → Type 0
 Ends Memory (Err e) old new = new ≡ old
 Ends Done (Ok (Lines text)) old new = Appends old new text.items
 Ends Script (Ok (Fault text)) old new = Appends old new text.items

@@ -26,13 +26,13 @@ with_more o zero = o
 with_more o (suc n) = Some (unwrap_or o 0 + suc n)
 
 -- the order of a tally's keys
-abbrev pub key_cmp : Term → Term → Ordering
-key_cmp a b = val_cmp (term_view a) (term_view b)
+abbrev pub term_cmp : Term → Term → Ordering
+term_cmp a b = val_cmp (term_view a) (term_view b)
 
 -- each value is counted once more for each time that it is in the list, and the keys stay in order
-pub record Counts (old new : Tally) (vs : List definition.Val) : Type 0 where
+pub record IsCounted (old new : Tally) (vs : List definition.Val) : Type 0 where
   pub numbers : (v : definition.Val) → number_at new v ≡ with_more (number_at old v) (count_by (same_val v) vs)
-  pub ordered : IsOrdered key_cmp old → IsOrdered key_cmp new
+  pub ordered : IsOrdered term_cmp old → IsOrdered term_cmp new
 
 -- the number of each value stays in range when these are counted
 pub record HasRoom (tally : Tally) (vs : List definition.Val) : Type 0 where

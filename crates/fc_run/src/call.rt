@@ -8,7 +8,7 @@ ghost use Rattle.fc_script.specs.Built.{outcome};
 ghost use Rattle.fc_run.specs.Outcome.{by_single_index, takes, Ends, IfDone, IsCountedOutput, Leaves, OnDone, OnRead, OnUsage, OnWrite};
 ghost use Rattle.fc_run.specs.declared.status.Status.TheVariants.{Usage};
 
-use crate::answer::{Answer, answer_to, too_long};
+use crate::run_text::{RunText, run_text_of, too_long};
 use crate::status::Status;
 use fc_base::WantMemory;
 use fc_io::{AllRead, Sink, Source, WriteEnd, read_all, write_all};
@@ -16,14 +16,14 @@ use fc_script::SCRIPT_LIMIT;
 use std::alloc::Global;
 
 // Writes the answer, where there is one.
-fn give<K: Sink>(sink: &mut K, answer: &Result<Answer, WantMemory>) -> Status
+fn give<K: Sink>(sink: &mut K, answer: &Result<RunText, WantMemory>) -> Status
     ensures ends { Ends result answer.now (K.written sink.old) (K.written sink.new) }
     ensures rose { OnWrite result (Rose (K.faults sink.old) (K.faults sink.new)) }
     ensures never_falls { K.faults sink.old ≤ K.faults sink.new }
 {
     let (text, status) = match answer {
-        Ok(Answer::Lines(text)) => (text, Status::Done),
-        Ok(Answer::Fault(text)) => (text, Status::Script),
+        Ok(RunText::Lines(text)) => (text, Status::Done),
+        Ok(RunText::Fault(text)) => (text, Status::Script),
         Err(WantMemory) => return Status::Memory,
     };
     match write_all(sink, text) {
@@ -76,7 +76,7 @@ pub fn run<S: Source, K: Sink>(
         return Status::Usage;
     }
     match read_all(alloc, source, SCRIPT_LIMIT) {
-        Ok(AllRead::Bytes(bytes)) => give(sink, &answer_to(alloc, bytes)),
+        Ok(AllRead::Bytes(bytes)) => give(sink, &run_text_of(alloc, bytes)),
         Ok(AllRead::TooLong) => give(sink, &too_long(alloc)),
         Ok(AllRead::ReadFault) => Status::Read,
         Err(WantMemory) => Status::Memory,

@@ -1,8 +1,8 @@
 //! The top call: from the bytes of a script to the bytes of its replies.
 #![tactic(auto)]
 
-mod answer;
 mod call;
+mod run_text;
 mod running;
 mod search;
 mod shard;

@@ -72,8 +72,8 @@ fits_are s sums blocks b count are =
 
 pub duplicate : (limits : Limits) (s : Schema) (ids : List Val) (blocks : List Block) (b : Block) (e : LineFault) → AreIdsOf ids blocks → has_repeat (ids_in (documents_in blocks)) ≡ false → if_new ids (ids_of b) ≡ Err e
     → check_documents limits s (documents_in (blocks ++ b ∷ [])) ≡ Err e
-duplicate limits s ids blocks b e are once refused =
-    let parts = not_by_test (are_new ids (ids_of b)) e refused in
+duplicate limits s ids blocks b e are once shown =
+    let parts = not_by_test (are_new ids (ids_of b)) e shown in
     rw (repeats ids blocks b are once, parts.0) (ap (λ (f : LineFault). Err f) (sym parts.1))
 
 pub once_more : (ids : List Val) (blocks : List Block) (b : Block) → AreIdsOf ids blocks → has_repeat (ids_in (documents_in blocks)) ≡ false → if_new ids (ids_of b) ≡ Ok tt → has_repeat (ids_in (documents_in (blocks ++ b ∷ []))) ≡ false

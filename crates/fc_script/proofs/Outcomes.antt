@@ -16,7 +16,7 @@ use Rattle.fc_spec.specs.scripts.ScriptTotals.{Limits}
 use Rattle.fc_spec.specs.scripts.LineReading.{line_said}
 use Rattle.fc_spec.specs.scripts.ValidScripts.{line_asking}
 use Rattle.fc_spec.specs.words.Walks.{◌>>=◌, unless, with_fault}
-use Rattle.fc_script.specs.Refusals.{Refused, not_built, refused, FirstFault}
+use Rattle.fc_script.specs.ShownFaults.{ShownFault, not_built, shown, FirstFault}
 use Rattle.fc_script.specs.Requests.{request_of}
 use Rattle.fc_script.specs.Built.{AskedScript, asks_unbuilt, first_unbuilt, unbuilt_behind, unbuilt_in, request_or_default, fault_of, not_built_at, judged, outcome_within}
 use Rattle.fc_script.specs.ReadSoFar.{AskedLine, ReadSoFar, asked_line, with_asked, at_line, with_rest, one_shard, read_from, read_in}
@@ -25,8 +25,8 @@ use Rattle.fc_script.proofs.LineOrder.{Ascend, IsBehind, FailsBehind, numbers_as
 use Rattle.fc_script.proofs.NotBuiltFaults.{FailsAsNotBuilt, request_fails, count_fails}
 
 -- what a line says is read before what it asks
-said_first : {A : Type 0} (v : Result Data LineFault) (say : Data → Result (Line Data) LineFault) (next : Line Data → Result A Refused)
-    → (with_fault refused v >>= λ d. with_fault refused (say d) >>= next) ≡ (with_fault refused (v >>= say) >>= next)
+said_first : {A : Type 0} (v : Result Data LineFault) (say : Data → Result (Line Data) LineFault) (next : Line Data → Result A ShownFault)
+    → (with_fault shown v >>= λ d. with_fault shown (say d) >>= next) ≡ (with_fault shown (v >>= say) >>= next)
 said_first (Ok d) say next = refl
 said_first (Err e) say next = refl
 
@@ -56,7 +56,7 @@ module _ (limits : Limits) (s : Schema) where
   lines_judged (Some n) (Err f) = Err (cond (nat_lt n f.line) (not_built_at n) (fault_of f))
 
   -- a fault before each line that is not built
-  fault_first : (n : ℕ) (e : LineFault) (found : Option ℕ) → IsBehind n found → Err (record { line = n; fault = refused e }) ≡ lines_judged found (Err (record { line = n; fault = e }))
+  fault_first : (n : ℕ) (e : LineFault) (found : Option ℕ) → IsBehind n found → Err (record { line = n; fault = shown e }) ≡ lines_judged found (Err (record { line = n; fault = e }))
   fault_first n e None behind = refl
   fault_first n e (Some k) behind = rw (not_below n k behind) refl
 
@@ -66,7 +66,7 @@ module _ (limits : Limits) (s : Schema) where
   unbuilt_first n (Err f) behind = rw (lt-ltb n f.line behind) refl
 
   -- a line that is both
-  unbuilt_here : (n : ℕ) (e : LineFault) (test : Bool) → refused e ≡ not_built → ◌≡◌ {A = Result AskedScript FirstFault} (Err (not_built_at n)) (Err (cond test (not_built_at n) (fault_of (record { line = n; fault = e }))))
+  unbuilt_here : (n : ℕ) (e : LineFault) (test : Bool) → shown e ≡ not_built → ◌≡◌ {A = Result AskedScript FirstFault} (Err (not_built_at n)) (Err (cond test (not_built_at n) (fault_of (record { line = n; fault = e }))))
   unbuilt_here n e true is = refl
   unbuilt_here n e false is = ap (λ g. Err (record { line = n; fault = g })) (sym is)
 
@@ -74,18 +74,18 @@ module _ (limits : Limits) (s : Schema) where
       (later : (now : List (Line Data)) → with_rest (so_far (map (line_asking see) now)) ls ≡ lines_judged (first_unbuilt s ls) (with_lines limits s now ls)) where
     -- behind a line whose count is within its limit, or not
     counted : (now : Line Data) (count : Result (Unit {0}) LineFault)
-        → (at_line n (with_fault refused count >>= λ u. Ok (so_far (map (line_asking see) earlier ++ line_asking see now ∷ []))) >>= λ r. with_rest r ls)
+        → (at_line n (with_fault shown count >>= λ u. Ok (so_far (map (line_asking see) earlier ++ line_asking see now ∷ []))) >>= λ r. with_rest r ls)
         ≡ lines_judged (first_unbuilt s ls) (script_at_line n (count >>= λ u. Ok (earlier ++ now ∷ [])) >>= λ more. with_lines limits s more ls)
     counted now (Ok u) = ap (λ more. with_rest (so_far more) ls) (sym (map-append (line_asking see) earlier (now ∷ []))) ∙ later (earlier ++ now ∷ [])
     counted now (Err e) = fault_first n e (first_unbuilt s ls) behind
 
     -- a line that is not built, whether its count is within its limit or not
-    unbuilt : (now : Line Data) (count : Result (Unit {0}) LineFault) → FailsAsNotBuilt (with_fault refused count)
+    unbuilt : (now : Line Data) (count : Result (Unit {0}) LineFault) → FailsAsNotBuilt (with_fault shown count)
         → Err (not_built_at n) ≡ lines_judged (Some n) (script_at_line n (count >>= λ u. Ok (earlier ++ now ∷ [])) >>= λ more. with_lines limits s more ls)
     unbuilt now (Ok u) plain = unbuilt_first n (with_lines limits s (earlier ++ now ∷ []) ls) (fails (earlier ++ now ∷ []))
     unbuilt now (Err e) plain = unbuilt_here n e (nat_lt n n) plain
 
-    abbrev read_on : Result AskedLine Refused → Result AskedScript FirstFault
+    abbrev read_on : Result AskedLine ShownFault → Result AskedScript FirstFault
     read_on asked = at_line n (asked >>= with_asked (so_far (map (line_asking see) earlier))) >>= λ r. with_rest r ls
 
     abbrev defined_on : Bool → Line Data → Result AskedScript FirstFault
@@ -95,20 +95,20 @@ module _ (limits : Limits) (s : Schema) where
     same_count now = ap (λ more. check_last limits s more (line_asking see now)) (sym (map-append (line_asking see) earlier (now ∷ []))) ∙ check_last-asked see limits s (earlier ++ now ∷ []) now
 
     built_line : (now : Line Data) → read_on (Ok (line_asking see now)) ≡ defined_on false now
-    built_line now = ap (λ count. at_line n (with_fault refused count >>= λ u. Ok (so_far (map (line_asking see) earlier ++ line_asking see now ∷ []))) >>= λ r. with_rest r ls) (same_count now)
+    built_line now = ap (λ count. at_line n (with_fault shown count >>= λ u. Ok (so_far (map (line_asking see) earlier ++ line_asking see now ∷ []))) >>= λ r. with_rest r ls) (same_count now)
         ∙ counted now (check_last limits s (earlier ++ now ∷ []) now)
 
-    search_line : (session : Text) (d : Data) (r : Result Request Refused) → request_of s d ≡ r → read_on (asked_line s (asks session d)) ≡ defined_on (asks_unbuilt s (Ok (asks session d))) (asks session d)
+    search_line : (session : Text) (d : Data) (r : Result Request ShownFault) → request_of s d ≡ r → read_on (asked_line s (asks session d)) ≡ defined_on (asks_unbuilt s (Ok (asks session d))) (asks session d)
     search_line session d (Ok r) is =
-        ap (λ (q : Result Request Refused). read_on (q >>= λ a. Ok (asks session (Ok a)))) is
-        ∙ ap (λ (q : Result Request Refused). read_on (Ok (asks session (request_or_default q)))) (sym is)
+        ap (λ (q : Result Request ShownFault). read_on (q >>= λ a. Ok (asks session (Ok a)))) is
+        ∙ ap (λ (q : Result Request ShownFault). read_on (Ok (asks session (request_or_default q)))) (sym is)
         ∙ built_line (asks session d)
-        ∙ ap (λ (q : Result Request Refused). defined_on (is_err q) (asks session d)) (sym is)
+        ∙ ap (λ (q : Result Request ShownFault). defined_on (is_err q) (asks session d)) (sym is)
     search_line session d (Err e) is =
-        ap (λ (q : Result Request Refused). read_on (q >>= λ a. Ok (asks session (Ok a)))) is
-        ∙ ap (λ (g : Refused). Err (record { line = n; fault = g })) (subst FailsAsNotBuilt is (request_fails s d))
+        ap (λ (q : Result Request ShownFault). read_on (q >>= λ a. Ok (asks session (Ok a)))) is
+        ∙ ap (λ (g : ShownFault). Err (record { line = n; fault = g })) (subst FailsAsNotBuilt is (request_fails s d))
         ∙ unbuilt (asks session d) (check_last limits s (earlier ++ asks session d ∷ []) (asks session d)) (count_fails limits s (earlier ++ asks session d ∷ []) (asks session d))
-        ∙ ap (λ (q : Result Request Refused). defined_on (is_err q) (asks session d)) (sym is)
+        ∙ ap (λ (q : Result Request ShownFault). defined_on (is_err q) (asks session d)) (sym is)
 
     said_line : (now : Line Data) → read_on (asked_line s now) ≡ defined_on (asks_unbuilt s (Ok now)) now
     said_line (add shard b) = built_line (add shard b)
@@ -118,7 +118,7 @@ module _ (limits : Limits) (s : Schema) where
 
     -- with what a line says, or its fault
     line_here : (said : Result (Line Data) LineFault)
-        → (at_line n (with_fault refused said >>= λ now. asked_line s now >>= with_asked (so_far (map (line_asking see) earlier))) >>= λ r. with_rest r ls)
+        → (at_line n (with_fault shown said >>= λ now. asked_line s now >>= with_asked (so_far (map (line_asking see) earlier))) >>= λ r. with_rest r ls)
         ≡ lines_judged (cond (asks_unbuilt s said) (Some n) (first_unbuilt s ls)) (script_at_line n (said >>= λ now. check_last limits s (earlier ++ now ∷ []) now >>= λ u. Ok (earlier ++ now ∷ [])) >>= λ more. with_lines limits s more ls)
     line_here (Ok now) = said_line now
     line_here (Err e) = fault_first n e (first_unbuilt s ls) behind
@@ -148,7 +148,7 @@ one_schema limits n ls s false up = unbuilt_first limits s n (with_lines limits 
 
 -- with the schema of the first line, or its fault
 first_line : (limits : Limits) (l : Numbered) (ls : List Numbered) → Ascend l.0 ls → (r : Result Schema LineFault)
-    → (at_line l.0 (with_fault refused r >>= one_shard) >>= λ s. with_rest (so_far limits s []) ls)
+    → (at_line l.0 (with_fault shown r >>= one_shard) >>= λ s. with_rest (so_far limits s []) ls)
     ≡ judged (unbuilt_behind l ls r) (script_at_line l.0 r >>= λ s. with_lines limits s [] ls >>= λ lines. Ok (record { schema = s; lines = lines }))
 first_line limits l ls up (Ok s) = one_schema limits l.0 ls s (s.shards == 1) up ∙ as_script limits s (cond (s.shards == 1) (first_unbuilt s ls) (Some l.0)) (with_lines limits s [] ls)
 first_line limits l ls up (Err e) = refl
@@ -157,7 +157,7 @@ from_lines : (limits : Limits) (ls : List Numbered) → Ascend 0 ls → read_fro
 from_lines limits [] up = refl
 from_lines limits (l ∷ ls) up = first_line limits l ls up.1 (schema_on l.1)
 
-too_long_first : (found : Option ℕ) → Err (record { line = 0; fault = refused too_long }) ≡ judged found (Err (record { line = 0; fault = too_long }))
+too_long_first : (found : Option ℕ) → Err (record { line = 0; fault = shown too_long }) ≡ judged found (Err (record { line = 0; fault = too_long }))
 too_long_first None = refl
 too_long_first (Some n) = rw (never n) refl
   where
@@ -171,6 +171,6 @@ outcome_read limits bytes = by_length (nat_le (length bytes) script_limit)
     ls : List Numbered
     ls = numbered_lines bytes
 
-    by_length : (few : Bool) → (unless few (record { line = 0; fault = refused too_long }) >>= λ u. read_from limits ls) ≡ judged (unbuilt_in ls) (unless few (record { line = 0; fault = too_long }) >>= λ u. script_of_lines limits ls)
+    by_length : (few : Bool) → (unless few (record { line = 0; fault = shown too_long }) >>= λ u. read_from limits ls) ≡ judged (unbuilt_in ls) (unless few (record { line = 0; fault = too_long }) >>= λ u. script_of_lines limits ls)
     by_length true = from_lines limits ls (numbers_ascend (λ l. not (is_silent l.1)) 0 1 (lines_of bytes) (omega arith))
     by_length false = too_long_first (unbuilt_in ls)

@@ -12,7 +12,7 @@ use Rattle.fc_spec.specs.scripts.ScriptReading.{Numbered, numbered_lines, schema
 use Rattle.fc_spec.specs.scripts.LineReading.{line_said}
 use Rattle.fc_spec.specs.scripts.ValidScripts.{asking}
 use Rattle.fc_spec.specs.words.Walks.{◌>>=◌}
-use Rattle.fc_script.specs.Refusals.{Refused, not_built, refused, FirstFault}
+use Rattle.fc_script.specs.ShownFaults.{ShownFault, not_built, shown, FirstFault}
 use Rattle.fc_script.specs.Requests.{request_of}
 
 -- a script whose requests were read
@@ -44,7 +44,7 @@ unbuilt_in (l ∷ ls) = unbuilt_behind l ls (schema_on l.1)
 -- ---- the outcome
 
 -- the request that was read; a script is taken only where each is built, so what stands here for another is never seen
-abbrev pub request_or_default : Result Request Refused → Result Request RequestFault
+abbrev pub request_or_default : Result Request ShownFault → Result Request RequestFault
 request_or_default (Ok r) = Ok r
 request_or_default (Err e) = Ok (record { query = all; filters = []; nodes = no_nodes })
 
@@ -53,7 +53,7 @@ abbrev pub asked : Script Data → AskedScript
 asked S = asking (λ d. request_or_default (request_of S.schema d)) S
 
 abbrev pub fault_of : ScriptFault → FirstFault
-fault_of f = record { line = f.line; fault = refused f.fault }
+fault_of f = record { line = f.line; fault = shown f.fault }
 
 abbrev pub not_built_at : ℕ → FirstFault
 not_built_at n = record { line = n; fault = not_built }

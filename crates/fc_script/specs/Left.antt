@@ -19,6 +19,6 @@ abbrev pub limits_with : Limits → List Block → Limits
 limits_with left blocks = record { documents = left.documents + document_total blocks; values = left.values + value_total blocks }
 
 -- the lines that are left, and the number of the line before them
-pub record Left : Type 0 where
+pub record LinesLeft : Type 0 where
   pub number : ℕ
   pub lines : List Text

@@ -1,4 +1,4 @@
-pub mod Refusals
+pub mod ShownFaults
 pub mod Requests
 pub mod ValidRequests
 pub mod Built

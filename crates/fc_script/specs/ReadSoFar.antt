@@ -11,7 +11,7 @@ use Rattle.fc_spec.specs.scripts.ScriptReading.{Numbered, numbered_lines, check_
 use Rattle.fc_spec.specs.scripts.LineReading.{line_said}
 use Rattle.fc_spec.specs.scripts.ScriptTotals.{Limits}
 use Rattle.fc_spec.specs.words.Walks.{◌>>=◌, unless, with_fault}
-use Rattle.fc_script.specs.Refusals.{Refused, not_built, refused, FirstFault}
+use Rattle.fc_script.specs.ShownFaults.{ShownFault, not_built, shown, FirstFault}
 use Rattle.fc_script.specs.Requests.{request_of}
 use Rattle.fc_script.specs.Built.{AskedScript}
 
@@ -25,7 +25,7 @@ pub record ReadSoFar : Type 0 where
   pub lines : List AskedLine
 
 -- a line with its request read, where that is built
-abbrev pub asked_line : Schema → Line Data → Result AskedLine Refused
+abbrev pub asked_line : Schema → Line Data → Result AskedLine ShownFault
 asked_line s (add shard b) = Ok (add shard b)
 asked_line s (commit shard) = Ok (commit shard)
 asked_line s sync = Ok sync
@@ -34,21 +34,21 @@ asked_line s (asks session d) = do
   Ok (asks session (Ok r))
 
 -- with a line behind the others, where what it counts is within its limit
-abbrev pub with_asked : ReadSoFar → AskedLine → Result ReadSoFar Refused
+abbrev pub with_asked : ReadSoFar → AskedLine → Result ReadSoFar ShownFault
 with_asked r l = do
-  _ ← with_fault refused (check_last r.limits r.schema (r.lines ++ l ∷ []) l)
+  _ ← with_fault shown (check_last r.limits r.schema (r.lines ++ l ∷ []) l)
   Ok (record r { lines = r.lines ++ l ∷ [] })
 
 -- with a line of the script
-abbrev pub with_text : ReadSoFar → Text → Result ReadSoFar Refused
+abbrev pub with_text : ReadSoFar → Text → Result ReadSoFar ShownFault
 with_text r t = do
-  d ← with_fault refused (value_on t)
-  said ← with_fault refused (line_said r.schema d)
+  d ← with_fault shown (value_on t)
+  said ← with_fault shown (line_said r.schema d)
   l ← asked_line r.schema said
   with_asked r l
 
 -- the refusal of a line as the script's
-abbrev pub at_line : {A : Type 0} → (n : ℕ) → Result A Refused → Result A FirstFault
+abbrev pub at_line : {A : Type 0} → (n : ℕ) → Result A ShownFault → Result A FirstFault
 at_line n r = with_fault (λ e. record { line = n; fault = e }) r
 
 abbrev pub with_numbered : ReadSoFar → Numbered → Result ReadSoFar FirstFault
@@ -62,19 +62,19 @@ with_rest r (l ∷ ls) = do
   with_rest now ls
 
 -- a schema of one shard
-abbrev pub one_shard : Schema → Result Schema Refused
+abbrev pub one_shard : Schema → Result Schema ShownFault
 one_shard s = do
   _ ← unless (s.shards == 1) not_built
   Ok s
 
-abbrev pub schema_read : Text → Result Schema Refused
+abbrev pub schema_read : Text → Result Schema ShownFault
 schema_read t = do
-  s ← with_fault refused (schema_on t)
+  s ← with_fault shown (schema_on t)
   one_shard s
 
 -- the script of lines
 abbrev pub read_from : Limits → List Numbered → Result AskedScript FirstFault
-read_from limits [] = Err (record { line = 0; fault = refused no_schema })
+read_from limits [] = Err (record { line = 0; fault = shown no_schema })
 read_from limits (l ∷ ls) = do
   s ← at_line l.0 (schema_read l.1)
   with_rest (record { limits = limits; schema = s; lines = [] }) ls
@@ -82,5 +82,5 @@ read_from limits (l ∷ ls) = do
 -- the script of bytes
 abbrev pub read_in : Limits → List ℕ → Result AskedScript FirstFault
 read_in limits bytes = do
-  _ ← unless (nat_le (length bytes) script_limit) (record { line = 0; fault = refused too_long })
+  _ ← unless (nat_le (length bytes) script_limit) (record { line = 0; fault = shown too_long })
   read_from limits (numbered_lines bytes)

@@ -5,12 +5,12 @@ use Rattle.fc_script.specs.ValidRequests.{IsAskedOf}
 use Rattle.fc_script.specs.ReadSoFar.{ReadSoFar}
 use Rattle.fc_script.specs.ScriptView.{line_view}
 use Rattle.fc_script.specs.View.{limits_view}
-use Rattle.fc_script.specs.declared.reading.Reading.{Reading}
+use Rattle.fc_script.specs.declared.script_reader.ScriptReader.{ScriptReader}
 
-abbrev pub reading_view : Reading → ReadSoFar
-reading_view r = record { limits = limits_view r.limits; schema = r.schema; lines = map line_view r.lines.items }
+abbrev pub reader_view : ScriptReader → ReadSoFar
+reader_view r = record { limits = limits_view r.limits; schema = r.schema; lines = map line_view r.lines.items }
 
 -- each of its lines is of its schema, and so is what each search asks
-pub record IsRead (r : Reading) : Type 0 where
+pub record IsRead (r : ScriptReader) : Type 0 where
   pub valid : All (IsLineOf r.schema) (map line_view r.lines.items)
   pub asked : All (IsAskedOf r.schema) r.lines.items

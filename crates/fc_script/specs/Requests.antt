@@ -12,7 +12,7 @@ use Rattle.fc_spec.specs.queries.FilterReading.{filter_of, filter_parts}
 use Rattle.fc_spec.specs.requests.Request.{Kind, terms, stay, by_index, Nodes, no_nodes, facet, Filter, Request, Terms}
 use Rattle.fc_spec.specs.queries.QueryFault.{QueryFault}
 use Rattle.fc_spec.specs.words.Walks.{◌>>=◌, unless, with_fault}
-use Rattle.fc_script.specs.Refusals.{Refused, not_built}
+use Rattle.fc_script.specs.ShownFaults.{ShownFault, not_built}
 
 -- ---- the facet
 
@@ -73,24 +73,24 @@ facets_of s (object (member name d no_members)) = facet_of s name d
 facets_of s _ = None
 
 -- no facet where none is named
-abbrev pub facets_in : Schema → Option Data → Result Nodes Refused
+abbrev pub facets_in : Schema → Option Data → Result Nodes ShownFault
 facets_in s None = Ok no_nodes
 facets_in s (Some d) = ok_or (facets_of s d) not_built
 
 -- ---- the other members
 
 -- a text; every document where no query is named
-abbrev pub query_in : Schema → Option Data → Result Query Refused
+abbrev pub query_in : Schema → Option Data → Result Query ShownFault
 query_in s None = Ok all
 query_in s (Some d) = do
   t ← ok_or (as_str d) not_built
   with_fault (λ e. not_built) (query_of s t)
 
 -- a filter, with its tags
-abbrev pub filter_in : Schema → Data → Result Filter Refused
+abbrev pub filter_in : Schema → Data → Result Filter ShownFault
 filter_in s d = with_fault (λ e. not_built) (filter_of s d)
 
-abbrev pub filters_of : Schema → Items → Result (List Filter) Refused
+abbrev pub filters_of : Schema → Items → Result (List Filter) ShownFault
 filters_of s no_items = Ok []
 filters_of s (item d ds) = do
   f ← filter_in s d
@@ -98,7 +98,7 @@ filters_of s (item d ds) = do
   Ok (f ∷ fs)
 
 -- a filter, or a list of them; none where none is named
-abbrev pub filters_in : Schema → Option Data → Result (List Filter) Refused
+abbrev pub filters_in : Schema → Option Data → Result (List Filter) ShownFault
 filters_in s None = Ok []
 filters_in s (Some (array ds)) = filters_of s ds
 filters_in s (Some d) = do
@@ -112,7 +112,7 @@ asks_no_documents (Some d) = unwrap_or (option_map (λ n. n == 0) (natural_in d)
 
 -- ---- the request
 
-abbrev pub request_of_members : Schema → Members → Result Request Refused
+abbrev pub request_of_members : Schema → Members → Result Request ShownFault
 request_of_members s ms = do
   _ ← unless (only_names (codes "query" ∷ codes "filter" ∷ codes "limit" ∷ codes "facet" ∷ []) ms) not_built
   q ← query_in s (get_member (codes "query") ms)
@@ -122,7 +122,7 @@ request_of_members s ms = do
   Ok (record { query = q; filters = fs; nodes = nodes })
 
 -- an object of `query`, `filter`, `limit` and `facet`, each of which may be absent
-abbrev pub request_of : Schema → Data → Result Request Refused
+abbrev pub request_of : Schema → Data → Result Request ShownFault
 request_of s d = do
   ms ← ok_or (as_object d) not_built
   request_of_members s ms

@@ -7,12 +7,12 @@ use Rattle.fc_spec.specs.scripts.ScriptFault as fault
 use Rattle.fc_spec.specs.scripts.ScriptReading.{Numbered, is_silent}
 use Rattle.fc_spec.specs.scripts.Script.{Line, add, commit, sync, asks}
 use Rattle.fc_docs.specs.View.{block_view, fault_view}
-use Rattle.fc_script.specs.Left.{Left}
+use Rattle.fc_script.specs.Left.{LinesLeft}
 use Rattle.fc_script.specs.Built.{AskedScript}
 use Rattle.fc_script.specs.ReadSoFar.{AskedLine}
-use Rattle.fc_script.specs.Refusals.{refused}
-use Rattle.fc_script.specs.View.{refused_view, request_view}
-use Rattle.fc_script.specs.declared.fault.Fault.{Fault}
+use Rattle.fc_script.specs.ShownFaults.{shown}
+use Rattle.fc_script.specs.View.{shown_view, request_view}
+use Rattle.fc_script.specs.declared.fault.ShownFault.{ShownFault}
 use Rattle.fc_base.specs.declared.error.Refusal.{Refusal}
 use Rattle.fc_base.specs.declared.error.Refusal.TheVariants as refusal
 use Rattle.fc_script.specs.declared.line.fault.LineFault.{LineFault}
@@ -40,9 +40,9 @@ line_fault_view kind.TooManyCommits = fault.too_many_commits
 line_fault_view kind.TooManySyncs = fault.too_many_syncs
 
 -- want of memory stays, and a fault is seen as what it is refused for
-abbrev pub IsRefusedBy : Refusal LineFault → Refusal Fault → Type 0
-IsRefusedBy refusal.Memory r = r ≡ refusal.Memory
-IsRefusedBy (refusal.Fault f) r = (g : Fault) × (r ≡ refusal.Fault g) × (refused_view g ≡ refused (line_fault_view f))
+abbrev pub IsShownBy : Refusal LineFault → Refusal ShownFault → Type 0
+IsShownBy refusal.Memory r = r ≡ refusal.Memory
+IsShownBy (refusal.Fault f) r = (g : ShownFault) × (r ≡ refusal.Fault g) × (shown_view g ≡ shown (line_fault_view f))
 
 abbrev pub said_view : Said → Line Data
 said_view (said.Add shard block) = add shard (block_view block)
@@ -58,7 +58,7 @@ line_view line.Sync = sync
 line_view (line.Search session request) = asks session (Ok (request_view request.value))
 
 -- the lines that are left and say something, each with its number
-abbrev pub lines_left : Left → List Numbered
+abbrev pub lines_left : LinesLeft → List Numbered
 lines_left left = filter (λ l. not (is_silent l.1)) (enumerate_from (suc left.number) left.lines)
 
 abbrev pub script_view : Script → AskedScript

@@ -10,33 +10,33 @@ use Rattle.fc_query.specs.FilterView.{filter_view}
 use Rattle.fc_query.specs.QueryView.{query_view}
 use Rattle.fc_script.specs.Requests as plain
 use Rattle.fc_script.specs.Requests.{built_request, nodes_of}
-use Rattle.fc_script.specs.Refusals as refused
-use Rattle.fc_script.specs.declared.fault.Fault.{Fault}
-use Rattle.fc_script.specs.declared.fault.Fault.TheVariants.{NotBuilt, NotJson, TooLong}
+use Rattle.fc_script.specs.ShownFaults as shown
+use Rattle.fc_script.specs.declared.fault.ShownFault.{ShownFault}
+use Rattle.fc_script.specs.declared.fault.ShownFault.TheVariants.{NotBuilt, NotJson, TooLong}
 use Rattle.fc_script.specs.declared.fault.FirstFault.{FirstFault}
 use Rattle.fc_script.specs.declared.limits.Limits.{Limits}
 use Rattle.fc_script.specs.declared.request.facet.Facet.{Facet}
 use Rattle.fc_script.specs.declared.request.Request.{Request}
 
-abbrev pub refused_view : Fault → refused.Refused
-refused_view NotBuilt = refused.not_built
-refused_view NotJson = refused.faulty not_json
-refused_view TooLong = refused.faulty too_long
+abbrev pub shown_view : ShownFault → shown.ShownFault
+shown_view NotBuilt = shown.not_built
+shown_view NotJson = shown.faulty not_json
+shown_view TooLong = shown.faulty too_long
 
 -- the name and the number that a refusal's line shows
-abbrev pub refused_name : refused.Refused → Text
-refused_name refused.not_built = codes "not-built"
-refused_name (refused.faulty fault) = line_fault_name fault
+abbrev pub shown_name : shown.ShownFault → Text
+shown_name shown.not_built = codes "not-built"
+shown_name (shown.faulty fault) = line_fault_name fault
 
-abbrev pub refused_number : refused.Refused → ℕ
-refused_number refused.not_built = 0
-refused_number (refused.faulty fault) = line_fault_number fault
+abbrev pub shown_number : shown.ShownFault → ℕ
+shown_number shown.not_built = 0
+shown_number (shown.faulty fault) = line_fault_number fault
 
-abbrev pub fault_view : FirstFault → refused.FirstFault
-fault_view f = record { line = f.line; fault = refused_view f.fault }
+abbrev pub fault_view : FirstFault → shown.FirstFault
+fault_view f = record { line = f.line; fault = shown_view f.fault }
 
 -- a line's refusal, with its number
-abbrev pub refusal_at : ℕ → Refusal Fault → Refusal FirstFault
+abbrev pub refusal_at : ℕ → Refusal ShownFault → Refusal FirstFault
 refusal_at n refusal.Memory = refusal.Memory
 refusal_at n (refusal.Fault fault) = refusal.Fault (record { line = n; fault = fault })
 

@@ -6,7 +6,7 @@ use fc_base::Refusal;
 
 /// A script is not built yet, a line is not JSON, or the bytes are too many.
 #[derive(Clone, Copy, Debug, PartialEq, Eq)]
-pub enum Fault {
+pub enum ShownFault {
     NotBuilt,
     NotJson,
     TooLong,
@@ -16,11 +16,11 @@ pub enum Fault {
 #[derive(Clone, Copy, Debug, PartialEq, Eq)]
 pub struct FirstFault {
     pub line: u32,
-    pub fault: Fault,
+    pub fault: ShownFault,
 }
 
 /// A line's refusal as the script's.
-pub(crate) fn at_line(line: u32, refusal: Refusal<Fault>) -> Refusal<FirstFault>
+pub(crate) fn at_line(line: u32, refusal: Refusal<ShownFault>) -> Refusal<FirstFault>
     ensures { result ≡ refusal_at line refusal }
 {
     match refusal {

@@ -3,17 +3,17 @@
 
 mod counts;
 mod fault;
+mod first_fault;
 mod limits;
 mod line;
 mod lines;
 mod read;
-mod reading;
-mod refusal;
 mod request;
+mod script_reader;
 
-pub use fault::{Fault, FirstFault};
+pub use fault::{FirstFault, ShownFault};
+pub use first_fault::first_fault_line;
 pub use limits::{Limits, SCRIPT_LIMIT, SCRIPT_LIMITS};
 pub use line::Line;
 pub use read::{Script, read_script};
-pub use refusal::refused_line;
 pub use request::{Facet, Request};

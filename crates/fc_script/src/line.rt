@@ -5,5 +5,5 @@ mod said;
 
 pub use asked::Line;
 pub(crate) use asked::asked_line;
-pub(crate) use fault::{LineFault, refused_by};
+pub(crate) use fault::{LineFault, shown_by};
 pub(crate) use said::line_said;

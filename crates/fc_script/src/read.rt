@@ -8,15 +8,15 @@ ghost use Rattle.fc_script.specs.Built.{outcome_within};
 ghost use Rattle.fc_script.specs.Counts.{IsLineOf};
 ghost use Rattle.fc_script.specs.ValidRequests.{IsAskedOf};
 ghost use Rattle.fc_script.specs.ReadSoFar.{at_line as at_line_defined, one_shard as of_one_shard, read_from, read_in, schema_read, with_rest};
-ghost use Rattle.fc_script.specs.ReadView.{reading_view, IsRead};
+ghost use Rattle.fc_script.specs.ReadView.{reader_view, IsRead};
 ghost use Rattle.fc_script.specs.ScriptView.{line_fault_view, lines_left, script_view};
-ghost use Rattle.fc_script.specs.View.{fault_view, limits_view, refused_view};
+ghost use Rattle.fc_script.specs.View.{fault_view, limits_view, shown_view};
 
-use crate::fault::{Fault, FirstFault, at_line};
+use crate::fault::{FirstFault, ShownFault, at_line};
 use crate::limits::{Limits, SCRIPT_LIMIT};
-use crate::line::{Line, LineFault, refused_by};
+use crate::line::{Line, LineFault, shown_by};
 use crate::lines::{Lines, next_said, value_on};
-use crate::reading::Reading;
+use crate::script_reader::ScriptReader;
 use fc_base::json::{is_same, sole_member};
 use fc_base::{Refusal, Schema};
 use serde_json::Value;
@@ -53,22 +53,22 @@ fn schema_on(alloc: Global, text: &[u8]) -> Result<Schema, Refusal<LineFault>>
 }
 
 // A schema of one shard.
-fn one_shard(schema: Schema) -> Result<Schema, Refusal<Fault>>
-    ensures answer { Answers (λ schema. schema) refused_view result (of_one_shard schema) }
+fn one_shard(schema: Schema) -> Result<Schema, Refusal<ShownFault>>
+    ensures answer { Answers (λ schema. schema) shown_view result (of_one_shard schema) }
     ensures one { IfOk result (λ schema. schema.shards ≡ 1) }
 {
     if schema.shards() != 1 {
-        return Err(Refusal::Fault(Fault::NotBuilt));
+        return Err(Refusal::Fault(ShownFault::NotBuilt));
     }
     Ok(schema)
 }
 
 // The schema of one shard that the first line is.
-fn schema_of(alloc: Global, text: &[u8]) -> Result<Schema, Refusal<Fault>>
-    ensures answer { Answers (λ schema. schema) refused_view result (schema_read text.now) }
+fn schema_of(alloc: Global, text: &[u8]) -> Result<Schema, Refusal<ShownFault>>
+    ensures answer { Answers (λ schema. schema) shown_view result (schema_read text.now) }
     ensures one { IfOk result (λ schema. schema.shards ≡ 1) }
 {
-    one_shard(schema_on(alloc, text).map_err(|refusal| refused_by(refusal))?)
+    one_shard(schema_on(alloc, text).map_err(|refusal| shown_by(refusal))?)
 }
 
 // The schema on the first line, which has this number.
@@ -83,13 +83,13 @@ fn read_schema(alloc: Global, number: u32, text: &[u8]) -> Result<Schema, Refusa
 // The script with the lines that are left.
 fn read_rest(
     alloc: Global,
-    mut reading: Reading,
+    mut reading: ScriptReader,
     mut lines: Lines<'_>,
 ) -> Result<Script, Refusal<FirstFault>>
     requires { IsRead reading }
-    ensures answer { Answers script_view fault_view result (with_rest (reading_view reading) (lines_left lines.entry)) }
-    ensures within { IfOk result (λ script. IsWithin (reading_view reading).limits (script_view script)) }
-    ensures schema { IfOk result (λ script. script.schema ≡ (reading_view reading).schema) }
+    ensures answer { Answers script_view fault_view result (with_rest (reader_view reading) (lines_left lines.entry)) }
+    ensures within { IfOk result (λ script. IsWithin (reader_view reading).limits (script_view script)) }
+    ensures schema { IfOk result (λ script. script.schema ≡ (reader_view reading).schema) }
     ensures valid { IfOk result (λ script. All (IsLineOf script.schema) (script_view script).lines) }
     ensures asked { IfOk result (λ script. All (IsAskedOf script.schema) script.lines.items) }
 {
@@ -115,11 +115,11 @@ fn read_lines(
     let Some(text) = next_said(&mut lines) else {
         return Err(Refusal::Fault(FirstFault {
             line: 0,
-            fault: Fault::NotBuilt,
+            fault: ShownFault::NotBuilt,
         }));
     };
     let schema = read_schema(alloc, lines.number(), text)?;
-    read_rest(alloc, Reading::new(alloc, limits, schema)?, lines)
+    read_rest(alloc, ScriptReader::new(alloc, limits, schema)?, lines)
 }
 
 // The script that the bytes spell, read line by line.
@@ -133,7 +133,7 @@ fn read_in_lines(alloc: Global, limits: Limits, bytes: &[u8]) -> Result<Script, 
     if bytes.len() > SCRIPT_LIMIT {
         return Err(Refusal::Fault(FirstFault {
             line: 0,
-            fault: Fault::TooLong,
+            fault: ShownFault::TooLong,
         }));
     }
     read_lines(alloc, limits, Lines::new(bytes))

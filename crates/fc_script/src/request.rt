@@ -4,13 +4,13 @@ ghost use Rattle.serde_json.specs.View.{view, members_view};
 ghost use Rattle.fc_base.specs.Answers.{Answers};
 ghost use Rattle.fc_script.specs.Requests as form;
 ghost use Rattle.fc_script.specs.ValidRequests.{IsValidRequest};
-ghost use Rattle.fc_script.specs.View.{refused_view, request_view};
+ghost use Rattle.fc_script.specs.View.{shown_view, request_view};
 
 mod facet;
 mod filters;
 mod query;
 
-use crate::fault::Fault;
+use crate::fault::ShownFault;
 pub use facet::Facet;
 use facet::facet_in;
 use fc_base::json::{has_only, member};
@@ -44,18 +44,18 @@ fn request_of(
     alloc: Global,
     schema: &Schema,
     members: &Map<String, Value>,
-) -> Result<Request, Refusal<Fault>>
-    ensures answer { Answers request_view refused_view result
+) -> Result<Request, Refusal<ShownFault>>
+    ensures answer { Answers request_view shown_view result
         (form.request_of_members schema.now (members_view members.now.entries)) }
     ensures valid { IfOk result (IsValidRequest schema.now) }
 {
     if !has_only(members, &["query", "filter", "limit", "facet"]) {
-        return Err(Refusal::Fault(Fault::NotBuilt));
+        return Err(Refusal::Fault(ShownFault::NotBuilt));
     }
     let query = query_in(alloc, schema, member(members, "query"))?;
     let filters = filters_in(alloc, schema, member(members, "filter"))?;
     if !asks_no_documents(member(members, "limit")) {
-        return Err(Refusal::Fault(Fault::NotBuilt));
+        return Err(Refusal::Fault(ShownFault::NotBuilt));
     }
     let facet = facet_in(alloc, schema, member(members, "facet"))?;
     Ok(Request {
@@ -71,13 +71,13 @@ pub(crate) fn read_request(
     alloc: Global,
     schema: &Schema,
     json: &Value,
-) -> Result<Request, Refusal<Fault>>
-    ensures answer { Answers request_view refused_view result
+) -> Result<Request, Refusal<ShownFault>>
+    ensures answer { Answers request_view shown_view result
         (form.request_of schema.now (view json.now)) }
     ensures valid { IfOk result (IsValidRequest schema.now) }
 {
     match json.as_object() {
         Some(members) => request_of(alloc, schema, members),
-        None => Err(Refusal::Fault(Fault::NotBuilt)),
+        None => Err(Refusal::Fault(ShownFault::NotBuilt)),
     }
 }

@@ -18,7 +18,7 @@ use Rattle.fc_run.specs.Fitting.{AreDifferentIn}
 use Rattle.fc_run.specs.Found.{asked_values, Finds}
 use Rattle.fc_run.specs.PlainReply.{AreDifferent, asked_counts, root_documents}
 use Rattle.fc_script.specs.Requests.{Facet}
-use Rattle.fc_run.specs.Tally.{key_cmp, tally_view, Counts, HasRoom}
+use Rattle.fc_run.specs.Tally.{term_cmp, tally_view, IsCounted, HasRoom}
 use Rattle.fc_run.specs.declared.search.found.Found.{Found}
 use Rattle.fc_run.proofs.tallies.TallyCounts.{HasRoom-start, tally_view-counted}
 use Rattle.fc_run.proofs.tallies.TallySteps.{Counts-append, Counts-none, HasRoom-front, HasRoom-rest}
@@ -57,7 +57,7 @@ room_at_start (Some f) ds a empty different few = HasRoom-start f.1 ds (differen
 module _ (r : Request) (facet : Option Facet) (start : Found) where
   pub searched_none : start.count ≡ 0 → start.tally.entries ≡ [] → (all : List Block) → AreDifferentIn all → document_total all ≤ 1_048_576 → IsSearched r facet start start [] all
   searched_none none empty all different few = record {
-    finds = record { count = omega arith; tally = subst (Counts start.tally start.tally) (nothing facet) (Counts-none start.tally) };
+    finds = record { count = omega arith; tally = subst (IsCounted start.tally start.tally) (nothing facet) (Counts-none start.tally) };
     few = omega arith;
     room = room_at_start facet (root_documents r all) start empty (root_different r all different) (omega (arith, root_total r all));
   }
@@ -83,7 +83,7 @@ module _ (r : Request) (facet : Option Facet) (start : Found) where
       finds = record {
         count = omega (arith, searched.finds.count, found.count, ap length (root_documents-append r done bs), length-append (root_documents r done) (root_documents r bs));
         tally =
-            subst (Counts start.tally later.tally) (sym (ap (asked_values facet) (root_documents-append r done bs) ∙ asked_values-append facet (root_documents r done) (root_documents r bs)))
+            subst (IsCounted start.tally later.tally) (sym (ap (asked_values facet) (root_documents-append r done bs) ∙ asked_values-append facet (root_documents r done) (root_documents r bs)))
             (Counts-append start.tally now.tally later.tally (asked_values facet (root_documents r done)) (asked_values facet (root_documents r bs)) searched.finds.tally found.tally);
       };
       few = omega (arith, searched.few, found.count, root_total r bs, document_total-append bs left);
@@ -91,7 +91,7 @@ module _ (r : Request) (facet : Option Facet) (start : Found) where
     }
 
 -- the values of an empty tally in which those that are asked for are counted
-pub counts_found : (facet : Option Facet) (ds : List Document) → ((field : ℕ) → All (Differ field) ds) → (a b : Found) → a.tally.entries ≡ [] → IsOrdered key_cmp a.tally
+pub counts_found : (facet : Option Facet) (ds : List Document) → ((field : ℕ) → All (Differ field) ds) → (a b : Found) → a.tally.entries ≡ [] → IsOrdered term_cmp a.tally
     → Finds a b facet ds → tally_view b.tally ≡ asked_counts facet ds
 counts_found None ds different a b empty order found = tally_view-counted 0 [] (All-nil (Differ 0)) a.tally b.tally empty order found.tally
 counts_found (Some f) ds different a b empty order found = tally_view-counted f.1 ds (different f.1) a.tally b.tally empty order found.tally

@@ -12,11 +12,11 @@ use Rattle.fc_spec.specs.words.Walks.{◌>>=◌, unless}
 use Rattle.fc_base.specs.declared.error.WantMemory.{WantMemory}
 use Rattle.fc_io.specs.AllRead.{TakesSome}
 use Rattle.fc_io.specs.WriteEnd.{AppendsFront}
-use Rattle.fc_script.specs.Refusals.{FirstFault}
+use Rattle.fc_script.specs.ShownFaults.{FirstFault}
 use Rattle.fc_script.specs.Built.{AskedScript, judged, outcome, unbuilt_in}
-use Rattle.fc_run.specs.Outcome.{by_single_index, Ends, IsAnswer, IsCountedOutput, IsWhole, Leaves, OnDone, too_many}
-use Rattle.fc_run.specs.declared.answer.Answer.{Answer}
-use Rattle.fc_run.specs.declared.answer.Answer.TheVariants.{Lines, Fault}
+use Rattle.fc_run.specs.Outcome.{by_single_index, Ends, IsRunText, IsCountedOutput, IsWhole, Leaves, OnDone, too_many}
+use Rattle.fc_run.specs.declared.run_text.RunText.{RunText}
+use Rattle.fc_run.specs.declared.run_text.RunText.TheVariants.{Lines, Fault}
 use Rattle.fc_run.specs.declared.status.Status.{Status}
 use Rattle.fc_run.specs.declared.status.Status.TheVariants.{Done, Usage, Script, Read, Memory, Write}
 
@@ -28,19 +28,19 @@ record IsLeft (status : Status) (spelled : Result AskedScript FirstFault) (t : T
   pub single_index : OnDone status spelled (λ S. IsOutputBy by_single_index S t)
   pub counts : OnDone status spelled (λ S. IsCountedOutput S t)
 
-abbrev Left : Status → Result AskedScript FirstFault → Option (List ℕ) → Option (List ℕ) → Type 0
-Left status spelled old new = (t : Text) × Appends old new t × IsLeft status spelled t
+abbrev IsLeft : Status → Result AskedScript FirstFault → Option (List ℕ) → Option (List ℕ) → Type 0
+IsLeft status spelled old new = (t : Text) × Appends old new t × IsLeft status spelled t
 
 appends_nothing : (old new : Option (List ℕ)) → new ≡ old → Appends old new []
 appends_nothing None new same = tt
 appends_nothing (Some xs) new same = subst (λ o. Appends (Some xs) o []) (sym same) (sym (append-nil xs))
 
 -- a text that is whole, written in part
-front : (spelled : Result AskedScript FirstFault) (whole : Text) (old new : Option (List ℕ)) → IsWhole spelled whole → AppendsFront old new whole → Left Write spelled old new
+front : (spelled : Result AskedScript FirstFault) (whole : Text) (old new : Option (List ℕ)) → IsWhole spelled whole → AppendsFront old new whole → IsLeft Write spelled old new
 front spelled whole old new is (rest, (part, appended, split), more) =
     (part, appended, record { leaves = inr (rest, subst (λ t. IsWhole spelled t) (sym split) is); single_index = tt; counts = tt })
 
-left_by : (status : Status) (answer : Result Answer WantMemory) (spelled : Result AskedScript FirstFault) (old new : Option (List ℕ)) → IfOk answer (IsAnswer spelled) → Ends status answer old new → Left status spelled old new
+left_by : (status : Status) (answer : Result RunText WantMemory) (spelled : Result AskedScript FirstFault) (old new : Option (List ℕ)) → IfOk answer (IsRunText spelled) → Ends status answer old new → IsLeft status spelled old new
 left_by Memory (Err e) spelled old new is ends = ([], appends_nothing old new ends, record { leaves = inl refl; single_index = tt; counts = tt })
 left_by Done (Ok (Lines text)) (Ok S) old new is ends = (text.items, ends, record { leaves = is.output; single_index = is.single_index; counts = is.counts })
 left_by Script (Ok (Fault text)) (Err f) old new is ends = (text.items, ends, record { leaves = is; single_index = tt; counts = tt })
@@ -75,7 +75,7 @@ pub record IsLeftOf (status : Status) (left old new : Option (List ℕ)) : Type 
 untold : (status : Status) (old new : Option (List ℕ)) → IsLeftOf status None old new
 untold status old new = record { leaves = tt; single_index = tt; counts = tt }
 
-by_bytes : (status : Status) (bytes : List ℕ) (old new : Option (List ℕ)) → Left status (outcome bytes) old new → IsLeftOf status (Some bytes) old new
+by_bytes : (status : Status) (bytes : List ℕ) (old new : Option (List ℕ)) → IsLeft status (outcome bytes) old new → IsLeftOf status (Some bytes) old new
 by_bytes status bytes old new (t, appended, is) = record {
   leaves = (t, appended, is.leaves);
   single_index = (t, appended, is.single_index);
@@ -83,11 +83,11 @@ by_bytes status bytes old new (t, appended, is) = record {
 }
 
 -- of the whole script
-pub left_of_all : (status : Status) (answer : Result Answer WantMemory) (all : List ℕ) (left old new : Option (List ℕ)) → IfSome left (λ bytes. all ≡ bytes)
-    → IfOk answer (IsAnswer (outcome all)) → Ends status answer old new → IsLeftOf status left old new
+pub left_of_all : (status : Status) (answer : Result RunText WantMemory) (all : List ℕ) (left old new : Option (List ℕ)) → IfSome left (λ bytes. all ≡ bytes)
+    → IfOk answer (IsRunText (outcome all)) → Ends status answer old new → IsLeftOf status left old new
 left_of_all status answer all None old new same is ends = untold status old new
 left_of_all status answer all (Some bytes) old new same is ends =
-    by_bytes status bytes old new (subst (λ bs. Left status (outcome bs) old new) same (left_by status answer (outcome all) old new is ends))
+    by_bytes status bytes old new (subst (λ bs. IsLeft status (outcome bs) old new) same (left_by status answer (outcome all) old new is ends))
 
 -- more bytes than a script may have are one that is too long
 passes : (taken rest : List ℕ) → script_limit < length taken → outcome (taken ++ rest) ≡ Err too_many
@@ -106,12 +106,12 @@ passes taken rest more = ap (judged (unbuilt_in (numbered_lines (taken ++ rest))
     judged_so None = refl
     judged_so (Some n) = rw (le-ltb n 0 (omega arith)) refl
 
-pub left_of_many : (status : Status) (answer : Result Answer WantMemory) (left after old new : Option (List ℕ)) → TakesSome left after (λ n. script_limit < n) → IfOk answer (IsAnswer (Err too_many)) → Ends status answer old new
+pub left_of_many : (status : Status) (answer : Result RunText WantMemory) (left after old new : Option (List ℕ)) → TakesSome left after (λ n. script_limit < n) → IfOk answer (IsRunText (Err too_many)) → Ends status answer old new
     → IsLeftOf status left old new
 left_of_many status answer None after old new taken is ends = untold status old new
 left_of_many status answer (Some bytes) None old new (taken, cut, more) is ends = absurd cut
 left_of_many status answer (Some bytes) (Some rest) old new (taken, cut, more) is ends =
-    by_bytes status bytes old new (subst (λ spelled. Left status spelled old new) (sym (ap outcome cut ∙ passes taken rest more)) (left_by status answer (Err too_many) old new is ends))
+    by_bytes status bytes old new (subst (λ spelled. IsLeft status spelled old new) (sym (ap outcome cut ∙ passes taken rest more)) (left_by status answer (Err too_many) old new is ends))
 
 -- of a run that writes nothing
 left_of_none : (status : Status) (left old : Option (List ℕ)) → ((spelled : Result AskedScript FirstFault) → IsLeft status spelled []) → IsLeftOf status left old old

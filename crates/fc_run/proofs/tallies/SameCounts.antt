@@ -4,13 +4,13 @@ use Rattle.std.proofs.Common.{refl, ap, ap₂, ◌∙◌, arith, get_or}
 use Rattle.std.proofs.lemmas.List.{get_or_default}
 use Rattle.std.proofs.lemmas.List.Sorted.{sum_by-IsPermutation, IsPermutation-map}
 use Rattle.fc_spec.specs.documents.Val.{Val, long, same_val}
-use Rattle.fc_run.specs.Tally.{Tally, number_at, with_more, Counts, HasRoom}
+use Rattle.fc_run.specs.Tally.{Tally, number_at, with_more, IsCounted, HasRoom}
 
 -- each value stands equally often in both lists
 abbrev pub AreAlike : List Val → List Val → Type 0
 AreAlike vs ws = (v : Val) → count_by (same_val v) vs ≡ count_by (same_val v) ws
 
-pub Counts-alike : (a b : Tally) (vs ws : List Val) → AreAlike vs ws → Counts a b vs → Counts a b ws
+pub Counts-alike : (a b : Tally) (vs ws : List Val) → AreAlike vs ws → IsCounted a b vs → IsCounted a b ws
 Counts-alike a b vs ws alike counts = record {
   numbers = λ v. counts.numbers v ∙ ap (with_more (number_at a v)) (alike v);
   ordered = counts.ordered;

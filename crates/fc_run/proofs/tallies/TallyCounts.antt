@@ -23,7 +23,7 @@ use Rattle.fc_docs.specs.View.{block_view}
 use Rattle.fc_run.specs.PlainReply.{values_at, documents_with, value_counts, AreDifferent, HaveDifferentValues}
 use Rattle.fc_run.specs.declared.search.term.Term.{Term}
 use Rattle.fc_run.specs.Term.{term_view}
-use Rattle.fc_run.specs.Tally.{Tally, tally_view, key_cmp, with_more, Counts, HasRoom}
+use Rattle.fc_run.specs.Tally.{Tally, tally_view, term_cmp, with_more, IsCounted, HasRoom}
 use Rattle.fc_run.proofs.tallies.SameEntries.{same_entries}
 
 -- a test that no member passes counts none, and one that some member passes counts one at least
@@ -109,17 +109,17 @@ lookup-viewed : (v : definition.Val) (es : List (Term × ℕ)) → lookup (same_
 lookup-viewed v [] = refl
 lookup-viewed v (e ∷ es) = ap (cond (same_val v (term_view e.0)) (Some e.1)) (lookup-viewed v es)
 
-viewed_under : (k : Term) (es : List (Term × ℕ)) → AllByRecursion (λ j. key_cmp k j ≡ Less) (keys_of es) → AllByRecursion (λ v. val_cmp (term_view k) v ≡ Less) (keys_of (viewed es))
+viewed_under : (k : Term) (es : List (Term × ℕ)) → AllByRecursion (λ j. term_cmp k j ≡ Less) (keys_of es) → AllByRecursion (λ v. val_cmp (term_view k) v ≡ Less) (keys_of (viewed es))
 viewed_under k [] h = tt
 viewed_under k (e ∷ es) h = (h.0, viewed_under k es h.1)
 
-viewed_ascend : (es : List (Term × ℕ)) → IsStrictlySortedBy key_cmp (keys_of es) → IsStrictlySortedBy val_cmp (keys_of (viewed es))
+viewed_ascend : (es : List (Term × ℕ)) → IsStrictlySortedBy term_cmp (keys_of es) → IsStrictlySortedBy val_cmp (keys_of (viewed es))
 unfolding IsStrictlySortedBy
 viewed_ascend [] h = tt
 viewed_ascend (e ∷ es) h = (viewed_under e.0 es h.0, viewed_ascend es h.1)
 
 -- an empty tally in which the values of documents are counted
-pub tally_view-counted : (field : ℕ) (ds : List Document) → HaveDifferentValues field ds → (a t : Tally) → a.entries ≡ [] → IsOrdered key_cmp a → Counts a t (values_at field ds) → tally_view t ≡ value_counts field ds
+pub tally_view-counted : (field : ℕ) (ds : List Document) → HaveDifferentValues field ds → (a t : Tally) → a.entries ≡ [] → IsOrdered term_cmp a → IsCounted a t (values_at field ds) → tally_view t ≡ value_counts field ds
 tally_view-counted field ds different a t empty order counts =
     same_entries val_cmp_total exact_val (tally_view t) (value_counts field ds) (viewed_ascend t.entries (counts.ordered order))
     (subst (IsStrictlySortedBy val_cmp) (sym (keys_of-numbered number (distinct all))) (distinct_ascends all)) same

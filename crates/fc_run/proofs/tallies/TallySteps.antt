@@ -12,7 +12,7 @@ use Rattle.fc_spec.specs.documents.Val.{same_val}
 use Rattle.fc_run.specs.declared.search.term.Term.{Term}
 use Rattle.fc_run.specs.declared.search.term.Term.TheVariants.{Text, Long}
 use Rattle.fc_run.specs.Term.{term_view}
-use Rattle.fc_run.specs.Tally.{Tally, number_at, with_more, key_cmp, Counts, HasRoom}
+use Rattle.fc_run.specs.Tally.{Tally, number_at, with_more, term_cmp, IsCounted, HasRoom}
 use Rattle.fc_spec.proofs.documents.ValOrder.{same_val_itself, same_val_exact, same_val_equiv}
 
 -- a term that is seen as v
@@ -34,7 +34,7 @@ count_by-copies v w n = sum_by-replicate (λ u. cond (same_val v u) 1 0) n w ∙
     times false = omega arith
 
 -- where there is room for the copies, the number stays in range with them
-pub HasRoom-copies : (a : Tally) (k : Term) (n : ℕ) → HasRoom a (replicate n (term_view k)) → unwrap_or (get key_cmp a k) 0 + n < 2 ^ 64
+pub HasRoom-copies : (a : Tally) (k : Term) (n : ℕ) → HasRoom a (replicate n (term_view k)) → unwrap_or (get term_cmp a k) 0 + n < 2 ^ 64
 HasRoom-copies a k n room =
     let copies = count_by-copies (term_view k) (term_view k) n ∙ ap (λ b. cond b n 0) (same_val_itself (term_view k)) in
     omega (arith, room.within (term_view k), copies)
@@ -48,7 +48,7 @@ module _ (a b : Tally) (k : Term) (n : ℕ) (some : 0 < n) where
   with_some o zero h = absurd (omega arith)
   with_some o (suc m) h = refl
 
-  Counts-from_get : IsOrdered key_cmp b → ((q : Term) → get key_cmp b q ≡ cond (same_val (term_view k) (term_view q)) more_here (get key_cmp a q)) → Counts a b (replicate n (term_view k))
+  Counts-from_get : IsOrdered term_cmp b → ((q : Term) → get term_cmp b q ≡ cond (same_val (term_view k) (term_view q)) more_here (get term_cmp a q)) → IsCounted a b (replicate n (term_view k))
   Counts-from_get order at_key = record { numbers = numbers; ordered = λ _. order }
     where
       go : (v : definition.Val) (t : Bool) → same_val v (term_view k) ≡ t → cond (same_val (term_view k) v) more_here (number_at a v) ≡ with_more (number_at a v) (cond t n 0)
@@ -64,13 +64,13 @@ module _ (a b : Tally) (k : Term) (n : ℕ) (some : 0 < n) where
           ∙ go v (same_val v (term_view k)) refl ∙ ap (with_more (number_at a v)) (sym (count_by-copies v (term_view k) n))
 
   -- what an entry for k writes, with n more than the tally has there
-  pub Counts-from_written : (written : ℕ → Tally) (c : ℕ) → ((w : ℕ) → Updates key_cmp a (written w) k (Some w)) → ((w : ℕ) → IsOrdered key_cmp (written w))
-      → b ≡ written (c + n) → c ≡ unwrap_or (get key_cmp a k) 0 → Counts a b (replicate n (term_view k))
+  pub Counts-from_written : (written : ℕ → Tally) (c : ℕ) → ((w : ℕ) → Updates term_cmp a (written w) k (Some w)) → ((w : ℕ) → IsOrdered term_cmp (written w))
+      → b ≡ written (c + n) → c ≡ unwrap_or (get term_cmp a k) 0 → IsCounted a b (replicate n (term_view k))
   Counts-from_written written c writes orders is counted =
-      Counts-from_get (subst (IsOrdered key_cmp) (sym is) (orders (c + n))) (λ q. ap (λ t. get key_cmp t q) is ∙ (writes (c + n)).0 q ∙ ap (λ d. cond (same_val (term_view k) (term_view q)) (Some (d + n)) (get key_cmp a q)) counted)
+      Counts-from_get (subst (IsOrdered term_cmp) (sym is) (orders (c + n))) (λ q. ap (λ t. get term_cmp t q) is ∙ (writes (c + n)).0 q ∙ ap (λ d. cond (same_val (term_view k) (term_view q)) (Some (d + n)) (get term_cmp a q)) counted)
 
 -- nothing is counted
-pub Counts-none : (t : Tally) → Counts t t []
+pub Counts-none : (t : Tally) → IsCounted t t []
 Counts-none t = record { numbers = λ v. refl; ordered = λ o. o }
 
 with_more-with_more : (o : Option ℕ) (m n : ℕ) → with_more (with_more o m) n ≡ with_more o (m + n)
@@ -85,7 +85,7 @@ number_after o zero = sym (add-zero (unwrap_or o 0))
 number_after o (suc n) = refl
 
 -- first some values, then others
-pub Counts-append : (a b c : Tally) (xs ys : List definition.Val) → Counts a b xs → Counts b c ys → Counts a c (xs ++ ys)
+pub Counts-append : (a b c : Tally) (xs ys : List definition.Val) → IsCounted a b xs → IsCounted b c ys → IsCounted a c (xs ++ ys)
 Counts-append a b c xs ys first then = record {
   numbers = λ v.
       then.numbers v ∙ ap (λ o. with_more o (count_by (same_val v) ys)) (first.numbers v)
@@ -99,7 +99,7 @@ pub HasRoom-front : (a : Tally) (xs ys : List definition.Val) → HasRoom a (xs 
 HasRoom-front a xs ys room = record { within = λ v. let both = sum_by-append (λ w. cond (same_val v w) 1 0) xs ys in omega (arith, room.within v) }
 
 -- and when those are counted, for the others
-pub HasRoom-rest : (a b : Tally) (xs ys : List definition.Val) → HasRoom a (xs ++ ys) → Counts a b xs → HasRoom b ys
+pub HasRoom-rest : (a b : Tally) (xs ys : List definition.Val) → HasRoom a (xs ++ ys) → IsCounted a b xs → HasRoom b ys
 HasRoom-rest a b xs ys room counts = record {
   within = λ v.
       let now : unwrap_or (number_at b v) 0 ≡ unwrap_or (number_at a v) 0 + count_by (same_val v) xs =
@@ -109,14 +109,14 @@ HasRoom-rest a b xs ys room counts = record {
 }
 
 -- ---- a loop over parts, each with some values
-module _ {X : Type 0} (values : X → List definition.Val) (a b : Tally) (xs : List X) (i : ℕ) (so_far : Counts a b (flat_map values (take i xs))) where
+module _ {X : Type 0} (values : X → List definition.Val) (a b : Tally) (xs : List X) (i : ℕ) (so_far : IsCounted a b (flat_map values (take i xs))) where
   -- at the end all are counted
-  pub Counts-all : length xs ≤ i → Counts a b (flat_map values xs)
+  pub Counts-all : length xs ≤ i → IsCounted a b (flat_map values xs)
   Counts-all past = rw take_all at so_far
 
   module _ (x : X) (in_list : i < length xs) (is : x ≡ get_or xs i x) where
     -- the next part is counted
-    pub Counts-more : (c : Tally) → Counts b c (values x) → Counts a c (flat_map values (take (i + 1) xs))
+    pub Counts-more : (c : Tally) → IsCounted b c (values x) → IsCounted a c (flat_map values (take (i + 1) xs))
     Counts-more c now =
         let more : flat_map values (take (i + 1) xs) ≡ flat_map values (take i xs) ++ values x =
         ap (flat_map values) (take_more xs i x in_list) ∙ flat_map-append values (take i xs) (get_or xs i x ∷ [])

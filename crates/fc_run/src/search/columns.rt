@@ -4,7 +4,7 @@ ghost use Rattle.fc_spec.specs.documents.Val.{Text, text, long, same_text};
 ghost use Rattle.fc_segment.specs.Columns.{column_values};
 ghost use Rattle.fc_column.specs.Terms.{terms_of};
 ghost use Rattle.fc_run.specs.Term.{term_view};
-ghost use Rattle.fc_run.specs.Tally.{Counts, HasRoom, picked_values};
+ghost use Rattle.fc_run.specs.Tally.{IsCounted, HasRoom, picked_values};
 
 use super::tally::{Tally, count_term};
 use super::term::Term;
@@ -46,7 +46,7 @@ fn ordinal_counts(alloc: Global, column: &TextColumn, docs: &DocSet) -> Result<V
 // Counts a value so many times more, or leaves the tally where that is never.
 fn count_if_any<'a>(tally: &mut Tally<'a>, term: Term<'a>, count: u64) -> Result<(), WantMemory>
     requires { HasRoom tally.old (replicate count (term_view term)) }
-    ensures { OnOk result (Counts tally.old tally.new (replicate count (term_view term.entry))) }
+    ensures { OnOk result (IsCounted tally.old tally.new (replicate count (term_view term.entry))) }
 {
     if count == 0 {
         return Ok(());
@@ -63,7 +63,7 @@ fn tally_texts<'a>(
 ) -> Result<(), WantMemory>
     requires length { length docs.now ≡ length column.now }
     requires room { HasRoom tally.old (map text (picked_values docs.now column.now)) }
-    ensures { OnOk result (Counts tally.old tally.new
+    ensures { OnOk result (IsCounted tally.old tally.new
         (map text (picked_values docs.now column.now))) }
 {
     let counts = ordinal_counts(alloc, column, docs)?;
@@ -103,7 +103,7 @@ fn run_length(longs: &[i64]) -> usize
 // Counts integers, those that stand beside each other at once.
 fn tally_runs<'a>(longs: &[i64], tally: &mut Tally<'a>) -> Result<(), WantMemory>
     requires { HasRoom tally.old (map long longs.now) }
-    ensures { OnOk result (Counts tally.old tally.new (map long longs.now)) }
+    ensures { OnOk result (IsCounted tally.old tally.new (map long longs.now)) }
 {
     let mut rest = longs;
     while !rest.is_empty() {
@@ -123,7 +123,7 @@ fn tally_longs<'a>(
 ) -> Result<(), WantMemory>
     requires length { length docs.now ≡ length column.now }
     requires room { HasRoom tally.old (map long (picked_values docs.now column.now)) }
-    ensures { OnOk result (Counts tally.old tally.new
+    ensures { OnOk result (IsCounted tally.old tally.new
         (map long (picked_values docs.now column.now))) }
 {
     let mut longs = longs_of(alloc, column, docs)?;
@@ -140,7 +140,7 @@ pub(crate) fn tally_column<'a>(
 ) -> Result<(), WantMemory>
     requires length { length docs.now ≡ length (column_values column.now) }
     requires room { HasRoom tally.old (picked_values docs.now (column_values column.now)) }
-    ensures { OnOk result (Counts tally.old tally.new
+    ensures { OnOk result (IsCounted tally.old tally.new
         (picked_values docs.now (column_values column.now))) }
 {
     match column {

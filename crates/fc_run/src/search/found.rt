@@ -6,7 +6,7 @@ ghost use Rattle.fc_spec.specs.documents.Totals.{document_total, documents_in};
 ghost use Rattle.fc_run.specs.Fitting.{AreDifferentIn, Fits};
 ghost use Rattle.fc_run.specs.Found.{asked_values, Finds};
 ghost use Rattle.fc_run.specs.PlainReply.{asked_counts, root_documents};
-ghost use Rattle.fc_run.specs.Tally.{Counts, HasRoom, tally_view};
+ghost use Rattle.fc_run.specs.Tally.{IsCounted, HasRoom, tally_view};
 ghost use Rattle.fc_script.specs.View.{facet_view, request_view};
 
 use super::columns::tally_column;
@@ -31,7 +31,7 @@ fn tally_facet<'a>(
     requires length { length docs.now ≡ document_total segment.now.blocks }
     requires room { HasRoom tally.old (asked_values (option_map facet_view facet.now)
         (items_where_true docs.now (documents_in segment.now.blocks))) }
-    ensures { OnOk result (Counts tally.old tally.new (asked_values (option_map facet_view facet.now)
+    ensures { OnOk result (IsCounted tally.old tally.new (asked_values (option_map facet_view facet.now)
         (items_where_true docs.now (documents_in segment.now.blocks)))) }
 {
     if let Some(facet) = facet {

@@ -1,6 +1,6 @@
 // How many documents have each value of a field.
 ghost use Rattle.std.specs.Prelude.{◌<◌, replicate, OnOk};
-ghost use Rattle.fc_run.specs.Tally.{Counts, HasRoom};
+ghost use Rattle.fc_run.specs.Tally.{IsCounted, HasRoom};
 ghost use Rattle.fc_run.specs.Term.{term_view};
 
 use super::term::Term;
@@ -18,7 +18,7 @@ pub(crate) fn count_term<'a>(
 ) -> Result<(), WantMemory>
     requires some { 0 < count }
     requires room { HasRoom tally.old (replicate count (term_view term)) }
-    ensures { OnOk result (Counts tally.old tally.new (replicate count (term_view term.entry))) }
+    ensures { OnOk result (IsCounted tally.old tally.new (replicate count (term_view term.entry))) }
 {
     *tally.entry(term)?.or_insert(0) += count;
     Ok(())

@@ -7,10 +7,10 @@ ghost use Rattle.fc_script.specs.Counts.{IsLineOf};
 ghost use Rattle.fc_script.specs.ValidRequests.{IsAskedOf};
 ghost use Rattle.fc_script.specs.ReadSoFar.{asked_line};
 ghost use Rattle.fc_script.specs.ScriptView.{line_view, said_view};
-ghost use Rattle.fc_script.specs.View.{refused_view};
+ghost use Rattle.fc_script.specs.View.{shown_view};
 
 use super::said::Said;
-use crate::fault::Fault;
+use crate::fault::ShownFault;
 use crate::request::{Request, read_request};
 use fc_base::{Name, Refusal, Schema};
 use fc_docs::Block;
@@ -36,8 +36,8 @@ fn search_of(
     schema: &Schema,
     session: &str,
     request: &Value,
-) -> Result<Line, Refusal<Fault>>
-    ensures answer { Answers line_view refused_view result
+) -> Result<Line, Refusal<ShownFault>>
+    ensures answer { Answers line_view shown_view result
         (asked_line schema.now (asks session.now (view request.now))) }
     ensures valid { IfOk result (λ line. IsLineOf schema.now (line_view line)) }
     ensures fits { IfOk result (IsAskedOf schema.now) }
@@ -52,9 +52,9 @@ pub(crate) fn asked_line(
     alloc: Global,
     schema: &Schema,
     said: Said<'_>,
-) -> Result<Line, Refusal<Fault>>
+) -> Result<Line, Refusal<ShownFault>>
     requires { IsLineOf schema.now (said_view said) }
-    ensures answer { Answers line_view refused_view result (asked_line schema.now (said_view said.entry)) }
+    ensures answer { Answers line_view shown_view result (asked_line schema.now (said_view said.entry)) }
     ensures valid { IfOk result (λ line. IsLineOf schema.now (line_view line)) }
     ensures fits { IfOk result (IsAskedOf schema.now) }
 {

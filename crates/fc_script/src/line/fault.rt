@@ -1,11 +1,11 @@
 // The faults of a script, and what each is refused for today.
 ghost use Rattle.std.specs.Prelude.{◌≡◌};
 ghost use Rattle.fc_base.specs.declared.error.Refusal.TheVariants.{Fault};
-ghost use Rattle.fc_script.specs.Refusals.{refused as reason};
-ghost use Rattle.fc_script.specs.ScriptView.{line_fault_view, IsRefusedBy};
-ghost use Rattle.fc_script.specs.View.{refused_view};
+ghost use Rattle.fc_script.specs.ShownFaults.{shown as reason};
+ghost use Rattle.fc_script.specs.ScriptView.{line_fault_view, IsShownBy};
+ghost use Rattle.fc_script.specs.View.{shown_view};
 
-use crate::fault::Fault;
+use crate::fault::ShownFault;
 use fc_base::Refusal;
 use fc_docs::DocFault;
 
@@ -51,22 +51,22 @@ impl From<LineFault> for Refusal<LineFault> {
 }
 
 /// What a script with this fault is refused for today.
-pub(crate) fn refused(fault: LineFault) -> Fault
-    ensures { refused_view result ≡ reason (line_fault_view fault) }
+pub(crate) fn shown(fault: LineFault) -> ShownFault
+    ensures { shown_view result ≡ reason (line_fault_view fault) }
 {
     match fault {
-        LineFault::NotJson => Fault::NotJson,
-        LineFault::TooLong => Fault::TooLong,
-        _ => Fault::NotBuilt,
+        LineFault::NotJson => ShownFault::NotJson,
+        LineFault::TooLong => ShownFault::TooLong,
+        _ => ShownFault::NotBuilt,
     }
 }
 
 /// A refusal of a line by a fault of scripts, as what it is refused for today.
-pub(crate) fn refused_by(refusal: Refusal<LineFault>) -> Refusal<Fault>
-    ensures { IsRefusedBy refusal result }
+pub(crate) fn shown_by(refusal: Refusal<LineFault>) -> Refusal<ShownFault>
+    ensures { IsShownBy refusal result }
 {
     match refusal {
         Refusal::Memory => Refusal::Memory,
-        Refusal::Fault(fault) => Refusal::Fault(refused(fault)),
+        Refusal::Fault(fault) => Refusal::Fault(shown(fault)),
     }
 }

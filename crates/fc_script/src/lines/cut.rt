@@ -61,9 +61,9 @@ pub(crate) struct Lines<'a> {
 impl<'a> Model for Lines<'a> {
     ghost use Rattle.std.specs.Prelude.{◌+◌, ◌^◌, ◌<◌, length};
     ghost use Rattle.fc_spec.specs.scripts.ScriptLines.{lines_of};
-    ghost use Rattle.fc_script.specs.Left.{Left};
+    ghost use Rattle.fc_script.specs.Left.{LinesLeft};
 
-    ghost Value = { Left };
+    ghost Value = { LinesLeft };
 
     ghost view = { λ s. record { number = s.number; lines = lines_of s.rest.now } };
 

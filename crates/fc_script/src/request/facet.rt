@@ -2,11 +2,11 @@
 ghost use Rattle.std.specs.Prelude.{◌≡◌, ◌<◌, length, IfOk, IfSome, Some, ok_or, option_map};
 ghost use Rattle.serde_json.specs.View.{view};
 ghost use Rattle.fc_base.specs.Answers.{Answers};
-ghost use Rattle.fc_script.specs.Refusals.{not_built};
+ghost use Rattle.fc_script.specs.ShownFaults.{not_built};
 ghost use Rattle.fc_script.specs.Requests as form;
-ghost use Rattle.fc_script.specs.View.{facets_view, refused_view};
+ghost use Rattle.fc_script.specs.View.{facets_view, shown_view};
 
-use crate::fault::Fault;
+use crate::fault::ShownFault;
 use fc_base::json::{has_members, has_text, is_same};
 use fc_base::{FieldId, Name, Refusal, Schema};
 use serde_json::Value;
@@ -49,23 +49,23 @@ fn facet_of(
     schema: &Schema,
     name: &str,
     facet: &Value,
-) -> Result<Facet, Refusal<Fault>>
-    ensures answer { Answers (λ facet. facets_view (Some facet)) refused_view result
+) -> Result<Facet, Refusal<ShownFault>>
+    ensures answer { Answers (λ facet. facets_view (Some facet)) shown_view result
         (ok_or (form.facet_of schema.now name.now (view facet.now)) not_built) }
     ensures valid { IfOk result (λ facet. facet.field.0 < length schema.now.fields) }
 {
     if is_reserved(name) || !is_whole_terms(facet) {
-        return Err(Refusal::Fault(Fault::NotBuilt));
+        return Err(Refusal::Fault(ShownFault::NotBuilt));
     }
     let Some(field) = facet.get("field").and_then(Value::as_str) else {
-        return Err(Refusal::Fault(Fault::NotBuilt));
+        return Err(Refusal::Fault(ShownFault::NotBuilt));
     };
     match schema.find(field.as_bytes()) {
         Some(field) => Ok(Facet {
             name: Name::new(alloc, name)?,
             field,
         }),
-        None => Err(Refusal::Fault(Fault::NotBuilt)),
+        None => Err(Refusal::Fault(ShownFault::NotBuilt)),
     }
 }
 
@@ -74,8 +74,8 @@ pub(crate) fn facet_in(
     alloc: Global,
     schema: &Schema,
     json: Option<&Value>,
-) -> Result<Option<Facet>, Refusal<Fault>>
-    ensures answer { Answers facets_view refused_view result
+) -> Result<Option<Facet>, Refusal<ShownFault>>
+    ensures answer { Answers facets_view shown_view result
         (form.facets_in schema.now (option_map (λ json. view json.now) json.entry)) }
     ensures valid { IfOk result (λ facet. IfSome facet (λ facet. facet.field.0 < length schema.now.fields)) }
 {
@@ -83,10 +83,10 @@ pub(crate) fn facet_in(
         return Ok(None);
     };
     let Some(facets) = json.as_object() else {
-        return Err(Refusal::Fault(Fault::NotBuilt));
+        return Err(Refusal::Fault(ShownFault::NotBuilt));
     };
     if facets.len() > 1 {
-        return Err(Refusal::Fault(Fault::NotBuilt));
+        return Err(Refusal::Fault(ShownFault::NotBuilt));
     }
     match facets.first_key_value() {
         Some((name, facet)) => Ok(Some(facet_of(alloc, schema, name.as_str(), facet)?)),

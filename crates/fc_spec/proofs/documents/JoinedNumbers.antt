@@ -4,7 +4,6 @@ use Rattle.std.specs.Prelude.{nat_lt}
 use Rattle.std.proofs.lemmas.Bool.{and_parts, and_from, eqb-true, eq-eqb, ltb-true}
 use Rattle.fc_spec.specs.documents.Document.{Block}
 use Rattle.fc_spec.specs.documents.World.{Place, same_block}
-
 use Rattle.fc_spec.specs.documents.Totals.{document_total}
 use Rattle.fc_spec.proofs.words.Members.{same_tests}
 use Rattle.fc_spec.proofs.documents.Renumbered.{Numbers, renumbered}

@@ -15,18 +15,18 @@ returns-then-words-ne1-clause-counts g c =
 
 pub returns-in-Ok-Bytes-clause-leaves : goal.returns-in-Ok-Bytes-clause-leaves
 returns-in-Ok-Bytes-clause-leaves g c =
-    (left_of_all c.give.result c.answer_to.result c.in-Ok-Bytes.bytes.items (g.S.Source.left c.args.source.now) (g.K.Sink.written c.args.sink.now) (g.K.Sink.written c.give.new.sink) (rw c.in-Ok-Bytes.field-0-is at c.in-Ok-Bytes.ensures.whole)
-    c.answer_to.ensures c.give.ensures.ends).leaves
+    (left_of_all c.give.result c.run_text_of.result c.in-Ok-Bytes.bytes.items (g.S.Source.left c.args.source.now) (g.K.Sink.written c.args.sink.now) (g.K.Sink.written c.give.new.sink) (rw c.in-Ok-Bytes.field-0-is at c.in-Ok-Bytes.ensures.whole)
+    c.run_text_of.ensures c.give.ensures.ends).leaves
 
 pub returns-in-Ok-Bytes-clause-single_index : goal.returns-in-Ok-Bytes-clause-single_index
 returns-in-Ok-Bytes-clause-single_index g c =
-    (left_of_all c.give.result c.answer_to.result c.in-Ok-Bytes.bytes.items (g.S.Source.left c.args.source.now) (g.K.Sink.written c.args.sink.now) (g.K.Sink.written c.give.new.sink) (rw c.in-Ok-Bytes.field-0-is at c.in-Ok-Bytes.ensures.whole)
-    c.answer_to.ensures c.give.ensures.ends).single_index
+    (left_of_all c.give.result c.run_text_of.result c.in-Ok-Bytes.bytes.items (g.S.Source.left c.args.source.now) (g.K.Sink.written c.args.sink.now) (g.K.Sink.written c.give.new.sink) (rw c.in-Ok-Bytes.field-0-is at c.in-Ok-Bytes.ensures.whole)
+    c.run_text_of.ensures c.give.ensures.ends).single_index
 
 pub returns-in-Ok-Bytes-clause-counts : goal.returns-in-Ok-Bytes-clause-counts
 returns-in-Ok-Bytes-clause-counts g c =
-    (left_of_all c.give.result c.answer_to.result c.in-Ok-Bytes.bytes.items (g.S.Source.left c.args.source.now) (g.K.Sink.written c.args.sink.now) (g.K.Sink.written c.give.new.sink) (rw c.in-Ok-Bytes.field-0-is at c.in-Ok-Bytes.ensures.whole)
-    c.answer_to.ensures c.give.ensures.ends).counts
+    (left_of_all c.give.result c.run_text_of.result c.in-Ok-Bytes.bytes.items (g.S.Source.left c.args.source.now) (g.K.Sink.written c.args.sink.now) (g.K.Sink.written c.give.new.sink) (rw c.in-Ok-Bytes.field-0-is at c.in-Ok-Bytes.ensures.whole)
+    c.run_text_of.ensures c.give.ensures.ends).counts
 
 pub returns-in-Ok-TooLong-clause-leaves : goal.returns-in-Ok-TooLong-clause-leaves
 returns-in-Ok-TooLong-clause-leaves g c =

@@ -6,8 +6,8 @@ use Rattle.fc_spec.specs.documents.Val.{Text}
 use Rattle.fc_spec.specs.words.Walks.{◌>>=◌}
 use Rattle.fc_base.specs.Answers.{Answers}
 use Rattle.fc_script.specs.ReadSoFar.{ReadSoFar, at_line, schema_read, read_from, with_rest}
-use Rattle.fc_script.specs.ReadView.{reading_view}
-use Rattle.fc_script.specs.Refusals.{FirstFault}
+use Rattle.fc_script.specs.ReadView.{reader_view}
+use Rattle.fc_script.specs.ShownFaults.{FirstFault}
 use Rattle.fc_script.specs.ScriptView.{lines_left, script_view}
 use Rattle.fc_script.specs.View.{fault_view, limits_view}
 use Rattle.fc_script.proofs.read.read_lines.Goals as goal
@@ -24,5 +24,5 @@ returns-clause-answer c =
     let number = c.number.result in
     let first : lines_left c.args.lines ≡ (number, c.in-Some.text.now) ∷ lines_left c.next_said.new.lines = c.in-Some.ensures.line ∙ ap (λ n. (n, c.in-Some.text.now) ∷ lines_left c.next_said.new.lines) (sym c.number.ensures) in
     subst (Answers script_view fault_view c.read_rest.result)
-    (sym (behind (limits_view c.args.limits) (lines_left c.args.lines) number c.in-Some.text.now (lines_left c.next_said.new.lines) c.in_ok-schema.schema (reading_view c.in_ok-new.field-0) first c.in_ok-schema.ensures.answer c.in_ok-new.ensures.view))
+    (sym (behind (limits_view c.args.limits) (lines_left c.args.lines) number c.in-Some.text.now (lines_left c.next_said.new.lines) c.in_ok-schema.schema (reader_view c.in_ok-new.field-0) first c.in_ok-schema.ensures.answer c.in_ok-new.ensures.view))
     c.read_rest.ensures.answer

@@ -4,7 +4,7 @@ use mir.Val.{SFits}
 use Rattle.std.proofs.lemmas.Int.{to_z-of_z}
 use Rattle.std.proofs.lemmas.List.{take_all, length-drop}
 use Rattle.fc_spec.specs.documents.Val.{long}
-use Rattle.fc_run.specs.Tally.{Counts}
+use Rattle.fc_run.specs.Tally.{IsCounted}
 use Rattle.fc_run.proofs.tallies.TallySteps.{HasRoom-front, HasRoom-rest, Counts-append}
 use Rattle.fc_run.proofs.tallies.SameCounts.{first_run}
 use Rattle.fc_run.proofs.search.columns.tally_runs.Goals as goal
@@ -29,7 +29,7 @@ loop-rest-preserved c =
     let split = first_run rest n (pos 0) run.some run.within run.same in
     let size = length-drop n rest in
     let behind : take (length rest - n) (drop n rest) ≡ drop n rest = take_all (length rest - n) (drop n rest) (omega arith) in
-    let now : Counts c.loop-rest.tally c.count_term.new.tally (replicate n (long first)) = rw (to_z-of_z w64 first fits) at c.in_ok-count_term.ensures in
+    let now : IsCounted c.loop-rest.tally c.count_term.new.tally (replicate n (long first)) = rw (to_z-of_z w64 first fits) at c.in_ok-count_term.ensures in
     let room = HasRoom-rest c.loop-rest.tally c.count_term.new.tally (replicate n (long first)) (map long (drop n rest)) (rw split at c.loop-rest.invariant.room) now in
     rw behind (record {
       within = omega arith;

@@ -1,13 +1,13 @@
 use Rattle.std.proofs.Common.{◌≡◌, unwrap_or, arith, rules}
 use Rattle.std.specs.BTreeMap.{get}
 use Rattle.std.specs.BTreeMap.Entry.{map_with_value}
-use Rattle.fc_run.specs.Tally.{key_cmp}
+use Rattle.fc_run.specs.Tally.{term_cmp}
 use Rattle.fc_run.proofs.tallies.TallySteps.{Counts-from_written, HasRoom-copies}
 use Rattle.fc_run.proofs.search.tally.count_term.Goals as goal
 
 pub overflow_add-tally : goal.overflow_add-tally
 overflow_add-tally c =
-    let counted : c.or_insert.result.now ≡ unwrap_or (get key_cmp c.args.tally.now c.args.term) 0 = search rules in
+    let counted : c.or_insert.result.now ≡ unwrap_or (get term_cmp c.args.tally.now c.args.term) 0 = search rules in
     let room = HasRoom-copies c.args.tally.now c.args.term c.args.count c.requires.room in
     omega arith
 

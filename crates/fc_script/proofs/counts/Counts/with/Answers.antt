@@ -27,10 +27,10 @@ refused_too (refusal.Fault f) D E same answer = sym same ∙ answer
 
 pub returns-in_err-with-in-Add : goal.returns-in_err-with-in-Add
 returns-in_err-with-in-Add c = λ limits lines are.
-    let refused = (c.in_err-with-in-Add.ensures limits (filter_map added lines) are.documents).0 in
+    let shown = (c.in_err-with-in-Add.ensures limits (filter_map added lines) are.documents).0 in
     let p = err_from_is_err_and c.from_residual.result c.from_residual.ensures.1 in
     let block = block_view c.in-Add.block in
-    rw (c.in-Add.is, p.1, p.2) (refused_too c.in_err-with-in-Add.field-0.0 _ _ (ap (λ bs. check_documents limits c.args.schema.now (documents_in bs)) (sym (added-add lines c.in-Add.field-0 block))) refused, tt)
+    rw (c.in-Add.is, p.1, p.2) (refused_too c.in_err-with-in-Add.field-0.0 _ _ (ap (λ bs. check_documents limits c.args.schema.now (documents_in bs)) (sym (added-add lines c.in-Add.field-0 block))) shown, tt)
 
 pub returns-in_ok-with-in-Add : goal.returns-in_ok-with-in-Add
 returns-in_ok-with-in-Add c = λ limits lines are.

@@ -1,6 +1,6 @@
 use Rattle.std.proofs.Common.{ap, ok_or, ◌∙◌, arith, rules}
 use Rattle.serde_json.specs.View.{view}
-use Rattle.fc_script.specs.Refusals.{not_built}
+use Rattle.fc_script.specs.ShownFaults.{not_built}
 use Rattle.fc_script.proofs.FacetObjects.{facets-many, facets-sole}
 use Rattle.fc_script.proofs.request.facet.facet_in.Goals as goal
 

@@ -1,6 +1,6 @@
 use Rattle.std.proofs.Common.{sym, ◌∙◌, ap, ◌+◌, option_map, subst}
 use Rattle.fc_run.specs.Found.{asked_values}
-use Rattle.fc_run.specs.Tally.{Counts, HasRoom}
+use Rattle.fc_run.specs.Tally.{IsCounted, HasRoom}
 use Rattle.fc_script.specs.View.{facet_view, request_view}
 use Rattle.fc_run.proofs.finding.FoundValues.{root_count, root_picked}
 use Rattle.fc_run.proofs.search.found.Found.with.Goals as goal
@@ -16,5 +16,5 @@ returns c =
     let picked = root_picked r c.args.segment.now.blocks c.in_ok-docs.docs c.in_ok-docs.ensures in
     record {
       count = ap (λ n. c.args.self.count + n) (c.from.ensures ∙ c.count.ensures ∙ root_count r c.args.segment.now.blocks c.in_ok-docs.docs c.in_ok-docs.ensures);
-      tally = subst (λ ds. Counts c.args.self.tally c.tally_facet.new.tally (asked_values (option_map facet_view c.args.request.now.facet) ds)) picked c.in_ok-tally_facet.ensures;
+      tally = subst (λ ds. IsCounted c.args.self.tally c.tally_facet.new.tally (asked_values (option_map facet_view c.args.request.now.facet) ds)) picked c.in_ok-tally_facet.ensures;
     }

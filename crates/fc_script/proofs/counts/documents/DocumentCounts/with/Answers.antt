@@ -21,16 +21,16 @@ use Rattle.fc_script.proofs.NewIds.{ids_with}
 use Rattle.fc_script.proofs.counts.documents.DocumentCounts.with.Goals as goal
 
 -- a block that is refused for its ids
-refused : (e : Refusal LineFault) (new all : Result (Unit {0}) fault.LineFault) → ((f : fault.LineFault) → new ≡ Err f → all ≡ Err f) → Answers (λ (done : Unit {0}). tt {0}) line_fault_view (Err e) new
+shown : (e : Refusal LineFault) (new all : Result (Unit {0}) fault.LineFault) → ((f : fault.LineFault) → new ≡ Err f → all ≡ Err f) → Answers (λ (done : Unit {0}). tt {0}) line_fault_view (Err e) new
     → Answers (λ (counts : DocumentCounts). tt {0}) line_fault_view (Err e) all
-refused refusal.Memory new all same answer = tt
-refused (refusal.Fault f) new all same answer = same (line_fault_view f) answer
+shown refusal.Memory new all same answer = tt
+shown (refusal.Fault f) new all same answer = same (line_fault_view f) answer
 
 pub returns-in_err-insert_ids : goal.returns-in_err-insert_ids
 returns-in_err-insert_ids c = λ limits blocks are.
     let p = err_from_is_err_and c.from_residual.result c.from_residual.ensures.1 in
     rw (p.1, p.2) (
-      refused c.in_err-insert_ids.field-0.0 _ _ (λ f is. duplicate limits c.args.schema.now (map val_view c.args.self.ids.keys) blocks (block_view c.args.block.now) f are.ids are.once is) c.in_err-insert_ids.ensures.new,
+      shown c.in_err-insert_ids.field-0.0 _ _ (λ f is. duplicate limits c.args.schema.now (map val_view c.args.self.ids.keys) blocks (block_view c.args.block.now) f are.ids are.once is) c.in_err-insert_ids.ensures.new,
       tt,
     )
 

@@ -3,20 +3,20 @@ ghost use Rattle.std.specs.Prelude.{◌≡◌, All, Err, IfOk};
 ghost use Rattle.fc_spec.specs.scripts.ScriptTotals.{script_limits};
 ghost use Rattle.fc_spec.specs.scripts.ValidScripts.{IsWithin};
 ghost use Rattle.fc_script.specs.Built.{outcome};
-ghost use Rattle.fc_script.specs.Counts.{IsLineOf};
+ghost use Rattle.fc_script.specs.IsCounted.{IsLineOf};
 ghost use Rattle.fc_script.specs.ValidRequests.{IsAskedOf};
-ghost use Rattle.fc_run.specs.Outcome.{ArePrinted, IsAnswer, too_many};
+ghost use Rattle.fc_run.specs.Outcome.{ArePrinted, IsRunText, too_many};
 ghost use Rattle.fc_script.specs.ScriptView.{script_view};
 
 use crate::running::lines_text;
 use fc_base::{Refusal, WantMemory};
-use fc_script::{Fault, FirstFault, SCRIPT_LIMITS, Script, read_script, refused_line};
+use fc_script::{FirstFault, SCRIPT_LIMITS, Script, ShownFault, first_fault_line, read_script};
 use fc_spec::{refined_paths_are_exact, without_limits};
 use std::alloc::Global;
 
 /// The lines of a script's searches, or the line of its fault.
 #[derive(Debug, Drop)]
-pub(crate) enum Answer {
+pub(crate) enum RunText {
     Lines(Vec<u8>),
     Fault(Vec<u8>),
 }
@@ -36,26 +36,26 @@ fn reply_lines(alloc: Global, script: Script) -> Result<Vec<u8>, WantMemory>
 }
 
 /// The answer to a script of more bytes than it may have.
-pub(crate) fn too_long(alloc: Global) -> Result<Answer, WantMemory>
-    ensures { IfOk result (IsAnswer (Err too_many)) }
+pub(crate) fn too_long(alloc: Global) -> Result<RunText, WantMemory>
+    ensures { IfOk result (IsRunText (Err too_many)) }
 {
     let refusal = FirstFault {
         line: 0,
-        fault: Fault::TooLong,
+        fault: ShownFault::TooLong,
     };
-    Ok(Answer::Fault(refused_line(alloc, refusal)?))
+    Ok(RunText::Fault(first_fault_line(alloc, refusal)?))
 }
 
 /// The answer to the script that the bytes spell.
 /// The bytes are let go before the lines are run.
-pub(crate) fn answer_to(alloc: Global, bytes: Vec<u8>) -> Result<Answer, WantMemory>
-    ensures { IfOk result (IsAnswer (outcome bytes.items)) }
+pub(crate) fn run_text_of(alloc: Global, bytes: Vec<u8>) -> Result<RunText, WantMemory>
+    ensures { IfOk result (IsRunText (outcome bytes.items)) }
 {
     let read = read_script(alloc, SCRIPT_LIMITS, &bytes);
     drop(bytes);
     match read {
-        Ok(script) => Ok(Answer::Lines(reply_lines(alloc, script)?)),
+        Ok(script) => Ok(RunText::Lines(reply_lines(alloc, script)?)),
         Err(Refusal::Memory) => Err(WantMemory),
-        Err(Refusal::Fault(refusal)) => Ok(Answer::Fault(refused_line(alloc, refusal)?)),
+        Err(Refusal::Fault(refusal)) => Ok(RunText::Fault(first_fault_line(alloc, refusal)?)),
     }
 }

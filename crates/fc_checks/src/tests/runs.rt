@@ -338,10 +338,10 @@ fn requests(rt: HostRuntime) -> Result<(), Fail> {
             "{{\"schema\":{{\"shards\":1,\"fields\":{{\"cat\":\"string\",\"n\":\"plong\"}}}}}}\n{{\"search\":{{\"request\":{request}}}}}"
         )?;
         let (status, written) = outcome(alloc, script.as_bytes())?;
-        let refused = status == Status::Script
+        let shown = status == Status::Script
             && written.as_str() == "{\"error\":\"not-built\",\"line\":2,\"number\":0}\n";
         let taken = status == Status::Done;
-        assert!(rt; if answer == "yes" { taken } else { refused }, "{row}");
+        assert!(rt; if answer == "yes" { taken } else { shown }, "{row}");
     }
     Ok(())
 }

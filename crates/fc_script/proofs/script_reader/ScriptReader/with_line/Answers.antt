@@ -7,7 +7,7 @@ use Rattle.fc_script.specs.ValidRequests.{IsAskedOf}
 use Rattle.fc_script.specs.ScriptView.{line_view}
 use Rattle.fc_script.specs.View.{limits_view}
 use Rattle.fc_script.proofs.PassedFaults.{passed}
-use Rattle.fc_script.proofs.reading.Reading.with_line.Goals as goal
+use Rattle.fc_script.proofs.script_reader.ScriptReader.with_line.Goals as goal
 
 pub invariant_of-result : goal.invariant_of-result
 invariant_of-result c =

@@ -6,19 +6,19 @@ ghost use Rattle.fc_script.specs.Counts.{AreCounts, IsLineOf};
 ghost use Rattle.fc_script.specs.ValidRequests.{IsAskedOf};
 ghost use Rattle.fc_script.specs.ReadSoFar.{with_asked, with_numbered as with_numbered_line, with_text as with_text_line};
 ghost use Rattle.fc_script.specs.ScriptView.{line_view};
-ghost use Rattle.fc_script.specs.View.{fault_view, limits_view, refused_view};
+ghost use Rattle.fc_script.specs.View.{fault_view, limits_view, shown_view};
 
 use crate::counts::Counts;
-use crate::fault::{Fault, FirstFault, at_line};
+use crate::fault::{FirstFault, ShownFault, at_line};
 use crate::limits::Limits;
-use crate::line::{Line, asked_line, line_said, refused_by};
+use crate::line::{Line, asked_line, line_said, shown_by};
 use crate::lines::value_on;
 use fc_base::{Refusal, Schema, WantMemory};
 use std::alloc::Global;
 
 /// The schema and the lines so far, held to the limits.
 #[derive(Drop)]
-pub(crate) struct Reading {
+pub(crate) struct ScriptReader {
     limits: Limits,
     schema: Schema,
     lines: Vec<Line>,
@@ -26,16 +26,20 @@ pub(crate) struct Reading {
     ghost held: { AreCounts (limits_view limits) schema (map line_view lines.items) counts },
 }
 
-impl Reading {
-    ghost use Rattle.fc_script.specs.ReadView.{reading_view, IsRead};
+impl ScriptReader {
+    ghost use Rattle.fc_script.specs.ReadView.{reader_view, IsRead};
 
     /// A script of which the schema alone has been read.
-    pub(crate) fn new(alloc: Global, limits: Limits, schema: Schema) -> Result<Reading, WantMemory>
-        ensures view { IfOk result (λ r. reading_view r ≡ record { limits = limits_view limits; schema = schema; lines = [] }) }
+    pub(crate) fn new(
+        alloc: Global,
+        limits: Limits,
+        schema: Schema,
+    ) -> Result<ScriptReader, WantMemory>
+        ensures view { IfOk result (λ r. reader_view r ≡ record { limits = limits_view limits; schema = schema; lines = [] }) }
         ensures read { IfOk result IsRead }
     {
         let counts = Counts::new(alloc, &schema, limits)?;
-        Ok(Reading {
+        Ok(ScriptReader {
             limits,
             schema,
             lines: Vec::new(alloc),
@@ -44,15 +48,15 @@ impl Reading {
     }
 
     // The script so far, with a line behind the others.
-    fn with_line(self, alloc: Global, line: Line) -> Result<Reading, Refusal<Fault>>
+    fn with_line(self, alloc: Global, line: Line) -> Result<ScriptReader, Refusal<ShownFault>>
         requires valid { IsLineOf self.schema (line_view line) }
         requires asked { IsAskedOf self.schema line }
-        ensures answer { Answers reading_view refused_view result (with_asked (reading_view self) (line_view line)) }
-        ensures limits { IfOk result (λ r. (reading_view r).limits ≡ (reading_view self).limits) }
-        ensures schema { IfOk result (λ r. (reading_view r).schema ≡ (reading_view self).schema) }
+        ensures answer { Answers reader_view shown_view result (with_asked (reader_view self) (line_view line)) }
+        ensures limits { IfOk result (λ r. (reader_view r).limits ≡ (reader_view self).limits) }
+        ensures schema { IfOk result (λ r. (reader_view r).schema ≡ (reader_view self).schema) }
         ensures read { IsRead self → IfOk result IsRead }
     {
-        let Reading {
+        let ScriptReader {
             limits,
             schema,
             mut lines,
@@ -60,9 +64,9 @@ impl Reading {
         } = self;
         let counts = counts
             .with(alloc, &schema, &line)
-            .map_err(|refusal| refused_by(refusal))?;
+            .map_err(|refusal| shown_by(refusal))?;
         lines.push(line)?;
-        Ok(Reading {
+        Ok(ScriptReader {
             limits,
             schema,
             lines,
@@ -71,14 +75,14 @@ impl Reading {
     }
 
     // The script so far, with what this text says as one more line.
-    fn with_text(self, alloc: Global, text: &[u8]) -> Result<Reading, Refusal<Fault>>
-        ensures answer { Answers reading_view refused_view result (with_text_line (reading_view self) text.now) }
-        ensures limits { IfOk result (λ r. (reading_view r).limits ≡ (reading_view self).limits) }
-        ensures schema { IfOk result (λ r. (reading_view r).schema ≡ (reading_view self).schema) }
+    fn with_text(self, alloc: Global, text: &[u8]) -> Result<ScriptReader, Refusal<ShownFault>>
+        ensures answer { Answers reader_view shown_view result (with_text_line (reader_view self) text.now) }
+        ensures limits { IfOk result (λ r. (reader_view r).limits ≡ (reader_view self).limits) }
+        ensures schema { IfOk result (λ r. (reader_view r).schema ≡ (reader_view self).schema) }
         ensures read { IsRead self → IfOk result IsRead }
     {
-        let json = value_on(alloc, text).map_err(|refusal| refused_by(refusal))?;
-        let said = line_said(alloc, &self.schema, &json).map_err(|refusal| refused_by(refusal))?;
+        let json = value_on(alloc, text).map_err(|refusal| shown_by(refusal))?;
+        let said = line_said(alloc, &self.schema, &json).map_err(|refusal| shown_by(refusal))?;
         let line = asked_line(alloc, &self.schema, said)?;
         self.with_line(alloc, line)
     }
@@ -89,10 +93,10 @@ impl Reading {
         alloc: Global,
         number: u32,
         text: &[u8],
-    ) -> Result<Reading, Refusal<FirstFault>>
-        ensures answer { Answers reading_view fault_view result (with_numbered_line (reading_view self) (number, text.now)) }
-        ensures limits { IfOk result (λ r. (reading_view r).limits ≡ (reading_view self).limits) }
-        ensures schema { IfOk result (λ r. (reading_view r).schema ≡ (reading_view self).schema) }
+    ) -> Result<ScriptReader, Refusal<FirstFault>>
+        ensures answer { Answers reader_view fault_view result (with_numbered_line (reader_view self) (number, text.now)) }
+        ensures limits { IfOk result (λ r. (reader_view r).limits ≡ (reader_view self).limits) }
+        ensures schema { IfOk result (λ r. (reader_view r).schema ≡ (reader_view self).schema) }
         ensures read { IsRead self → IfOk result IsRead }
     {
         self.with_text(alloc, text)
@@ -102,13 +106,13 @@ impl Reading {
     /// The schema and the lines that were read.
     pub(crate) fn into_parts(self) -> (Schema, Vec<Line>)
         requires { IsRead self }
-        ensures schema { result.0 ≡ (reading_view self).schema }
-        ensures lines { map line_view result.1.items ≡ (reading_view self).lines }
-        ensures within { IsWithin (reading_view self).limits (record { schema = result.0; lines = map line_view result.1.items }) }
+        ensures schema { result.0 ≡ (reader_view self).schema }
+        ensures lines { map line_view result.1.items ≡ (reader_view self).lines }
+        ensures within { IsWithin (reader_view self).limits (record { schema = result.0; lines = map line_view result.1.items }) }
         ensures valid { All (IsLineOf result.0) (map line_view result.1.items) }
         ensures asked { All (IsAskedOf result.0) result.1.items }
     {
-        let Reading { schema, lines, .. } = self;
+        let ScriptReader { schema, lines, .. } = self;
         (schema, lines)
     }
 }

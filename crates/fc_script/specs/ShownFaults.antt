@@ -7,26 +7,26 @@ use Rattle.fc_spec.specs.scripts.Lines.{line_of, fault_line}
 use Rattle.fc_spec.specs.scripts.ScriptFault.{LineFault, not_json, too_long}
 
 -- a fault of scripts, or that something is not built yet
-pub data Refused : Type 0 where
-  not_built : Refused
-  faulty : LineFault → Refused
+pub data ShownFault : Type 0 where
+  not_built : ShownFault
+  faulty : LineFault → ShownFault
 
 -- until they are built, the faults of scripts but two are refused as not built
-abbrev pub refused : LineFault → Refused
-refused not_json = faulty not_json
-refused too_long = faulty too_long
-refused _ = not_built
+abbrev pub shown : LineFault → ShownFault
+shown not_json = faulty not_json
+shown too_long = faulty too_long
+shown _ = not_built
 
 -- why a script is refused, and at which line: 0 where no line is at fault
 pub record FirstFault : Type 0 where
   pub line : ℕ
-  pub fault : Refused
+  pub fault : ShownFault
 
 -- the line that a script refused at its n-th line writes
-abbrev pub refused_as : ℕ → Refused → Text
-refused_as n not_built = line_of (put (codes "error") (json_string (codes "not-built")) (put (codes "line") (natural_data n) (put (codes "number") (natural_data 0) no_members)))
-refused_as n (faulty fault) = fault_line (record { line = n; fault = fault })
+abbrev pub shown_at : ℕ → ShownFault → Text
+shown_at n not_built = line_of (put (codes "error") (json_string (codes "not-built")) (put (codes "line") (natural_data n) (put (codes "number") (natural_data 0) no_members)))
+shown_at n (faulty fault) = fault_line (record { line = n; fault = fault })
 
 -- the line of a refused script
-abbrev pub refused_line : FirstFault → Text
-refused_line f = refused_as f.line f.fault
+abbrev pub first_fault_line : FirstFault → Text
+first_fault_line f = shown_at f.line f.fault

@@ -1,5 +1,5 @@
 use Rattle.fc_run.proofs.scripts.Printed.{all_printed, few_documents}
-use Rattle.fc_run.proofs.answer.reply_lines.Goals as goal
+use Rattle.fc_run.proofs.run_text.reply_lines.Goals as goal
 
 pub lines_text-requires-clause-few : goal.lines_text-requires-clause-few
 lines_text-requires-clause-few c = few_documents c.args.script c.requires.within

@@ -3,35 +3,35 @@ ghost use Rattle.std.specs.Prelude.{◌≡◌, codes, IfOk};
 ghost use Rattle.serde_json.specs.Data.{string, object, no_members, put};
 ghost use Rattle.serde_json.specs.View.{view};
 ghost use Rattle.fc_spec.specs.replies.Json.{natural_data};
-ghost use Rattle.fc_script.specs.Refusals.{refused_line as line_of_fault};
-ghost use Rattle.fc_script.specs.View.{fault_view, refused_view, refused_name, refused_number};
+ghost use Rattle.fc_script.specs.ShownFaults.{first_fault_line as line_of_fault};
+ghost use Rattle.fc_script.specs.View.{fault_view, shown_view, shown_name, shown_number};
 
-use crate::fault::{Fault, FirstFault};
+use crate::fault::{FirstFault, ShownFault};
 use fc_base::WantMemory;
 use fc_base::json::text_line;
 use serde_json::{Value, json};
 use std::alloc::Global;
 
-impl Fault {
+impl ShownFault {
     /// The name that the line of the refusal shows.
     pub fn name(self) -> &'static str
-        ensures { result.now ≡ refused_name (refused_view self) }
+        ensures { result.now ≡ shown_name (shown_view self) }
     {
         match self {
-            Fault::NotBuilt => "not-built",
-            Fault::NotJson => "not-json",
-            Fault::TooLong => "too-long",
+            ShownFault::NotBuilt => "not-built",
+            ShownFault::NotJson => "not-json",
+            ShownFault::TooLong => "too-long",
         }
     }
 
     // The number that the line of the refusal shows.
     fn number(self) -> u64
-        ensures { result ≡ refused_number (refused_view self) }
+        ensures { result ≡ shown_number (shown_view self) }
     {
         match self {
-            Fault::NotBuilt => 0,
-            Fault::NotJson => 1,
-            Fault::TooLong => 12,
+            ShownFault::NotBuilt => 0,
+            ShownFault::NotJson => 1,
+            ShownFault::TooLong => 12,
         }
     }
 }
@@ -39,9 +39,9 @@ impl Fault {
 // What the line of a refused script says.
 fn refusal_json(alloc: Global, refusal: FirstFault) -> Result<Value, WantMemory>
     ensures { IfOk result (λ json. view json
-        ≡ object (put (codes "error") (string (refused_name (refused_view refusal.fault)))
+        ≡ object (put (codes "error") (string (shown_name (shown_view refusal.fault)))
         (put (codes "line") (natural_data refusal.line)
-        (put (codes "number") (natural_data (refused_number (refused_view refusal.fault))) no_members)))) }
+        (put (codes "number") (natural_data (shown_number (shown_view refusal.fault))) no_members)))) }
 {
     let name = refusal.fault.name();
     let number = refusal.fault.number();
@@ -49,7 +49,7 @@ fn refusal_json(alloc: Global, refusal: FirstFault) -> Result<Value, WantMemory>
 }
 
 /// The one line of a refused script.
-pub fn refused_line(alloc: Global, refusal: FirstFault) -> Result<Vec<u8>, WantMemory>
+pub fn first_fault_line(alloc: Global, refusal: FirstFault) -> Result<Vec<u8>, WantMemory>
     ensures { IfOk result (λ line. line.items ≡ line_of_fault (fault_view refusal)) }
 {
     let json = refusal_json(alloc, refusal)?;
