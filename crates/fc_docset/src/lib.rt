@@ -12,35 +12,37 @@ pub use set::DocSet;
 #[cfg(test)]
 mod tests {
     use super::*;
+    use std::alloc::Global;
     use std::process::Abort;
     use std::test::Fail;
 
     // Compares what each reading call says of a set with its words.
-    fn check(rt: &impl Abort, set: &DocSet, words: &[u64]) {
+    fn check(rt: &impl Abort, alloc: Global, set: &DocSet, words: &[u64]) -> Result<(), Fail> {
         assert_eq!(rt; set.words(), words);
-        let (mut positions, mut count) = (set.iter(), 0u32);
+        let mut positions = Vec::new(alloc);
         for at in 0..set.len() {
             if set.contains(at) {
-                assert_eq!(rt; positions.next(), Some(at));
-                count = count.wrapping_add(1);
+                positions.push(at)?;
             }
         }
-        assert_eq!(rt; positions.next(), None);
-        assert_eq!(rt; set.count(), count);
+        let found: Vec<u32> = set.iter().collect(alloc)?;
+        assert_eq!(rt; found.as_slice(), positions.as_slice());
+        assert_eq!(rt; set.count() as usize, positions.len());
+        Ok(())
     }
 
     #[test]
     fn makes_sets(rt: HostRuntime) -> Result<(), Fail> {
         let alloc = rt.alloc();
         let mut set = DocSet::empty(alloc, 3)?;
-        check(&rt, &set, &[0]);
+        check(&rt, alloc, &set, &[0])?;
         set.add(1);
-        check(&rt, &set, &[0b010]);
+        check(&rt, alloc, &set, &[0b010])?;
         set.set_mask(&[13]);
-        check(&rt, &set.copy(alloc)?, &[0b101]);
+        check(&rt, alloc, &set.copy(alloc)?, &[0b101])?;
         assert!(rt; set.contains(2));
         set.clear();
-        check(&rt, &set, &[0]);
+        check(&rt, alloc, &set, &[0])?;
         Ok(())
     }
 
@@ -95,14 +97,15 @@ mod tests {
             let even = DocSet::from_mask(alloc, len, &EVEN)?;
             let mut set = DocSet::from_mask(alloc, len, &THIRDS)?;
             set.or_with(&even);
-            check(&rt, &set, either);
+            check(&rt, alloc, &set, either)?;
+            let mut set = DocSet::from_mask(alloc, len, &THIRDS)?;
             set.without(&even);
-            check(&rt, &set, odd);
-            set.fill();
-            check(&rt, &set, all);
-            set.set_mask(&THIRDS);
+            check(&rt, alloc, &set, odd)?;
+            let mut set = DocSet::from_mask(alloc, len, &THIRDS)?;
             set.and_with(&even);
-            check(&rt, &set, both);
+            check(&rt, alloc, &set, both)?;
+            set.fill();
+            check(&rt, alloc, &set, all)?;
             assert_eq!(rt; DocSet::full(alloc, len)?.words(), all);
         }
         Ok(())

@@ -3,7 +3,7 @@ ghost use Rattle.std.specs.Prelude.{◌≡◌, All, Err, IfOk};
 ghost use Rattle.fc_spec.specs.scripts.ScriptTotals.{script_limits};
 ghost use Rattle.fc_spec.specs.scripts.ValidScripts.{IsWithin};
 ghost use Rattle.fc_script.specs.Built.{outcome};
-ghost use Rattle.fc_script.specs.IsCounted.{IsLineOf};
+ghost use Rattle.fc_script.specs.Counts.{IsLineOf};
 ghost use Rattle.fc_script.specs.ValidRequests.{IsAskedOf};
 ghost use Rattle.fc_run.specs.Outcome.{ArePrinted, IsRunText, too_many};
 ghost use Rattle.fc_script.specs.ScriptView.{script_view};

@@ -28,19 +28,19 @@ record IsLeft (status : Status) (spelled : Result AskedScript FirstFault) (t : T
   pub single_index : OnDone status spelled (λ S. IsOutputBy by_single_index S t)
   pub counts : OnDone status spelled (λ S. IsCountedOutput S t)
 
-abbrev IsLeft : Status → Result AskedScript FirstFault → Option (List ℕ) → Option (List ℕ) → Type 0
-IsLeft status spelled old new = (t : Text) × Appends old new t × IsLeft status spelled t
+abbrev LeavesText : Status → Result AskedScript FirstFault → Option (List ℕ) → Option (List ℕ) → Type 0
+LeavesText status spelled old new = (t : Text) × Appends old new t × IsLeft status spelled t
 
 appends_nothing : (old new : Option (List ℕ)) → new ≡ old → Appends old new []
 appends_nothing None new same = tt
 appends_nothing (Some xs) new same = subst (λ o. Appends (Some xs) o []) (sym same) (sym (append-nil xs))
 
 -- a text that is whole, written in part
-front : (spelled : Result AskedScript FirstFault) (whole : Text) (old new : Option (List ℕ)) → IsWhole spelled whole → AppendsFront old new whole → IsLeft Write spelled old new
+front : (spelled : Result AskedScript FirstFault) (whole : Text) (old new : Option (List ℕ)) → IsWhole spelled whole → AppendsFront old new whole → LeavesText Write spelled old new
 front spelled whole old new is (rest, (part, appended, split), more) =
     (part, appended, record { leaves = inr (rest, subst (λ t. IsWhole spelled t) (sym split) is); single_index = tt; counts = tt })
 
-left_by : (status : Status) (answer : Result RunText WantMemory) (spelled : Result AskedScript FirstFault) (old new : Option (List ℕ)) → IfOk answer (IsRunText spelled) → Ends status answer old new → IsLeft status spelled old new
+left_by : (status : Status) (answer : Result RunText WantMemory) (spelled : Result AskedScript FirstFault) (old new : Option (List ℕ)) → IfOk answer (IsRunText spelled) → Ends status answer old new → LeavesText status spelled old new
 left_by Memory (Err e) spelled old new is ends = ([], appends_nothing old new ends, record { leaves = inl refl; single_index = tt; counts = tt })
 left_by Done (Ok (Lines text)) (Ok S) old new is ends = (text.items, ends, record { leaves = is.output; single_index = is.single_index; counts = is.counts })
 left_by Script (Ok (Fault text)) (Err f) old new is ends = (text.items, ends, record { leaves = is; single_index = tt; counts = tt })
@@ -75,7 +75,7 @@ pub record IsLeftOf (status : Status) (left old new : Option (List ℕ)) : Type 
 untold : (status : Status) (old new : Option (List ℕ)) → IsLeftOf status None old new
 untold status old new = record { leaves = tt; single_index = tt; counts = tt }
 
-by_bytes : (status : Status) (bytes : List ℕ) (old new : Option (List ℕ)) → IsLeft status (outcome bytes) old new → IsLeftOf status (Some bytes) old new
+by_bytes : (status : Status) (bytes : List ℕ) (old new : Option (List ℕ)) → LeavesText status (outcome bytes) old new → IsLeftOf status (Some bytes) old new
 by_bytes status bytes old new (t, appended, is) = record {
   leaves = (t, appended, is.leaves);
   single_index = (t, appended, is.single_index);
@@ -87,7 +87,7 @@ pub left_of_all : (status : Status) (answer : Result RunText WantMemory) (all : 
     → IfOk answer (IsRunText (outcome all)) → Ends status answer old new → IsLeftOf status left old new
 left_of_all status answer all None old new same is ends = untold status old new
 left_of_all status answer all (Some bytes) old new same is ends =
-    by_bytes status bytes old new (subst (λ bs. IsLeft status (outcome bs) old new) same (left_by status answer (outcome all) old new is ends))
+    by_bytes status bytes old new (subst (λ bs. LeavesText status (outcome bs) old new) same (left_by status answer (outcome all) old new is ends))
 
 -- more bytes than a script may have are one that is too long
 passes : (taken rest : List ℕ) → script_limit < length taken → outcome (taken ++ rest) ≡ Err too_many
@@ -111,7 +111,7 @@ pub left_of_many : (status : Status) (answer : Result RunText WantMemory) (left 
 left_of_many status answer None after old new taken is ends = untold status old new
 left_of_many status answer (Some bytes) None old new (taken, cut, more) is ends = absurd cut
 left_of_many status answer (Some bytes) (Some rest) old new (taken, cut, more) is ends =
-    by_bytes status bytes old new (subst (λ spelled. IsLeft status spelled old new) (sym (ap outcome cut ∙ passes taken rest more)) (left_by status answer (Err too_many) old new is ends))
+    by_bytes status bytes old new (subst (λ spelled. LeavesText status spelled old new) (sym (ap outcome cut ∙ passes taken rest more)) (left_by status answer (Err too_many) old new is ends))
 
 -- of a run that writes nothing
 left_of_none : (status : Status) (left old : Option (List ℕ)) → ((spelled : Result AskedScript FirstFault) → IsLeft status spelled []) → IsLeftOf status left old old

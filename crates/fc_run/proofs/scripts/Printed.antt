@@ -13,7 +13,7 @@ use Rattle.fc_spec.specs.documents.Totals.{document_total, value_count}
 use Rattle.fc_spec.specs.scripts.ValidScripts.{IsWithin}
 use Rattle.fc_spec.specs.words.Walks.{◌>>=◌, unless}
 use Rattle.fc_base.specs.declared.error.WantMemory.{WantMemory}
-use Rattle.fc_script.specs.IsCounted.{IsLineOf}
+use Rattle.fc_script.specs.Counts.{IsLineOf}
 use Rattle.fc_run.specs.Outcome.{by_single_index, ArePrinted}
 use Rattle.fc_run.specs.Running.{nothing, lines_text}
 use Rattle.fc_script.specs.ScriptView.{script_view}

@@ -14,7 +14,7 @@ use Rattle.fc_spec.specs.scripts.Phases.{search_at}
 use Rattle.fc_spec.specs.scripts.Lines.{reply_line}
 use Rattle.fc_spec.specs.scripts.Outputs.{Seen, Replies, AreLinesOf, IsOutputBy}
 use Rattle.fc_script.specs.Built.{AskedScript}
-use Rattle.fc_script.specs.IsCounted.{IsLineOf}
+use Rattle.fc_script.specs.Counts.{IsLineOf}
 use Rattle.fc_script.specs.ReadSoFar.{AskedLine}
 use Rattle.fc_run.specs.Running.{Indexed, nothing, indexed_after, lines_text}
 use Rattle.fc_run.proofs.scripts.NumberedLines.{counted, counted_more, moved, one_more, walk, filter_map_numbered}
