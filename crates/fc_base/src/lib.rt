@@ -7,6 +7,7 @@ mod integer;
 pub mod json;
 mod name;
 mod schema;
+mod statistic;
 mod value;
 
 pub use error::{Refusal, WantMemory};
@@ -14,6 +15,7 @@ pub use field::{FieldId, FieldType};
 pub use integer::long_of;
 pub use name::Name;
 pub use schema::{Schema, SchemaFault};
+pub use statistic::{Stat, StatKind};
 pub use value::Val;
 
 #[cfg(test)]

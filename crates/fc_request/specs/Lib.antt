@@ -1,0 +1,4 @@
+pub mod FaultView
+pub mod KindView
+pub mod NodeView
+pub mod RequestView

@@ -1,0 +1,74 @@
+// Kinds of facet, with their parameters.
+use fc_base::{FieldId, Name, Stat};
+use fc_query::Query;
+
+/// What a node is: a facet that has buckets, or a statistic.
+#[derive(Debug, Drop, PartialEq, Eq)]
+pub enum Kind {
+    Terms(Terms),
+    Range(Range),
+    /// One bucket, of the documents that match.
+    Query(Query),
+    Stat(Stat),
+}
+
+/// A bucket for each value of a field. (Guide: JSON Facet API, "Terms Facet")
+#[derive(Debug, Drop, PartialEq, Eq)]
+pub struct Terms {
+    pub field: FieldId,
+    /// How many buckets are passed over, at most 1,000,000.
+    pub offset: u32,
+    /// How many are printed at most, up to 1,000,000; all where there is none, and then both over-numbers are 0.
+    pub limit: Option<u32>,
+    pub sort: Sort,
+    /// The least count of a printed bucket, from 1 to 1,000,000.
+    pub mincount: u32,
+    /// Whether there is a bucket of the documents without a value.
+    pub missing: bool,
+    /// What the values begin with, in a field of texts.
+    pub prefix: Option<Name>,
+    /// Whether each shard tells of the chosen buckets that it did not offer.
+    pub refine: bool,
+    /// How many values each shard offers beyond offset and limit, at most 1,000,000.
+    pub overrequest: u32,
+    /// How many values are chosen beyond offset and limit, at most 1,000,000.
+    pub overrefine: u32,
+}
+
+/// The order of buckets; those that are equal by it stand in index order.
+#[derive(Clone, Copy, Debug, PartialEq, Eq)]
+pub struct Sort {
+    pub by: SortKey,
+    pub descending: bool,
+}
+
+/// What buckets are sorted by.
+#[derive(Clone, Copy, Debug, PartialEq, Eq)]
+pub enum SortKey {
+    Count,
+    Index,
+    /// A statistic, by its place among those nested directly in the facet.
+    Stat(u32),
+}
+
+/// Buckets of equal width over a field of integers. (Guide: JSON Facet API, "Range Facet")
+#[derive(Clone, Copy, Debug, PartialEq, Eq)]
+pub struct Range {
+    pub field: FieldId,
+    pub start: i64,
+    /// At least `start`.
+    pub end: i64,
+    /// At least 1.
+    pub gap: i64,
+    /// Whether the last bucket ends at `end`, though it may be narrower.
+    pub hardend: bool,
+    /// Which buckets stand beside those of the gaps.
+    pub before: bool,
+    pub after: bool,
+    pub between: bool,
+    /// Which ends the buckets hold.
+    pub lower: bool,
+    pub upper: bool,
+    pub edge: bool,
+    pub outer: bool,
+}
