@@ -1,0 +1,2 @@
+pub mod NodeWalk
+pub mod NodeAnswers

@@ -1,0 +1,151 @@
+-- The walk of a node is its head and what is read behind it; nodes are read one behind another.
+use Rattle.std.proofs.Common.{◌≡◌, ℕ, zero, suc, ◌+◌, ◌-◌, ◌∙◌, ap, sym, refl, arith, List, [], ◌∷◌, ◌++◌, Bool, true, false, not, ◌&&◌, Option, None, Some, Result, Ok, Err, ok_or}
+use Rattle.std.specs.Prelude.{codes, nat_lt}
+use Rattle.std.proofs.lemmas.Bool.{lt-ltb}
+use Rattle.serde_json.specs.Data.{Data, null, boolean, number, string, array, object, Members, no_members, member}
+use Rattle.serde_json.specs.Find.{as_object, get_member}
+use Rattle.fc_spec.specs.documents.Val.{Text}
+use Rattle.fc_spec.specs.documents.Schema.{Schema}
+use Rattle.fc_spec.specs.requests.Request.{DomainChange, Sort, Terms, Kind, terms, range, Nodes, no_nodes}
+use Rattle.fc_spec.specs.requests.RequestFault.{QFault, not_an_object, bad_command, reserved_name, too_large, RequestFault}
+use Rattle.fc_spec.specs.requests.RequestWalk.{inside, check_names, required, optional, text_in}
+use Rattle.fc_spec.specs.requests.StatisticReading.{statistic_of}
+use Rattle.fc_spec.specs.requests.DomainReading.{change_in}
+use Rattle.fc_spec.specs.requests.SortReading.{sort_of, sort_in, default_sort}
+use Rattle.fc_spec.specs.requests.FacetReading.{TermsParts, terms_parts, terms_of, range_parts, query_part}
+use Rattle.fc_spec.specs.requests.RequestReading.{Node, Walked, Reader, members_read, with_node, is_reserved, inner_read, own, facet_read, terms_read, range_read, query_read, statistic_read, func_read, FacetType, terms_type, range_type, query_type, func_type, parameters, type_of, typed_read, command_read, node_read, nodes_within}
+use Rattle.fc_spec.specs.words.Walks.{◌>>=◌, unless, with_fault}
+use Rattle.fc_request.specs.NodeView.{Part, linked}
+use Rattle.fc_request.specs.Heads.{KindHead, whole, unsorted, Head, statistic_head, facet_head, some_object, inner_members, facet_of, terms_before, statistic_before, func_head, typed_head, object_head, command_head, node_head, kind_behind, walked, inner_nodes, resumed, node_within}
+
+-- ---- steps
+
+-- a step and what follows it, in the walk and in the head
+step : {A : Type 0} (deeper : Reader) (n : ℕ) (r : Result A QFault) (f : A → Result (Walked Node) RequestFault) (g : A → Result Head QFault) → ((a : A) → f a ≡ (own (g a) >>= resumed deeper n)) → (own r >>= f) ≡ (own (r >>= g) >>= resumed deeper n)
+step deeper n (Ok a) f g h = h a
+step deeper n (Err e) f g h = refl
+
+-- what follows the same is the same
+same_steps : {A B E : Type 0} (r : Result A E) (f g : A → Result B E) → ((a : A) → f a ≡ g a) → (r >>= f) ≡ (r >>= g)
+same_steps (Ok a) f g h = h a
+same_steps (Err e) f g h = refl
+
+-- the nested nodes, and what follows them
+inner_step : (deeper : Reader) (n : ℕ) (o : Option Data) (k : Walked Nodes → Result (Walked Node) RequestFault) (c : Option Members → Head) → ((i : Option Members) → resumed deeper n (c i) ≡ (inner_nodes deeper n i >>= k)) → (inner_read deeper n o >>= k) ≡ (own (optional some_object None o >>= (λ i. Ok (c i))) >>= resumed deeper n)
+inner_step deeper n None k c h = sym (h None)
+inner_step deeper n (Some d) k c h = of_object (as_object d)
+  where
+    of_object : (o : Option Members) → ((ok_or o (record { at = []; fault = not_an_object }) >>= deeper n) >>= k) ≡ (own ((ok_or o not_an_object >>= (λ ms. Ok (Some ms))) >>= (λ i. Ok (c i))) >>= resumed deeper n)
+    of_object None = refl
+    of_object (Some ms) = sym (h (Some ms))
+
+-- ---- by type
+
+of_kind : (s : Schema) (outermost : Bool) (deeper : Reader) (n : ℕ) (ms : Members) (k : Kind) → (do
+  change ← own (change_in s outermost ms)
+  inner ← inner_read deeper n (get_member (codes "facet") ms)
+  Ok (facet_read change k inner)) ≡ (own (facet_of s outermost (whole k) ms) >>= resumed deeper n)
+of_kind s outermost deeper n ms k =
+    step deeper n (change_in s outermost ms) _ _ (λ change.
+    inner_step deeper n (get_member (codes "facet") ms) (λ inner. Ok (facet_read change k inner)) (λ i. facet_head change (whole k) i) (λ i. refl))
+
+of_parts : (s : Schema) (outermost : Bool) (deeper : Reader) (n : ℕ) (ms : Members) (parts : TermsParts) → (do
+  change ← own (change_in s outermost ms)
+  inner ← inner_read deeper n (get_member (codes "facet") ms)
+  sort ← own (sort_in inner.read ms)
+  Ok (facet_read change (terms (terms_of parts sort)) inner)) ≡ (own (facet_of s outermost (unsorted (terms_of parts default_sort) (get_member (codes "sort") ms)) ms) >>= resumed deeper n)
+of_parts s outermost deeper n ms parts =
+    step deeper n (change_in s outermost ms) _ _ (λ change.
+    inner_step deeper n (get_member (codes "facet") ms)
+    (λ inner. own (sort_in inner.read ms) >>= (λ sort. Ok (facet_read change (terms (terms_of parts sort)) inner)))
+    (λ i. facet_head change (unsorted (terms_of parts default_sort) (get_member (codes "sort") ms)) i)
+    (λ i. same_steps (inner_nodes deeper n i) _ _ (λ w. sorted change w (sort_in w.read ms))))
+  where
+    sorted : (change : DomainChange) (w : Walked Nodes) (r : Result Sort QFault) → (own (r >>= (λ sort. Ok (terms (record (terms_of parts default_sort) { sort = sort })))) >>= (λ k. Ok (facet_read change k w))) ≡ (own r >>= (λ sort. Ok (facet_read change (terms (terms_of parts sort)) w)))
+    sorted change w (Ok sort) = refl
+    sorted change w (Err e) = refl
+
+of_terms : (s : Schema) (outermost : Bool) (deeper : Reader) (n : ℕ) (ms : Members) → terms_read s outermost deeper n ms ≡ (own (typed_head terms_type s outermost ms) >>= resumed deeper n)
+of_terms s outermost deeper n ms = by_parts (terms_parts s ms)
+  where
+    by_parts : (r : Result TermsParts QFault) → (own r >>= (λ parts. do
+      change ← own (change_in s outermost ms)
+      inner ← inner_read deeper n (get_member (codes "facet") ms)
+      sort ← own (sort_in inner.read ms)
+      Ok (facet_read change (terms (terms_of parts sort)) inner))) ≡ (own ((r >>= (λ parts. Ok (terms_of parts default_sort))) >>= (λ t. facet_of s outermost (unsorted t (get_member (codes "sort") ms)) ms)) >>= resumed deeper n)
+    by_parts (Ok parts) = of_parts s outermost deeper n ms parts
+    by_parts (Err e) = refl
+
+of_statistic_text : (s : Schema) (deeper : Reader) (n : ℕ) (t : Text) → statistic_read s n t ≡ (own (statistic_before s t) >>= resumed deeper n)
+of_statistic_text s deeper n t = step deeper n (statistic_of s t) _ _ (λ st. refl)
+
+of_type : (kind : FacetType) (s : Schema) (outermost : Bool) (deeper : Reader) (n : ℕ) (ms : Members) → typed_read kind s outermost deeper n ms ≡ (own (typed_head kind s outermost ms) >>= resumed deeper n)
+of_type terms_type s outermost deeper n ms = of_terms s outermost deeper n ms
+of_type range_type s outermost deeper n ms = step deeper n (range_parts s ms) _ _ (λ g. of_kind s outermost deeper n ms (range g))
+of_type query_type s outermost deeper n ms = step deeper n (query_part s ms) _ _ (λ q. of_kind s outermost deeper n ms q)
+of_type func_type s outermost deeper n ms =
+    step deeper n (required (codes "func") ms) _ _ (λ d.
+    step deeper n (text_in d) _ _ (λ t. of_statistic_text s deeper n t))
+
+-- ---- a node
+
+of_members : (s : Schema) (outermost : Bool) (deeper : Reader) (n : ℕ) (ms : Members) → (do
+  kind ← own (type_of ms)
+  _ ← own (check_names (parameters kind) ms)
+  typed_read kind s outermost deeper n ms) ≡ (own (object_head s outermost ms) >>= resumed deeper n)
+of_members s outermost deeper n ms =
+    step deeper n (type_of ms) _ _ (λ kind.
+    step deeper n (check_names (parameters kind) ms) _ _ (λ known. of_type kind s outermost deeper n ms))
+
+of_command : (s : Schema) (outermost : Bool) (deeper : Reader) (n : ℕ) (d : Data) → command_read s outermost deeper n d ≡ (own (command_head s outermost d) >>= resumed deeper n)
+of_command s outermost deeper n (string t) = of_statistic_text s deeper n t
+of_command s outermost deeper n (object ms) = of_members s outermost deeper n ms
+of_command s outermost deeper n null = refl
+of_command s outermost deeper n (boolean b) = refl
+of_command s outermost deeper n (number x) = refl
+of_command s outermost deeper n (array ds) = refl
+
+pub of_node : (left n : ℕ) (s : Schema) (outermost : Bool) (name : Text) (d : Data) → node_within left s outermost n name d ≡ (own (node_head left n s outermost name d) >>= resumed (nodes_within (left - 1) s false) (n + 1))
+of_node zero n s outermost name d = refl
+of_node (suc left) n s outermost name d =
+    let deep : nat_lt 0 (suc left) ≡ true = lt-ltb 0 (suc left) (omega arith) in
+    let less : suc left - 1 ≡ left = omega arith in
+    rw (deep, less)
+    (step (nodes_within left s false) (n + 1) (unless (nat_lt n 64) too_large) _ _ (λ few.
+    step (nodes_within left s false) (n + 1) (unless (not (is_reserved name)) reserved_name) _ _ (λ free.
+    of_command s outermost (nodes_within left s false) (n + 1) d)))
+
+-- ---- nodes, one behind another
+
+pub of_nodes : (left : ℕ) (s : Schema) (outermost : Bool) (n : ℕ) (ms : Members) → nodes_within left s outermost n ms ≡ members_read (node_within left s outermost) n ms
+of_nodes zero s outermost n ms = refl
+of_nodes (suc left) s outermost n ms = refl
+
+-- these nodes, and then others
+abbrev pub linked_before : List Part → Nodes → Nodes
+linked_before [] rest = rest
+linked_before (p ∷ ps) rest = with_node p.0 p.1 (linked_before ps rest)
+
+pub linked_before-linked : (ps : List Part) → linked_before ps no_nodes ≡ linked ps
+linked_before-linked [] = refl
+linked_before-linked (p ∷ ps) = ap (with_node p.0 p.1) (linked_before-linked ps)
+
+linked_before-push : (ps : List Part) (p : Part) (rest : Nodes) → linked_before (ps ++ p ∷ []) rest ≡ linked_before ps (with_node p.0 p.1 rest)
+linked_before-push [] p rest = refl
+linked_before-push (q ∷ ps) p rest = ap (with_node q.0 q.1) (linked_before-push ps p rest)
+
+-- these nodes, and then those that are read
+abbrev pub behind : List Part → Result (Walked Nodes) RequestFault → Result (Walked Nodes) RequestFault
+behind ps r = do
+  w ← r
+  Ok (walked (linked_before ps w.read) w.nodes)
+
+pub behind-next : (f : ℕ → Text → Data → Result (Walked Node) RequestFault) (ps : List Part) (n m : ℕ) (name : Text) (d : Data) (x : Node) (ms : Members) → f n name d ≡ Ok (walked x m) → behind ps (members_read f n (member name d ms)) ≡ behind (ps ++ (name, x) ∷ []) (members_read f m ms)
+behind-next f ps n m name d x ms e = rw e (rest (members_read f m ms))
+  where
+    rest : (r : Result (Walked Nodes) RequestFault) → behind ps (r >>= (λ rest. Ok (walked (with_node name x rest.read) rest.nodes))) ≡ behind (ps ++ (name, x) ∷ []) r
+    rest (Ok w) = ap (λ nodes. Ok (walked nodes w.nodes)) (sym (linked_before-push ps (name, x) w.read))
+    rest (Err fault) = refl
+
+pub behind-fault : (f : ℕ → Text → Data → Result (Walked Node) RequestFault) (ps : List Part) (n : ℕ) (name : Text) (d : Data) (fault : RequestFault) (ms : Members) → f n name d ≡ Err fault → behind ps (members_read f n (member name d ms)) ≡ Err (inside name fault)
+behind-fault f ps n name d fault ms e = rw e refl

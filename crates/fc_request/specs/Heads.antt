@@ -1,0 +1,123 @@
+-- What a node says before the nodes nested in it are read, and what is read behind them: the walk of requests, cut at its recursion.
+use Rattle.std.specs.Prelude.{ℕ, zero, suc, ◌+◌, ◌-◌, codes, Bool, false, not, ◌&&◌, nat_lt, Option, None, Some, ok_or, Result, Ok, Err}
+use Rattle.serde_json.specs.Data.{Data, string, Members}
+use Rattle.serde_json.specs.Find.{as_object, get_member}
+use Rattle.fc_spec.specs.documents.Val.{Text}
+use Rattle.fc_spec.specs.documents.Schema.{Schema}
+use Rattle.fc_spec.specs.requests.Request.{Stat, DomainChange, Terms, Kind, terms, range, Nodes, no_nodes}
+use Rattle.fc_spec.specs.requests.RequestFault.{QFault, not_an_object, bad_command, reserved_name, too_large, RequestFault}
+use Rattle.fc_spec.specs.requests.RequestWalk.{check_names, required, optional, text_in}
+use Rattle.fc_spec.specs.requests.StatisticReading.{statistic_of}
+use Rattle.fc_spec.specs.requests.DomainReading.{change_in}
+use Rattle.fc_spec.specs.requests.SortReading.{sort_of, default_sort}
+use Rattle.fc_spec.specs.requests.FacetReading.{terms_parts, terms_of, range_parts, query_part}
+use Rattle.fc_spec.specs.requests.RequestReading.{Node, of_statistic, of_facet, Walked, Reader, is_reserved, own, facet_read, FacetType, terms_type, range_type, query_type, func_type, parameters, type_of, node_read, nodes_within}
+use Rattle.fc_spec.specs.words.Walks.{◌>>=◌, unless}
+
+-- a kind that is whole, or a terms facet whose sort, as it is written, is read last
+pub data KindHead : Type 0 where
+  whole : Kind → KindHead
+  unsorted : Terms → Option Data → KindHead
+
+-- a statistic; or a facet's change, its kind, and the members of its `facet`
+pub data Head : Type 0 where
+  statistic_head : Stat → Head
+  facet_head : DomainChange → KindHead → Option Members → Head
+
+-- ---- before the nested nodes
+
+-- the members of `facet`
+abbrev pub some_object : Data → Result (Option Members) QFault
+some_object d = do
+  ms ← ok_or (as_object d) not_an_object
+  Ok (Some ms)
+
+abbrev pub inner_members : Members → Result (Option Members) QFault
+inner_members ms = optional some_object None (get_member (codes "facet") ms)
+
+abbrev pub facet_of : Schema → (outermost : Bool) → KindHead → Members → Result Head QFault
+facet_of s outermost kind ms = do
+  change ← change_in s outermost ms
+  inner ← inner_members ms
+  Ok (facet_head change kind inner)
+
+-- the terms facet of the members, by its default sort
+abbrev pub terms_before : Schema → Members → Result Terms QFault
+terms_before s ms = do
+  parts ← terms_parts s ms
+  Ok (terms_of parts default_sort)
+
+abbrev pub statistic_before : Schema → Text → Result Head QFault
+statistic_before s t = do
+  st ← statistic_of s t
+  Ok (statistic_head st)
+
+abbrev pub func_head : Schema → Members → Result Head QFault
+func_head s ms = do
+  d ← required (codes "func") ms
+  t ← text_in d
+  statistic_before s t
+
+abbrev pub typed_head : FacetType → Schema → (outermost : Bool) → Members → Result Head QFault
+typed_head terms_type s outermost ms = do
+  t ← terms_before s ms
+  facet_of s outermost (unsorted t (get_member (codes "sort") ms)) ms
+typed_head range_type s outermost ms = do
+  g ← range_parts s ms
+  facet_of s outermost (whole (range g)) ms
+typed_head query_type s outermost ms = do
+  q ← query_part s ms
+  facet_of s outermost (whole q) ms
+typed_head func_type s outermost ms = func_head s ms
+
+abbrev pub object_head : Schema → (outermost : Bool) → Members → Result Head QFault
+object_head s outermost ms = do
+  kind ← type_of ms
+  _ ← check_names (parameters kind) ms
+  typed_head kind s outermost ms
+
+abbrev pub command_head : Schema → (outermost : Bool) → Data → Result Head QFault
+command_head s outermost (string t) = statistic_before s t
+command_head s outermost d = do
+  ms ← ok_or (as_object d) bad_command
+  object_head s outermost ms
+
+-- with so many depths left, behind n nodes of the walk
+abbrev pub node_head : (left n : ℕ) → Schema → (outermost : Bool) → Text → Data → Result Head QFault
+node_head left n s outermost name d = do
+  _ ← unless (nat_lt 0 left && nat_lt n 64) too_large
+  _ ← unless (not (is_reserved name)) reserved_name
+  command_head s outermost d
+
+-- ---- behind them
+
+abbrev pub kind_behind : KindHead → Nodes → Result Kind QFault
+kind_behind (whole k) inner = Ok k
+kind_behind (unsorted t d) inner = do
+  sort ← optional (sort_of inner) default_sort d
+  Ok (terms (record t { sort = sort }))
+
+-- the facet of this name over its nested nodes
+abbrev pub facet_behind : Text → DomainChange → KindHead → Nodes → Result (Text × Node) QFault
+facet_behind name change kind inner = do
+  k ← kind_behind kind inner
+  Ok (name, of_facet change k inner)
+
+abbrev pub walked : {A : Type 0} → A → ℕ → Walked A
+walked a n = record { read = a; nodes = n }
+
+abbrev pub inner_nodes : Reader → ℕ → Option Members → Result (Walked Nodes) RequestFault
+inner_nodes deeper n None = Ok (walked no_nodes n)
+inner_nodes deeper n (Some ms) = deeper n ms
+
+abbrev pub resumed : Reader → ℕ → Head → Result (Walked Node) RequestFault
+resumed deeper n (statistic_head st) = Ok (walked (of_statistic st) n)
+resumed deeper n (facet_head change kind inner) = do
+  w ← inner_nodes deeper n inner
+  k ← own (kind_behind kind w.read)
+  Ok (facet_read change k w)
+
+-- a node with so many depths left
+abbrev pub node_within : ℕ → Schema → (outermost : Bool) → ℕ → Text → Data → Result (Walked Node) RequestFault
+node_within zero s outermost n name d = own (Err too_large)
+node_within (suc left) s outermost n name d = node_read s outermost (nodes_within left s false) n name d

@@ -1,0 +1,248 @@
+// Nodes, one behind another, each with those nested in it.
+ghost use Rattle.std.specs.Prelude.{◌≡◌, ◌<◌, [], false, IfOk, MatchResult, OnOk, option_map};
+ghost use Rattle.serde_json.specs.View.{view, members_view};
+ghost use Rattle.fc_spec.specs.requests.Request as definition;
+ghost use Rattle.fc_spec.specs.requests.Request.{stay};
+ghost use Rattle.fc_spec.specs.requests.RequestWalk.{inside as inside_of, outside};
+ghost use Rattle.fc_spec.specs.requests.RequestReading as walk;
+ghost use Rattle.fc_base.specs.Answers.{Answers};
+ghost use Rattle.fc_base.specs.StatisticView.{stat_view};
+ghost use Rattle.fc_request.specs.FaultView.{fault_view, request_fault_view};
+ghost use Rattle.fc_request.specs.HeadView.{head_view, kind_head_view};
+ghost use Rattle.fc_request.specs.Heads as heads;
+ghost use Rattle.fc_request.specs.KindView.{domain_view, terms_view};
+ghost use Rattle.fc_request.specs.NodeView.{node_of, node_view, nodes_view};
+
+use super::head::{Head, KindHead, node_head};
+use super::sort::sort_in;
+use crate::{BlockStep, Domain, Kind, Node, QFault, RequestFault, Terms};
+use fc_base::{Name, Refusal, Schema, Stat, WantMemory};
+use serde_json::{Map, Value};
+use std::alloc::Global;
+
+// A fault outside the facets around it.
+pub(crate) fn own(alloc: Global, fault: QFault) -> RequestFault
+    ensures { request_fault_view result ≡ outside (fault_view fault) }
+{
+    RequestFault {
+        at: Vec::new(alloc),
+        fault,
+    }
+}
+
+// The fault inside the facet of this name.
+fn inside(alloc: Global, name: &str, mut fault: RequestFault) -> Result<RequestFault, WantMemory>
+    ensures { IfOk result (λ around.
+        request_fault_view around ≡ inside_of name.now (request_fault_view fault)) }
+{
+    let name = Name::new(alloc, name)?;
+    fault.at.insert(0, name)?;
+    Ok(fault)
+}
+
+fn node(
+    alloc: Global,
+    name: &str,
+    domain: Domain,
+    kind: Kind,
+    nodes: Vec<Node>,
+) -> Result<Node, WantMemory>
+    ensures { IfOk result (λ node.
+        node_view node ≡ (name.now, node_of (domain_view domain) kind (nodes_view nodes.items))) }
+{
+    Ok(Node {
+        name: Name::new(alloc, name)?,
+        domain,
+        kind,
+        nodes,
+    })
+}
+
+/// What changes no domain.
+pub(crate) fn no_change(alloc: Global) -> Domain
+    ensures { domain_view result ≡ record { exclude = []; block = stay; filters = [] } }
+{
+    Domain {
+        exclude: Vec::new(alloc),
+        block: BlockStep::Stay,
+        filters: Vec::new(alloc),
+    }
+}
+
+// The terms facet by its sort.
+fn sorted(mut terms: Terms, nodes: &[Node], sort: Option<&Value>) -> Result<Terms, Refusal<QFault>>
+    ensures { Answers (λ terms. definition.terms (terms_view terms)) fault_view result
+        (heads.kind_behind (heads.unsorted (terms_view terms) (option_map (λ json. view json.now) sort.entry)) (nodes_view nodes.now)) }
+{
+    terms.sort = sort_in(nodes, sort)?;
+    Ok(terms)
+}
+
+// A facet, behind the nodes nested in it.
+fn facet_node(
+    alloc: Global,
+    name: &str,
+    domain: Domain,
+    kind: KindHead<'_>,
+    nodes: Vec<Node>,
+) -> Result<Node, Refusal<QFault>>
+    ensures { Answers node_view fault_view result
+        (heads.facet_behind name.now (domain_view domain) (kind_head_view kind.entry) (nodes_view nodes.items)) }
+{
+    match kind {
+        KindHead::Terms(terms, sort) => {
+            let terms = sorted(terms, &nodes, sort)?;
+            Ok(node(alloc, name, domain, Kind::Terms(terms), nodes)?)
+        }
+        KindHead::Range(range) => Ok(node(alloc, name, domain, Kind::Range(range), nodes)?),
+        KindHead::Query(query) => Ok(node(alloc, name, domain, Kind::Query(query), nodes)?),
+    }
+}
+
+// A statistic.
+fn statistic_node(alloc: Global, name: &str, stat: Stat) -> Result<Node, WantMemory>
+    ensures { IfOk result (λ node. node_view node ≡ (name.now, walk.of_statistic (stat_view stat))) }
+{
+    node(
+        alloc,
+        name,
+        no_change(alloc),
+        Kind::Stat(stat),
+        Vec::new(alloc),
+    )
+}
+
+// The head of a node, a fault of which is its own.
+fn head_in<'v>(
+    alloc: Global,
+    schema: &Schema,
+    left: u32,
+    seen: u32,
+    outermost: bool,
+    name: &str,
+    json: &'v Value,
+) -> Result<Head<'v>, Refusal<RequestFault>>
+    ensures answer { Answers head_view request_fault_view result
+        (walk.own (heads.node_head left seen schema.now outermost name.now (view json.now))) }
+    ensures left { OnOk result (0 < left) }
+    ensures seen { OnOk result (seen < 64) }
+{
+    match node_head(alloc, schema, left, seen, outermost, name, json) {
+        Ok(head) => Ok(head),
+        Err(Refusal::Memory) => Err(Refusal::Memory),
+        Err(Refusal::Fault(fault)) => Err(Refusal::Fault(own(alloc, fault))),
+    }
+}
+
+// A facet, behind the nodes nested in it, a fault of which is its own.
+fn facet_in(
+    alloc: Global,
+    name: &str,
+    domain: Domain,
+    kind: KindHead<'_>,
+    nodes: Vec<Node>,
+) -> Result<Node, Refusal<RequestFault>>
+    ensures { Answers node_view request_fault_view result
+        (walk.own (heads.facet_behind name.now (domain_view domain) (kind_head_view kind.entry) (nodes_view nodes.items))) }
+{
+    match facet_node(alloc, name, domain, kind, nodes) {
+        Ok(node) => Ok(node),
+        Err(Refusal::Memory) => Err(Refusal::Memory),
+        Err(Refusal::Fault(fault)) => Err(Refusal::Fault(own(alloc, fault))),
+    }
+}
+
+// The same, where the nested nodes were read.
+fn facet_with(
+    alloc: Global,
+    name: &str,
+    domain: Domain,
+    kind: KindHead<'_>,
+    nodes: Result<Vec<Node>, Refusal<RequestFault>>,
+) -> Result<Node, Refusal<RequestFault>>
+    ensures { MatchResult nodes
+        (λ nodes. Answers node_view request_fault_view result
+        (walk.own (heads.facet_behind name.now (domain_view domain) (kind_head_view kind.entry) (nodes_view nodes.items))))
+        (λ refusal. result ≡ Err refusal) }
+{
+    match nodes {
+        Ok(nodes) => facet_in(alloc, name, domain, kind, nodes),
+        Err(refusal) => Err(refusal),
+    }
+}
+
+// A node with so many depths left, which counts itself and those nested in it.
+#[cycle(nodes)]
+fn read_node(
+    alloc: Global,
+    schema: &Schema,
+    left: u32,
+    seen: &mut u32,
+    outermost: bool,
+    name: &str,
+    json: &Value,
+) -> Result<Node, Refusal<RequestFault>>
+    ensures answer { Answers (λ node. heads.walked (node_view node).1 seen.new) request_fault_view result
+        (heads.node_within left schema.now outermost seen.old name.now (view json.now)) }
+    ensures name { IfOk result (λ node. (node_view node).0 ≡ name.now) }
+{
+    match head_in(alloc, schema, left, *seen, outermost, name, json) {
+        Ok(Head::Statistic(stat)) => {
+            *seen += 1;
+            Ok(statistic_node(alloc, name, stat)?)
+        }
+        Ok(Head::Facet(domain, kind, inner)) => {
+            *seen += 1;
+            let nodes = inner_nodes(alloc, schema, left - 1, seen, inner);
+            facet_with(alloc, name, domain, kind, nodes)
+        }
+        Err(refusal) => Err(refusal),
+    }
+}
+
+// The nodes nested in a facet.
+#[cycle(nodes)]
+fn inner_nodes(
+    alloc: Global,
+    schema: &Schema,
+    left: u32,
+    seen: &mut u32,
+    members: Option<&Map<String, Value>>,
+) -> Result<Vec<Node>, Refusal<RequestFault>>
+    ensures { Answers (λ nodes. heads.walked (nodes_view nodes.items) seen.new) request_fault_view result
+        (heads.inner_nodes (walk.nodes_within left schema.now false) seen.old
+        (option_map (λ ms. members_view ms.now.entries) members.entry)) }
+{
+    match members {
+        Some(members) => read_nodes(alloc, schema, left, seen, false, members),
+        None => Ok(Vec::new(alloc)),
+    }
+}
+
+/// The members of an object as nodes, in the byte order of their names, with so many depths left; `seen` counts the
+/// nodes of the walk.
+#[cycle(nodes)]
+pub(crate) fn read_nodes(
+    alloc: Global,
+    schema: &Schema,
+    left: u32,
+    seen: &mut u32,
+    outermost: bool,
+    members: &Map<String, Value>,
+) -> Result<Vec<Node>, Refusal<RequestFault>>
+    ensures { Answers (λ nodes. heads.walked (nodes_view nodes.items) seen.new) request_fault_view result
+        (walk.nodes_within left schema.now outermost seen.old (members_view members.now.entries)) }
+{
+    let mut nodes = Vec::new(alloc);
+    for (name, json) in members {
+        let name = name.as_str();
+        match read_node(alloc, schema, left, seen, outermost, name, json) {
+            Ok(node) => nodes.push(node)?,
+            Err(Refusal::Memory) => return Err(Refusal::Memory),
+            Err(Refusal::Fault(fault)) => {
+                return Err(Refusal::Fault(inside(alloc, name, fault)?));
+            }
+        }
+    }
+    Ok(nodes)
+}
