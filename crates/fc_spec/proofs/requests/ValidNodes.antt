@@ -29,12 +29,12 @@ nothing_excluded : (s : Schema) (nodes : Nodes) → AreValidNodes s false nodes 
 nothing_excluded s no_nodes h = refl
 nothing_excluded s (statistic name st rest) h = nothing_excluded s rest h.1
 nothing_excluded s (facet f inner rest) h =
-    both (is_empty f.change.exclude && no_exclusions inner) (no_exclusions rest) (both (is_empty f.change.exclude) (no_exclusions inner) (ap is_empty ((h.0).outermost refl)) (nothing_excluded s inner h.2)) (nothing_excluded s rest h.3)
+    both (is_empty f.change.exclude && no_exclusions inner) (no_exclusions rest) (both (is_empty f.change.exclude) (no_exclusions inner) (ap is_empty (((h.0).change).outermost refl)) (nothing_excluded s inner h.1)) (nothing_excluded s rest h.2)
 
 excluded_outermost : (s : Schema) (outermost : Bool) (nodes : Nodes) → AreValidNodes s outermost nodes → outermost_exclusions nodes ≡ true
 excluded_outermost s outermost no_nodes h = refl
 excluded_outermost s outermost (statistic name st rest) h = excluded_outermost s outermost rest h.1
-excluded_outermost s outermost (facet f inner rest) h = both (no_exclusions inner) (outermost_exclusions rest) (nothing_excluded s inner h.2) (excluded_outermost s outermost rest h.3)
+excluded_outermost s outermost (facet f inner rest) h = both (no_exclusions inner) (outermost_exclusions rest) (nothing_excluded s inner h.1) (excluded_outermost s outermost rest h.2)
 
 pub valid_exclude_outermost : ValidExcludeOutermost
 valid_exclude_outermost s r h = excluded_outermost s true r.nodes h.nodes
