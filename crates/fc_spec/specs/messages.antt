@@ -1,5 +1,6 @@
 pub mod KeyOrder
 pub mod Message
+pub mod Target
 pub mod Answer
 pub mod Held
 pub mod Merged

@@ -5,18 +5,19 @@ use Rattle.std.specs.Option.{option_and_then}
 use Rattle.std.proofs.lemmas.Bool.{false≢true, eqb-true}
 use Rattle.fc_spec.specs.documents.World.{World, Place, on_shards}
 use Rattle.fc_spec.specs.requests.Request.{Facet, Nodes, no_nodes, statistic, facet, Request, stats_of}
-use Rattle.fc_spec.specs.requests.Base.{root_domain}
 use Rattle.fc_spec.specs.requests.Domain.{domain}
 use Rattle.fc_spec.specs.requests.Buckets.{Key, bucket_places}
+use Rattle.fc_spec.specs.requests.Paths.{Path, at_root, path_places}
 use Rattle.fc_spec.specs.messages.KeyOrder.{same_key}
 use Rattle.fc_spec.specs.requests.Statistics.{Stats, stats_over}
 use Rattle.fc_spec.specs.messages.Message.{Partials, no_partials, Rows, Way}
-use Rattle.fc_spec.specs.messages.Answer.{partials_of, answer_keys, answer_domain, answer_rows, facet_at, nodes_in, Spot, spot_at, spot_in, way_spot}
+use Rattle.fc_spec.specs.messages.Target.{Target, leads_nowhere, leads_to, target_nodes, target_places, target_in, target_from, target_of, facet_at, nodes_in}
+use Rattle.fc_spec.specs.messages.Answer.{partials_of, answer_keys, answer_domain, answer_rows}
 use Rattle.fc_spec.specs.messages.Held.{HeldBucket, Told, find_key, row_at, descend, behind, held_in, held, or_else}
 use Rattle.fc_spec.proofs.words.Members.{Member}
 use Rattle.fc_spec.proofs.requests.Locality.{domain_local, bucket_local}
 use Rattle.fc_spec.proofs.messages.Keys.{same_key_exact, same_key_itself}
-use Rattle.fc_spec.proofs.messages.Ways.{some_exact, none_not_some, spot_at-append, behind_is}
+use Rattle.fc_spec.proofs.messages.Ways.{some_exact, none_not_some, target_from-append, behind_is}
 
 -- shard i's part of places
 abbrev pub part : ℕ → List Place → List Place
@@ -26,9 +27,9 @@ part i S = on_shards (i ∷ []) S
 abbrev pub answer_of : Request → World → ℕ → Nodes → List Place → HeldBucket
 answer_of r W i nodes X = record { stats = stats_over (stats_of nodes) X; nodes = nodes; rows = answer_rows r W i nodes X }
 
--- at a spot
-abbrev pub answer_at : Request → World → ℕ → Spot → HeldBucket
-answer_at r W i s = answer_of r W i s.nodes (part i s.places)
+-- where a way leads
+abbrev pub answer_at : Request → World → ℕ → Target → HeldBucket
+answer_at r W i t = answer_of r W i (target_nodes t) (part i (target_places r W t))
 
 -- the bucket of a key in a list of buckets, one for each of some keys
 pub find_key-partials_of : (nodes : Nodes) (stats : Key → Stats) (rows : Key → Rows) (keys : List Key) (key : Key) (b : HeldBucket) → find_key nodes key (partials_of stats rows keys) ≡ Some b → b ≡ record { stats = stats key; nodes = nodes; rows = rows key }
@@ -68,48 +69,65 @@ pub part_of_bucket : (r : Request) (W : World) (i : ℕ) (f : Facet) (key : Key)
 part_of_bucket r W i f key S = ap (bucket_places f.kind key) (domain_local r W f.change (i ∷ []) S) ∙ sym (bucket_local f.kind key (i ∷ []) (domain r W f.change S))
 
 -- one step down from an answer is an answer
-pub step_down : (r : Request) (W : World) (i : ℕ) (s : Spot) (key : Key) (f : Option (Facet × Nodes)) (b : HeldBucket) → find_key (nodes_in f) key (listed_for r W i (part i s.places) f) ≡ Some b → b ≡ answer_at r W i (spot_in r W key s.places f)
-step_down r W i s key None b h = absurd (none_not_some b h)
-step_down r W i s key (Some f) b h =
-    find_key-partials_of f.1 _ _ (answer_keys (f.0).kind f.1 (answer_domain r W i f.0 (part i s.places)) i) key b h ∙ ap (answer_of r W i f.1) (part_of_bucket r W i f.0 key s.places)
+step_from : (r : Request) (W : World) (i : ℕ) (path : Path) (nodes : Nodes) (key : Key) (f : Option (Facet × Nodes)) (b : HeldBucket) → find_key (nodes_in f) key (listed_for r W i (part i (path_places r W path)) f) ≡ Some b
+    → b ≡ answer_at r W i (target_in key (leads_to path nodes) f)
+step_from r W i path nodes key None b h = absurd (none_not_some b h)
+step_from r W i path nodes key (Some f) b h =
+    find_key-partials_of f.1 _ _ (answer_keys (f.0).kind f.1 (answer_domain r W i f.0 (part i (path_places r W path))) i) key b h ∙ ap (answer_of r W i f.1) (part_of_bucket r W i f.0 key (path_places r W path))
+
+-- what shard i lists for the facet with a number there
+abbrev listed_there : Request → World → ℕ → Target → ℕ → Partials
+listed_there r W i t n = listed_for r W i (part i (target_places r W t)) (facet_at n (target_nodes t))
+
+-- the bucket of a key in it
+abbrev found_there : Request → World → ℕ → Target → ℕ → Key → Option HeldBucket
+found_there r W i t n key = find_key (nodes_in (facet_at n (target_nodes t))) key (listed_there r W i t n)
+
+-- where a step leads
+abbrev stepped : Target → ℕ → Key → Target
+stepped t n key = target_in key t (facet_at n (target_nodes t))
+
+step_down : (r : Request) (W : World) (i : ℕ) (t : Target) (n : ℕ) (key : Key) (b : HeldBucket) → found_there r W i t n key ≡ Some b → b ≡ answer_at r W i (stepped t n key)
+step_down r W i leads_nowhere n key b h = absurd (none_not_some b h)
+step_down r W i (leads_to path nodes) n key b h = step_from r W i path nodes key (facet_at n nodes) b h
 
 -- and so is what any way down leads to
-pub descend_answer : (r : Request) (W : World) (i : ℕ) (way : Way) (s : Spot) (b : HeldBucket) → descend way (answer_at r W i s) ≡ Some b → b ≡ answer_at r W i (spot_at r W way s)
-descend_answer r W i [] s b h = sym (some_exact (answer_at r W i s) b h)
-descend_answer r W i (step ∷ way) s b h =
-    go (find_key (nodes_in (facet_at step.node s.nodes)) step.key (listed_for r W i (part i s.places) (facet_at step.node s.nodes))) refl
-    (ap (λ ps. option_and_then (descend way) (find_key (nodes_in (facet_at step.node s.nodes)) step.key ps)) (sym (row_at-answer_rows r W i step.node s.nodes (part i s.places))) ∙ h) (descend_answer r W i way (spot_in r W step.key s.places (facet_at step.node s.nodes)) b)
+pub descend_answer : (r : Request) (W : World) (i : ℕ) (way : Way) (t : Target) (b : HeldBucket) → descend way (answer_at r W i t) ≡ Some b → b ≡ answer_at r W i (target_from t way)
+descend_answer r W i [] t b h = sym (some_exact (answer_at r W i t) b h)
+descend_answer r W i (step ∷ way) t b h =
+    go (found_there r W i t step.node step.key) refl
+    (ap (λ ps. option_and_then (descend way) (find_key (nodes_in (facet_at step.node (target_nodes t))) step.key ps)) (sym (row_at-answer_rows r W i step.node (target_nodes t) (part i (target_places r W t)))) ∙ h)
+    (descend_answer r W i way (stepped t step.node step.key) b)
   where
-    next : Spot
-    next = spot_in r W step.key s.places (facet_at step.node s.nodes)
+    next : Target
+    next = stepped t step.node step.key
 
-    go : (o : Option HeldBucket) → find_key (nodes_in (facet_at step.node s.nodes)) step.key (listed_for r W i (part i s.places) (facet_at step.node s.nodes)) ≡ o → option_and_then (descend way) o ≡ Some b
-        → (descend way (answer_at r W i next) ≡ Some b → b ≡ answer_at r W i (spot_at r W way next)) → b ≡ answer_at r W i (spot_at r W way next)
+    go : (o : Option HeldBucket) → found_there r W i t step.node step.key ≡ o → option_and_then (descend way) o ≡ Some b → (descend way (answer_at r W i next) ≡ Some b → b ≡ answer_at r W i (target_from next way)) → b ≡ answer_at r W i (target_from next way)
     go None e k ih = absurd (none_not_some b k)
-    go (Some c) e k ih = ih (ap (descend way) (sym (step_down r W i s step.key (facet_at step.node s.nodes) c e)) ∙ k)
+    go (Some c) e k ih = ih (ap (descend way) (sym (step_down r W i t step.node step.key c e)) ∙ k)
 
 -- a told bucket is the answer of its shard
 abbrev pub IsTold : Request → World → Told → Type 0
-IsTold r W t = t.bucket ≡ answer_at r W t.shard (way_spot r W t.way)
+IsTold r W t = t.bucket ≡ answer_at r W t.shard (target_of r.nodes t.way)
 
-pub held_in_answer : (r : Request) (W : World) (t : Told) (way : Way) (b : HeldBucket) → IsTold r W t → held_in t way ≡ Some b → b ≡ answer_at r W t.shard (way_spot r W way)
+pub held_in_answer : (r : Request) (W : World) (t : Told) (way : Way) (b : HeldBucket) → IsTold r W t → held_in t way ≡ Some b → b ≡ answer_at r W t.shard (target_of r.nodes way)
 held_in_answer r W t way b told h = go (behind t.way way) refl h
   where
-    go : (o : Option Way) → behind t.way way ≡ o → option_and_then (λ rest. descend rest t.bucket) o ≡ Some b → b ≡ answer_at r W t.shard (way_spot r W way)
+    go : (o : Option Way) → behind t.way way ≡ o → option_and_then (λ rest. descend rest t.bucket) o ≡ Some b → b ≡ answer_at r W t.shard (target_of r.nodes way)
     go None e k = absurd (none_not_some b k)
     go (Some rest) e k =
-        descend_answer r W t.shard rest (way_spot r W t.way) b (ap (descend rest) (sym told) ∙ k)
-        ∙ ap (answer_at r W t.shard) (sym (spot_at-append r W t.way rest (record { nodes = r.nodes; places = root_domain r W }))) ∙ ap (λ w. answer_at r W t.shard (way_spot r W w)) (sym (behind_is t.way way rest e))
+        descend_answer r W t.shard rest (target_of r.nodes t.way) b (ap (descend rest) (sym told) ∙ k)
+        ∙ ap (answer_at r W t.shard) (sym (target_from-append t.way rest (leads_to at_root r.nodes))) ∙ ap (λ w. answer_at r W t.shard (target_of r.nodes w)) (sym (behind_is t.way way rest e))
 
 -- what is held of told answers is the answer
-pub held_answer : (r : Request) (W : World) (A : List Told) (i : ℕ) (way : Way) (b : HeldBucket) → AllByRecursion (IsTold r W) A → held A i way ≡ Some b → b ≡ answer_at r W i (way_spot r W way)
+pub held_answer : (r : Request) (W : World) (A : List Told) (i : ℕ) (way : Way) (b : HeldBucket) → AllByRecursion (IsTold r W) A → held A i way ≡ Some b → b ≡ answer_at r W i (target_of r.nodes way)
 held_answer r W [] i way b all h = absurd (none_not_some b h)
 held_answer r W (t ∷ ts) i way b all h = go (t.shard == i) refl h (held_answer r W ts i way b all.1)
   where
-    here : t.shard ≡ i → (o : Option HeldBucket) → held_in t way ≡ o → or_else o (held ts i way) ≡ Some b → (held ts i way ≡ Some b → b ≡ answer_at r W i (way_spot r W way)) → b ≡ answer_at r W i (way_spot r W way)
+    here : t.shard ≡ i → (o : Option HeldBucket) → held_in t way ≡ o → or_else o (held ts i way) ≡ Some b → (held ts i way ≡ Some b → b ≡ answer_at r W i (target_of r.nodes way)) → b ≡ answer_at r W i (target_of r.nodes way)
     here same None e k ih = ih k
-    here same (Some c) e k ih = sym (some_exact c b k) ∙ held_in_answer r W t way c all.0 e ∙ ap (λ j. answer_at r W j (way_spot r W way)) same
+    here same (Some c) e k ih = sym (some_exact c b k) ∙ held_in_answer r W t way c all.0 e ∙ ap (λ j. answer_at r W j (target_of r.nodes way)) same
 
-    go : (c : Bool) → (t.shard == i) ≡ c → or_else (cond c (held_in t way) None) (held ts i way) ≡ Some b → (held ts i way ≡ Some b → b ≡ answer_at r W i (way_spot r W way)) → b ≡ answer_at r W i (way_spot r W way)
+    go : (c : Bool) → (t.shard == i) ≡ c → or_else (cond c (held_in t way) None) (held ts i way) ≡ Some b → (held ts i way ≡ Some b → b ≡ answer_at r W i (target_of r.nodes way)) → b ≡ answer_at r W i (target_of r.nodes way)
     go true e k ih = here (eqb-true t.shard i e) (held_in t way) refl k ih
     go false e k ih = ih k

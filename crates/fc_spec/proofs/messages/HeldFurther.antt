@@ -4,12 +4,12 @@ use Rattle.std.specs.List.{AllByRecursion}
 use Rattle.std.specs.Option.{option_and_then}
 use Rattle.std.proofs.lemmas.Bool.{false≢true, eq-eqb}
 use Rattle.fc_spec.specs.documents.World.{World}
-use Rattle.fc_spec.specs.requests.Request.{Facet, Nodes, Request}
+use Rattle.fc_spec.specs.requests.Request.{Request}
 use Rattle.fc_spec.specs.requests.Buckets.{Key}
 use Rattle.fc_spec.specs.messages.KeyOrder.{same_key}
 use Rattle.fc_spec.specs.messages.Message.{Way, Want, way_of, Ask, first, more}
-use Rattle.fc_spec.specs.messages.Answer.{answer, answer_wants, Spot, spot_at, spot_in, way_spot, facet_at, nodes_in, nodes_at}
-use Rattle.fc_spec.specs.requests.Base.{root_domain}
+use Rattle.fc_spec.specs.messages.Target.{target_of}
+use Rattle.fc_spec.specs.messages.Answer.{answer, answer_wants}
 use Rattle.fc_spec.specs.messages.Held.{HeldBucket, Told, bucket_in, descend, behind, held_in, held, or_else, told_by, told_wants}
 use Rattle.fc_spec.specs.messages.Rounds.{SentMessage, told_in}
 use Rattle.fc_spec.specs.laws.Merging.{IsAnswer}
@@ -79,22 +79,9 @@ pub all_append : {X : Type 0} (P : X → Type 0) (xs ys : List X) → AllByRecur
 all_append P [] ys a b = b
 all_append P (x ∷ xs) ys a b = (a.0, all_append P xs ys a.1 b)
 
-spot_nodes : (r : Request) (W : World) (way : Way) (s : Spot) → nodes_at way s.nodes ≡ (spot_at r W way s).nodes
-spot_nodes r W [] s = refl
-spot_nodes r W (step ∷ way) s = ap (nodes_at way) (in_facet (facet_at step.node s.nodes)) ∙ spot_nodes r W way (spot_in r W step.key s.places (facet_at step.node s.nodes))
-  where
-    in_facet : (o : Option (Facet × Nodes)) → nodes_in o ≡ (spot_in r W step.key s.places o).nodes
-    in_facet None = refl
-    in_facet (Some f) = refl
-
--- a bucket that is answered for a way is told with the nodes where the way leads
-want_told : (r : Request) (W : World) (i : ℕ) (way : Way)
-    → record (answer_at r W i (way_spot r W way)) { nodes = nodes_at way r.nodes } ≡ answer_at r W i (way_spot r W way)
-want_told r W i way = ap (λ ns. record (answer_at r W i (way_spot r W way)) { nodes = ns }) (spot_nodes r W way (record { nodes = r.nodes; places = root_domain r W }))
-
 wants_told : (r : Request) (W : World) (i : ℕ) (ws : List Want) → AllByRecursion (IsTold r W) (told_wants r.nodes i ws (answer_wants r W i ws))
 wants_told r W i [] = tt
-wants_told r W i (w ∷ ws) = (want_told r W i (way_of w), wants_told r W i ws)
+wants_told r W i (w ∷ ws) = (refl, wants_told r W i ws)
 
 ask_told : (r : Request) (W : World) (i : ℕ) (ask : Ask) → AllByRecursion (IsTold r W) (told_by r.nodes i ask (answer r W i ask))
 ask_told r W i first = (refl, tt)
@@ -122,5 +109,5 @@ told_held t ts =
 -- an answer to wants holds each of them
 pub wants_held : (r : Request) (W : World) (i : ℕ) (ws : List Want) (w : Want) → Member w ws → is_some (held (told_wants r.nodes i ws (answer_wants r W i ws)) i (way_of w)) ≡ true
 wants_held r W i [] w m = absurd m
-wants_held r W i (v ∷ ws) w (inl e) = subst (λ u. is_some (held (told_wants r.nodes i (v ∷ ws) (answer_wants r W i (v ∷ ws))) i (way_of u)) ≡ true) (sym e) (told_held (record { shard = i; way = way_of v; bucket = record (answer_at r W i (way_spot r W (way_of v))) { nodes = nodes_at (way_of v) r.nodes } }) (told_wants r.nodes i ws (answer_wants r W i ws)))
+wants_held r W i (v ∷ ws) w (inl e) = subst (λ u. is_some (held (told_wants r.nodes i (v ∷ ws) (answer_wants r W i (v ∷ ws))) i (way_of u)) ≡ true) (sym e) (told_held (record { shard = i; way = way_of v; bucket = answer_at r W i (target_of r.nodes (way_of v)) }) (told_wants r.nodes i ws (answer_wants r W i ws)))
 wants_held r W i (v ∷ ws) w (inr m) = or_else_second _ (held (told_wants r.nodes i ws (answer_wants r W i ws)) i (way_of w)) (wants_held r W i ws w m)

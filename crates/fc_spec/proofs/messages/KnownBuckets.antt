@@ -8,7 +8,7 @@ use Rattle.fc_spec.specs.requests.Request.{Stat, Facet, Nodes, no_nodes, statist
 use Rattle.fc_spec.specs.requests.Statistics.{value_over, combined_value}
 use Rattle.fc_spec.specs.requests.Shape.{no_exclusions, outermost_exclusions}
 use Rattle.fc_spec.specs.messages.Message.{Way}
-use Rattle.fc_spec.specs.messages.Answer.{facet_at, way_spot}
+use Rattle.fc_spec.specs.messages.Target.{target_of, target_nodes, target_places, facet_at}
 use Rattle.fc_spec.specs.messages.Held.{HeldBucket, Told, held}
 use Rattle.fc_spec.specs.messages.Merged.{held_count, held_value, count_held, value_held}
 use Rattle.fc_spec.proofs.words.Members.{Member}
@@ -18,20 +18,20 @@ use Rattle.fc_spec.proofs.messages.HeldAnswers.{part, answer_at, IsTold, held_an
 
 -- the places and the nodes where a way leads
 abbrev pub places_at : Request → World → Way → List Place
-places_at r W way = (way_spot r W way).places
+places_at r W way = target_places r W (target_of r.nodes way)
 
-abbrev pub nodes_of : Request → World → Way → Nodes
-nodes_of r W way = (way_spot r W way).nodes
+abbrev pub nodes_of : Request → Way → Nodes
+nodes_of r way = target_nodes (target_of r.nodes way)
 
 -- the bucket of shard i there is held; or it isn't, has no place, and none of its nodes excludes
 abbrev pub IsKnown : Request → World → List Told → Way → ℕ → Type 0
-IsKnown r W A way i = (is_some (held A i way) ≡ true) ⊎ ((held A i way ≡ None) × (part i (places_at r W way) ≡ []) × (no_exclusions (nodes_of r W way) ≡ true))
+IsKnown r W A way i = (is_some (held A i way) ≡ true) ⊎ ((held A i way ≡ None) × (part i (places_at r W way) ≡ []) × (no_exclusions (nodes_of r way) ≡ true))
 
 -- what is held there is the answer
-pub held_is : (r : Request) (W : World) (A : List Told) (way : Way) (i : ℕ) → AllByRecursion (IsTold r W) A → is_some (held A i way) ≡ true → held A i way ≡ Some (answer_at r W i (way_spot r W way))
+pub held_is : (r : Request) (W : World) (A : List Told) (way : Way) (i : ℕ) → AllByRecursion (IsTold r W) A → is_some (held A i way) ≡ true → held A i way ≡ Some (answer_at r W i (target_of r.nodes way))
 held_is r W A way i all h = go (held A i way) refl h
   where
-    go : (o : Option HeldBucket) → held A i way ≡ o → is_some o ≡ true → o ≡ Some (answer_at r W i (way_spot r W way))
+    go : (o : Option HeldBucket) → held A i way ≡ o → is_some o ≡ true → o ≡ Some (answer_at r W i (target_of r.nodes way))
     go None e k = absurd (false≢true k)
     go (Some b) e k = ap Some (held_answer r W A i way b all e)
 
@@ -46,9 +46,9 @@ slice_index_or-map f (y ∷ ys) zero x d h = ap f (let e : y ≡ x = cc in e)
 slice_index_or-map f (y ∷ ys) (suc m) x d h = slice_index_or-map f ys m x d h
 
 -- a statistic of it
-pub value_known : (r : Request) (W : World) (A : List Told) (way : Way) (i m : ℕ) (s : Stat) → AllByRecursion (IsTold r W) A → IsKnown r W A way i → slice_get (stats_of (nodes_of r W way)) m ≡ Some s
+pub value_known : (r : Request) (W : World) (A : List Told) (way : Way) (i m : ℕ) (s : Stat) → AllByRecursion (IsTold r W) A → IsKnown r W A way i → slice_get (stats_of (nodes_of r way)) m ≡ Some s
     → held_value m s (held A i way) ≡ value_over s (part i (places_at r W way))
-value_known r W A way i m s all (inl h) at = ap (held_value m s) (held_is r W A way i all h) ∙ slice_index_or-map (λ s. value_over s (part i (places_at r W way))) (stats_of (nodes_of r W way)) m s (value_over s []) at
+value_known r W A way i m s all (inl h) at = ap (held_value m s) (held_is r W A way i all h) ∙ slice_index_or-map (λ s. value_over s (part i (places_at r W way))) (stats_of (nodes_of r way)) m s (value_over s []) at
 value_known r W A way i m s all (inr h) at = ap (held_value m s) h.0 ∙ sym (ap (value_over s) h.1)
 
 -- the count over known shards
@@ -60,7 +60,7 @@ counts_known r W A way (i ∷ H) all d known =
 
 -- a statistic over known shards
 pub values_known : (r : Request) (W : World) (A : List Told) (way : Way) (m : ℕ) (s : Stat) (H : List ℕ) → AllByRecursion (IsTold r W) A → IsDistinct H → ((i : ℕ) → Member i H → IsKnown r W A way i)
-    → slice_get (stats_of (nodes_of r W way)) m ≡ Some s → value_held A m s H way ≡ value_over s (on_shards H (places_at r W way))
+    → slice_get (stats_of (nodes_of r way)) m ≡ Some s → value_held A m s H way ≡ value_over s (on_shards H (places_at r W way))
 values_known r W A way m s [] all d known at = sym (ap (value_over s) (on_no_shard (places_at r W way)))
 values_known r W A way m s (i ∷ H) all d known at =
     (λ k. combined_value s.of (value_known r W A way i m s all (known i (inl refl)) at k) (values_known r W A way m s H all d.1 (λ j u. known j (inr u)) at k)) ∙ sym (value_on_more s i H (places_at r W way) d.0)

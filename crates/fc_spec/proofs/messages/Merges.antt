@@ -13,7 +13,7 @@ use Rattle.fc_spec.specs.replies.Reading.{over_places}
 use Rattle.fc_spec.specs.replies.Chosen.{chosen}
 use Rattle.fc_spec.specs.replies.Distributed.{printed_keys, carried, dist_buckets, dist_facets}
 use Rattle.fc_spec.specs.messages.Message.{Way, way_of}
-use Rattle.fc_spec.specs.messages.Answer.{facet_at}
+use Rattle.fc_spec.specs.messages.Target.{facet_at}
 use Rattle.fc_spec.specs.messages.Held.{Told, held}
 use Rattle.fc_spec.specs.messages.Merged.{count_held, over_held}
 use Rattle.fc_spec.specs.messages.Lacks.{Lack, want_of, each_of, wanted_values, wanted_at, facet_wanted, wanted}
@@ -21,7 +21,7 @@ use Rattle.fc_spec.proofs.words.Members.{Member, Every}
 use Rattle.fc_spec.proofs.messages.HeldAnswers.{IsTold}
 use Rattle.fc_spec.proofs.messages.HeldFurther.{step_to}
 use Rattle.fc_spec.proofs.messages.KnownBuckets.{nodes_of}
-use Rattle.fc_spec.proofs.messages.NextBuckets.{IsState, next_spot, domain_there, count_agrees, value_agrees, chosen_agree}
+use Rattle.fc_spec.proofs.messages.NextBuckets.{IsState, next_nodes, domain_there, count_agrees, value_agrees, chosen_agree}
 use Rattle.fc_spec.proofs.messages.PrintedAgree.{node_at, FacetIsTold, keys_agree, carried_agree, printed_state}
 
 -- a row's buckets, made by functions that agree on its keys
@@ -77,7 +77,7 @@ wanted_held A kind inner n H way d = wanted_at (over_held A) kind inner d n H (n
 
 -- where all is told of at a facet itself, its chosen values are told of
 pub facet_told : (r : Request) (W : World) (A : List Told) (H : List ℕ) (way : Way) (X : List Place) (n : ℕ) (name : Text) (change : DomainChange) (kind : Kind) (inner : Nodes) → AllByRecursion (IsTold r W) A → IsState r W A H way X
-    → facet_at n (nodes_of r W way) ≡ Some (record { name = name; change = change; kind = kind }, inner) → AllTold A (wanted_held A kind inner n H way 0) → FacetIsTold r W A H way X n change kind inner
+    → facet_at n (nodes_of r way) ≡ Some (record { name = name; change = change; kind = kind }, inner) → AllTold A (wanted_held A kind inner n H way 0) → FacetIsTold r W A H way X n change kind inner
 facet_told r W A H way X n name change (terms t) inner all state at e = λ asks v m i here.
     told_of_each A H way n (value v) i
     (every_in (λ l. is_some (held A l.shard (way_of l.want))) (λ w. each_of H (want_of way n (value w))) (chosen (over_held A) t inner H (node_at way n)) v
@@ -88,23 +88,23 @@ facet_told r W A H way X n name change (query q) inner all state at e = tt
 
 -- the nodes from the n-th on, and the statistics from the m-th on
 abbrev pub AreFrom : Request → World → Way → ℕ → ℕ → Nodes → Type 0
-AreFrom r W way n m rest = ((k : ℕ) → facet_at (n + k) (nodes_of r W way) ≡ facet_at k rest) × ((k : ℕ) → slice_get (stats_of (nodes_of r W way)) (m + k) ≡ slice_get (stats_of rest) k)
+AreFrom r W way n m rest = ((k : ℕ) → facet_at (n + k) (nodes_of r way) ≡ facet_at k rest) × ((k : ℕ) → slice_get (stats_of (nodes_of r way)) (m + k) ≡ slice_get (stats_of rest) k)
 
-pub from_start : (r : Request) (W : World) (way : Way) (nodes : Nodes) → nodes_of r W way ≡ nodes → AreFrom r W way 0 0 nodes
+pub from_start : (r : Request) (W : World) (way : Way) (nodes : Nodes) → nodes_of r way ≡ nodes → AreFrom r W way 0 0 nodes
 from_start r W way nodes e = (λ k. (λ i. facet_at ((let z : 0 + k ≡ k = omega arith in z) i) (e i)), λ k. (λ i. slice_get (stats_of (e i)) ((let z : 0 + k ≡ k = omega arith in z) i)))
 
-pub facet_first : (r : Request) (W : World) (way : Way) (n m : ℕ) (f : Facet) (inner rest : Nodes) → AreFrom r W way n m (facet f inner rest) → facet_at n (nodes_of r W way) ≡ Some (f, inner)
-facet_first r W way n m f inner rest from = ap (λ k. facet_at k (nodes_of r W way)) (let z : n ≡ n + 0 = omega arith in z) ∙ from.0 0
+pub facet_first : (r : Request) (W : World) (way : Way) (n m : ℕ) (f : Facet) (inner rest : Nodes) → AreFrom r W way n m (facet f inner rest) → facet_at n (nodes_of r way) ≡ Some (f, inner)
+facet_first r W way n m f inner rest from = ap (λ k. facet_at k (nodes_of r way)) (let z : n ≡ n + 0 = omega arith in z) ∙ from.0 0
 
-pub statistic_first : (r : Request) (W : World) (way : Way) (n m : ℕ) (name : Text) (s : Stat) (rest : Nodes) → AreFrom r W way n m (statistic name s rest) → slice_get (stats_of (nodes_of r W way)) m ≡ Some s
-statistic_first r W way n m name s rest from = ap (slice_get (stats_of (nodes_of r W way))) (let z : m ≡ m + 0 = omega arith in z) ∙ from.1 0
+pub statistic_first : (r : Request) (W : World) (way : Way) (n m : ℕ) (name : Text) (s : Stat) (rest : Nodes) → AreFrom r W way n m (statistic name s rest) → slice_get (stats_of (nodes_of r way)) m ≡ Some s
+statistic_first r W way n m name s rest from = ap (slice_get (stats_of (nodes_of r way))) (let z : m ≡ m + 0 = omega arith in z) ∙ from.1 0
 
 pub after_facet : (r : Request) (W : World) (way : Way) (n m : ℕ) (f : Facet) (inner rest : Nodes) → AreFrom r W way n m (facet f inner rest) → AreFrom r W way (suc n) m rest
-after_facet r W way n m f inner rest from = (λ k. ap (λ j. facet_at j (nodes_of r W way)) (let z : suc n + k ≡ n + suc k = omega arith in z) ∙ from.0 (suc k), from.1)
+after_facet r W way n m f inner rest from = (λ k. ap (λ j. facet_at j (nodes_of r way)) (let z : suc n + k ≡ n + suc k = omega arith in z) ∙ from.0 (suc k), from.1)
 
 pub after_statistic : (r : Request) (W : World) (way : Way) (n m : ℕ) (name : Text) (s : Stat) (rest : Nodes) → AreFrom r W way n m (statistic name s rest) → AreFrom r W way (suc n) (suc m) rest
 after_statistic r W way n m name s rest from =
-    (λ k. ap (λ j. facet_at j (nodes_of r W way)) (let z : suc n + k ≡ n + suc k = omega arith in z) ∙ from.0 (suc k), λ k. ap (slice_get (stats_of (nodes_of r W way))) (let z : suc m + k ≡ m + suc k = omega arith in z) ∙ from.1 (suc k))
+    (λ k. ap (λ j. facet_at j (nodes_of r way)) (let z : suc n + k ≡ n + suc k = omega arith in z) ∙ from.0 (suc k), λ k. ap (slice_get (stats_of (nodes_of r way))) (let z : suc m + k ≡ m + suc k = omega arith in z) ∙ from.1 (suc k))
 
 -- the step under the buckets of a facet: there the recursion goes on, in the bucket of each printed key
 abbrev pub Inside : Request → World → List Told → Nodes → Type 0
@@ -119,7 +119,7 @@ told_inside A H way n (query q) inner told e = told e
 
 -- the buckets of a facet
 buckets_merge : (r : Request) (W : World) (A : List Told) (H : List ℕ) (way : Way) (X : List Place) (n : ℕ) (name : Text) (change : DomainChange) (kind : Kind) (inner : Nodes) (more : Facets) → AllByRecursion (IsTold r W) A → IsState r W A H way X
-    → facet_at n (nodes_of r W way) ≡ Some (record { name = name; change = change; kind = kind }, inner) → ((e : ℕ) → AllTold A (wanted_held A kind inner n H way e)) → Inside r W A inner
+    → facet_at n (nodes_of r way) ≡ Some (record { name = name; change = change; kind = kind }, inner) → ((e : ℕ) → AllTold A (wanted_held A kind inner n H way e)) → Inside r W A inner
     → dist_buckets (over_held A) (record { name = name; change = change; kind = kind }) inner (λ K P. dist_facets (over_held A) inner 0 0 K P) H (node_at way n) more
     ≡ dist_buckets (over_places r W) (record { name = name; change = change; kind = kind }) inner (λ K P. dist_facets (over_places r W) inner 0 0 K P) H (domain_there r W H change X) more
 buckets_merge r W A H way X n name change kind inner more all state at told inside =
@@ -135,7 +135,7 @@ buckets_merge r W A H way X n name change kind inner more all state at told insi
     (printed_keys (over_places r W) kind inner H Y) more (has_whole r W kind inner H Y)
     (λ k m. ap (λ K. count_held A K (way ++ step_to n k)) (shards k) ∙ count_agrees r W A (carried (over_places r W) kind inner H Y k) (way ++ step_to n k) (bucket_places kind k Y) all (next k m))
     (λ k m. ap (λ K. dist_facets (over_held A) inner 0 0 K (way ++ step_to n k)) (shards k)
-    ∙ inside (carried (over_places r W) kind inner H Y k) (way ++ step_to n k) (bucket_places kind k Y) (next k m) (from_start r W (way ++ step_to n k) inner (ap (λ s. s.nodes) (next_spot r W way n f inner k at)))
+    ∙ inside (carried (over_places r W) kind inner H Y k) (way ++ step_to n k) (bucket_places kind k Y) (next k m) (from_start r W (way ++ step_to n k) inner (next_nodes r way n f inner k at))
     (λ e. subst (λ K. AllTold A (wanted (over_held A) e inner 0 K (way ++ step_to n k) (way ++ step_to n k))) (shards k)
     (every_in (λ l. is_some (held A l.shard (way_of l.want))) (λ l. wanted (over_held A) e inner 0 (carried (over_held A) kind inner H (node_at way n) l) (way ++ step_to n l) (way ++ step_to n l)) (printed_keys (over_held A) kind inner H (node_at way n)) k
     (told_inside A H way n kind inner told e) (subst (λ ks. Member k ks) (sym keys) m))))

@@ -4,22 +4,22 @@ use Rattle.std.specs.List.{AllByRecursion, filter, slice_get}
 use Rattle.fc_spec.specs.documents.Val.{Text, Val, has_val, distinct}
 use Rattle.fc_spec.specs.documents.World.{World, Place, on_shards}
 use Rattle.fc_spec.specs.requests.Request.{Stat, Terms, terms, DomainChange, Facet, Nodes, Request, stats_of}
-use Rattle.fc_spec.specs.requests.Base.{root_domain}
 use Rattle.fc_spec.specs.requests.Domain.{domain}
 use Rattle.fc_spec.specs.requests.Buckets.{Key, value, bucket_places}
+use Rattle.fc_spec.specs.requests.Paths.{at_root}
 use Rattle.fc_spec.specs.requests.Statistics.{value_over}
 use Rattle.fc_spec.specs.requests.Ranks.{Entry, below_rank, rank_bound}
 use Rattle.fc_spec.specs.requests.Shape.{no_exclusions, outermost_exclusions}
 use Rattle.fc_spec.specs.replies.Reading.{stats_on, offered, over_places}
 use Rattle.fc_spec.specs.replies.Chosen.{offering, chosen}
 use Rattle.fc_spec.specs.messages.Message.{Way}
-use Rattle.fc_spec.specs.messages.Answer.{facet_at, way_spot, spot_in}
+use Rattle.fc_spec.specs.messages.Target.{Target, leads_nowhere, leads_to, target_in, target_nodes, target_places, target_of, facet_at}
 use Rattle.fc_spec.specs.messages.Held.{Told, held}
 use Rattle.fc_spec.specs.messages.Merged.{count_held, value_held, values_held, over_held}
 use Rattle.fc_spec.proofs.words.Members.{Member, passing_member, any_by_member, filter_member}
 use Rattle.fc_spec.proofs.documents.Shards.{is_on}
 use Rattle.fc_spec.proofs.requests.Locality.{domain_local, bucket_local, part_of_part}
-use Rattle.fc_spec.proofs.messages.Ways.{spot_at-append}
+use Rattle.fc_spec.proofs.messages.Ways.{none_not_some, target_from-append}
 use Rattle.fc_spec.proofs.requests.Together.{IsDistinct, distinct-filter}
 use Rattle.fc_spec.proofs.messages.HeldAnswers.{part, IsTold}
 use Rattle.fc_spec.proofs.messages.HeldFurther.{step_to}
@@ -32,7 +32,7 @@ pub record IsState (r : Request) (W : World) (A : List Told) (H : List ℕ) (way
   pub places : on_shards H X ≡ on_shards H (places_at r W way)
   pub known : (i : ℕ) → Member i H → IsKnown r W A way i
   pub distinct : IsDistinct H
-  pub inside : (no_exclusions (nodes_of r W way) ≡ true) ⊎ (outermost_exclusions (nodes_of r W way) ≡ true)
+  pub inside : (no_exclusions (nodes_of r way) ≡ true) ⊎ (outermost_exclusions (nodes_of r way) ≡ true)
 
 -- some of the shards of H
 abbrev pub AreAmong : List ℕ → List ℕ → Type 0
@@ -45,14 +45,26 @@ one_among : (H : List ℕ) (i : ℕ) → Member i H → AreAmong (i ∷ []) H
 one_among H i m j (inl e) = subst (λ k. Member k H) (sym e) m
 one_among H i m j (inr n) = absurd n
 
--- where the next step leads
-pub next_spot : (r : Request) (W : World) (way : Way) (n : ℕ) (f : Facet) (inner : Nodes) (key : Key) → facet_at n (nodes_of r W way) ≡ Some (f, inner)
-    → way_spot r W (way ++ step_to n key) ≡ record { nodes = inner; places = bucket_places f.kind key (domain r W f.change (places_at r W way)) }
-next_spot r W way n f inner key at = spot_at-append r W way (step_to n key) (record { nodes = r.nodes; places = root_domain r W }) ∙ ap (spot_in r W key (places_at r W way)) at
+-- the nodes and the places where a step to a facet leads
+stepped_nodes : (t : Target) (n : ℕ) (f : Facet) (inner : Nodes) (key : Key) → facet_at n (target_nodes t) ≡ Some (f, inner) → target_nodes (target_in key t (facet_at n (target_nodes t))) ≡ inner
+stepped_nodes leads_nowhere n f inner key at = absurd (none_not_some (f, inner) at)
+stepped_nodes (leads_to path nodes) n f inner key at = ap (λ o. target_nodes (target_in key (leads_to path nodes) o)) at
 
-pub inner_none : (r : Request) (W : World) (A : List Told) (H : List ℕ) (way : Way) (X : List Place) (n : ℕ) (f : Facet) (inner : Nodes) → IsState r W A H way X → facet_at n (nodes_of r W way) ≡ Some (f, inner) → no_exclusions inner ≡ true
+stepped_places : (r : Request) (W : World) (t : Target) (n : ℕ) (f : Facet) (inner : Nodes) (key : Key) → facet_at n (target_nodes t) ≡ Some (f, inner)
+    → target_places r W (target_in key t (facet_at n (target_nodes t))) ≡ bucket_places f.kind key (domain r W f.change (target_places r W t))
+stepped_places r W leads_nowhere n f inner key at = absurd (none_not_some (f, inner) at)
+stepped_places r W (leads_to path nodes) n f inner key at = ap (λ o. target_places r W (target_in key (leads_to path nodes) o)) at
+
+-- and where the next step of a way does
+pub next_nodes : (r : Request) (way : Way) (n : ℕ) (f : Facet) (inner : Nodes) (key : Key) → facet_at n (nodes_of r way) ≡ Some (f, inner) → nodes_of r (way ++ step_to n key) ≡ inner
+next_nodes r way n f inner key at = ap target_nodes (target_from-append way (step_to n key) (leads_to at_root r.nodes)) ∙ stepped_nodes (target_of r.nodes way) n f inner key at
+
+pub next_bucket : (r : Request) (W : World) (way : Way) (n : ℕ) (f : Facet) (inner : Nodes) (key : Key) → facet_at n (nodes_of r way) ≡ Some (f, inner) → places_at r W (way ++ step_to n key) ≡ bucket_places f.kind key (domain r W f.change (places_at r W way))
+next_bucket r W way n f inner key at = ap (target_places r W) (target_from-append way (step_to n key) (leads_to at_root r.nodes)) ∙ stepped_places r W (target_of r.nodes way) n f inner key at
+
+pub inner_none : (r : Request) (W : World) (A : List Told) (H : List ℕ) (way : Way) (X : List Place) (n : ℕ) (f : Facet) (inner : Nodes) → IsState r W A H way X → facet_at n (nodes_of r way) ≡ Some (f, inner) → no_exclusions inner ≡ true
 inner_none r W A H way X n f inner state at =
-    elim state.inside [ inl none ↦ (facet_excludes_none n (nodes_of r W way) f inner at none).1 | inr outer ↦ inner_excludes_none n (nodes_of r W way) f inner at outer ]
+    elim state.inside [ inl none ↦ (facet_excludes_none n (nodes_of r way) f inner at none).1 | inr outer ↦ inner_excludes_none n (nodes_of r way) f inner at outer ]
 
 -- the domain of a facet there, over places
 abbrev pub domain_there : Request → World → List ℕ → DomainChange → List Place → List Place
@@ -66,21 +78,21 @@ pub part_there : (r : Request) (W : World) (A : List Told) (H : List ℕ) (way :
 part_there r W A H way X change i state m = ap (part i) (domain_there_is r W A H way X change state) ∙ part_of_part H (i ∷ []) (domain r W change (places_at r W way)) (among_on (i ∷ []) H (one_among H i m))
 
 -- the part of the next bucket on some of the shards
-pub next_places : (r : Request) (W : World) (A : List Told) (H K : List ℕ) (way : Way) (X : List Place) (n : ℕ) (f : Facet) (inner : Nodes) (key : Key) → IsState r W A H way X → AreAmong K H → facet_at n (nodes_of r W way) ≡ Some (f, inner)
+pub next_places : (r : Request) (W : World) (A : List Told) (H K : List ℕ) (way : Way) (X : List Place) (n : ℕ) (f : Facet) (inner : Nodes) (key : Key) → IsState r W A H way X → AreAmong K H → facet_at n (nodes_of r way) ≡ Some (f, inner)
     → on_shards K (bucket_places f.kind key (domain_there r W H f.change X)) ≡ on_shards K (places_at r W (way ++ step_to n key))
 next_places r W A H K way X n f inner key state among at =
     let D = domain r W f.change (places_at r W way) in
     ap (λ Y. on_shards K (bucket_places f.kind key Y)) (domain_there_is r W A H way X f.change state) ∙ bucket_local f.kind key K (on_shards H D) ∙ ap (bucket_places f.kind key) (part_of_part H K D (among_on K H among))
-    ∙ sym (bucket_local f.kind key K D) ∙ ap (λ s. on_shards K s.places) (sym (next_spot r W way n f inner key at))
+    ∙ sym (bucket_local f.kind key K D) ∙ ap (on_shards K) (sym (next_bucket r W way n f inner key at))
 
 -- the next bucket is such a bucket, where its shards' parts are known
-pub next_state : (r : Request) (W : World) (A : List Told) (H K : List ℕ) (way : Way) (X : List Place) (n : ℕ) (f : Facet) (inner : Nodes) (key : Key) → IsState r W A H way X → AreAmong K H → IsDistinct K → facet_at n (nodes_of r W way) ≡ Some (f, inner)
+pub next_state : (r : Request) (W : World) (A : List Told) (H K : List ℕ) (way : Way) (X : List Place) (n : ℕ) (f : Facet) (inner : Nodes) (key : Key) → IsState r W A H way X → AreAmong K H → IsDistinct K → facet_at n (nodes_of r way) ≡ Some (f, inner)
     → ((i : ℕ) → Member i K → IsKnown r W A (way ++ step_to n key) i) → IsState r W A K (way ++ step_to n key) (bucket_places f.kind key (domain_there r W H f.change X))
 next_state r W A H K way X n f inner key state among distinct at known = record {
   places = next_places r W A H K way X n f inner key state among at;
   known = known;
   distinct = distinct;
-  inside = inl (ap (λ s. no_exclusions s.nodes) (next_spot r W way n f inner key at) ∙ inner_none r W A H way X n f inner state at);
+  inside = inl (ap no_exclusions (next_nodes r way n f inner key at) ∙ inner_none r W A H way X n f inner state at);
 }
 
 -- the count of such a bucket
@@ -88,12 +100,12 @@ pub count_agrees : (r : Request) (W : World) (A : List Told) (H : List ℕ) (way
 count_agrees r W A H way X all state = counts_known r W A way H all state.distinct state.known ∙ sym (ap length state.places)
 
 -- a statistic of it
-pub value_agrees : (r : Request) (W : World) (A : List Told) (H : List ℕ) (way : Way) (X : List Place) (m : ℕ) (s : Stat) → AllByRecursion (IsTold r W) A → IsState r W A H way X → slice_get (stats_of (nodes_of r W way)) m ≡ Some s
+pub value_agrees : (r : Request) (W : World) (A : List Told) (H : List ℕ) (way : Way) (X : List Place) (m : ℕ) (s : Stat) → AllByRecursion (IsTold r W) A → IsState r W A H way X → slice_get (stats_of (nodes_of r way)) m ≡ Some s
     → value_held A m s H way ≡ value_over s (on_shards H X)
 value_agrees r W A H way X m s all state at = values_known r W A way m s H all state.distinct state.known at ∙ sym (ap (value_over s) state.places)
 
 -- its count with its statistics
-pub stats_agree : (r : Request) (W : World) (A : List Told) (H : List ℕ) (way : Way) (X : List Place) (nodes : Nodes) → AllByRecursion (IsTold r W) A → IsState r W A H way X → nodes_of r W way ≡ nodes
+pub stats_agree : (r : Request) (W : World) (A : List Told) (H : List ℕ) (way : Way) (X : List Place) (nodes : Nodes) → AllByRecursion (IsTold r W) A → IsState r W A H way X → nodes_of r way ≡ nodes
     → stats_on (over_held A) (stats_of nodes) H way ≡ stats_on (over_places r W) (stats_of nodes) H X
 stats_agree r W A H way X nodes all state same =
     let values = map_numbered_alike (λ (s : ℕ × Stat). value_held A s.0 s.1 H way) (λ (s : ℕ × Stat). value_over s.1 (on_shards H X)) 0 (stats_of nodes)
@@ -102,7 +114,7 @@ stats_agree r W A H way X nodes all state same =
 
 -- what a shard offers
 pub offers_agree : (r : Request) (W : World) (A : List Told) (H : List ℕ) (way : Way) (X : List Place) (n : ℕ) (name : Text) (change : DomainChange) (t : Terms) (inner : Nodes) (i : ℕ) → AllByRecursion (IsTold r W) A → IsState r W A H way X → Member i H
-    → facet_at n (nodes_of r W way) ≡ Some (record { name = name; change = change; kind = terms t }, inner) → values_held n (held A i way) ≡ offered t inner (domain_there r W H change X) i
+    → facet_at n (nodes_of r way) ≡ Some (record { name = name; change = change; kind = terms t }, inner) → values_held n (held A i way) ≡ offered t inner (domain_there r W H change X) i
 offers_agree r W A H way X n name change t inner i all state m at =
     values_are_offered r W A way n i name change t inner all (state.known i m) at
     ∙ offered_local t inner (domain r W change (places_at r W way)) (domain_there r W H change X) i (sym (part_there r W A H way X change i state m))
@@ -112,14 +124,14 @@ offering_among p H i m = (filter_member p H i m).0
 
 -- the shards that offer a value
 pub offering_agrees : (r : Request) (W : World) (A : List Told) (H : List ℕ) (way : Way) (X : List Place) (n : ℕ) (name : Text) (change : DomainChange) (t : Terms) (inner : Nodes) (v : Val) → AllByRecursion (IsTold r W) A → IsState r W A H way X
-    → facet_at n (nodes_of r W way) ≡ Some (record { name = name; change = change; kind = terms t }, inner)
+    → facet_at n (nodes_of r way) ≡ Some (record { name = name; change = change; kind = terms t }, inner)
     → offering (over_held A) t inner H (record { way = way; node = n }) v ≡ offering (over_places r W) t inner H (domain_there r W H change X) v
 offering_agrees r W A H way X n name change t inner v all state at =
     filter_alike_members (λ i. has_val v (values_held n (held A i way))) (λ i. has_val v (offered t inner (domain_there r W H change X) i)) H (λ i m. ap (has_val v) (offers_agree r W A H way X n name change t inner i all state m at))
 
 -- their parts of its bucket are held
 pub offering_state : (r : Request) (W : World) (A : List Told) (H : List ℕ) (way : Way) (X : List Place) (n : ℕ) (name : Text) (change : DomainChange) (t : Terms) (inner : Nodes) (v : Val) → AllByRecursion (IsTold r W) A → IsState r W A H way X
-    → facet_at n (nodes_of r W way) ≡ Some (record { name = name; change = change; kind = terms t }, inner)
+    → facet_at n (nodes_of r way) ≡ Some (record { name = name; change = change; kind = terms t }, inner)
     → IsState r W A (offering (over_places r W) t inner H (domain_there r W H change X) v) (way ++ step_to n (value v)) (bucket_places (terms t) (value v) (domain_there r W H change X))
 offering_state r W A H way X n name change t inner v all state at =
     let offers = λ (i : ℕ). has_val v (offered t inner (domain_there r W H change X) i) in
@@ -129,7 +141,7 @@ offering_state r W A H way X n name change t inner v all state at =
 
 -- the chosen values
 pub chosen_agree : (r : Request) (W : World) (A : List Told) (H : List ℕ) (way : Way) (X : List Place) (n : ℕ) (name : Text) (change : DomainChange) (t : Terms) (inner : Nodes) → AllByRecursion (IsTold r W) A → IsState r W A H way X
-    → facet_at n (nodes_of r W way) ≡ Some (record { name = name; change = change; kind = terms t }, inner)
+    → facet_at n (nodes_of r way) ≡ Some (record { name = name; change = change; kind = terms t }, inner)
     → chosen (over_held A) t inner H (record { way = way; node = n }) ≡ chosen (over_places r W) t inner H (domain_there r W H change X)
 chosen_agree r W A H way X n name change t inner all state at =
     let f : Facet = record { name = name; change = change; kind = terms t } in
@@ -138,5 +150,5 @@ chosen_agree r W A H way X n name change t inner all state at =
     let shards = λ (v : Val). offering_agrees r W A H way X n name change t inner v all state at in
     let stats = λ (v : Val). ap (λ K. stats_on (over_held A) (stats_of inner) K (way ++ step_to n (value v))) (shards v)
     ∙ stats_agree r W A (offering (over_places r W) t inner H Y v) (way ++ step_to n (value v)) (bucket_places (terms t) (value v) Y) inner all (offering_state r W A H way X n name change t inner v all state at)
-    (ap (λ s. s.nodes) (next_spot r W way n f inner (value v) at)) in
+    (next_nodes r way n f inner (value v) at) in
     λ i. map (λ (e : Entry). e.val) (below_rank t.sort (cond t.refine (rank_bound t.offset t.limit t.overrefine) None) (map (λ v. record { val = v; stats = stats v i }) (distinct (offers i))))

@@ -15,7 +15,8 @@ use Rattle.fc_spec.specs.replies.Reading.{offered}
 use Rattle.fc_spec.specs.messages.Message.{Way}
 use Rattle.fc_spec.specs.requests.Statistics.{Stats}
 use Rattle.fc_spec.specs.messages.Message.{Rows}
-use Rattle.fc_spec.specs.messages.Answer.{not_empty, partials_of, answer_keys, answer_domain, facet_at, nodes_in, way_spot}
+use Rattle.fc_spec.specs.messages.Target.{target_of, facet_at, nodes_in}
+use Rattle.fc_spec.specs.messages.Answer.{not_empty, partials_of, answer_keys, answer_domain}
 use Rattle.fc_spec.specs.messages.Held.{Told, find_key, held, listed_value, listed_values}
 use Rattle.fc_spec.specs.messages.Merged.{values_held}
 use Rattle.fc_spec.proofs.words.Members.{Member, passing_member}
@@ -63,23 +64,23 @@ offered_nothing t inner Y i e = ap (λ P. map (λ (w : Entry). w.val) (below_ran
 
 -- the values held of a terms facet are those that the shard offers in the domain
 pub values_are_offered : (r : Request) (W : World) (A : List Told) (way : Way) (n i : ℕ) (name : Text) (change : DomainChange) (t : Terms) (inner : Nodes) → AllByRecursion (IsTold r W) A → IsKnown r W A way i
-    → facet_at n (nodes_of r W way) ≡ Some (record { name = name; change = change; kind = terms t }, inner) → values_held n (held A i way) ≡ offered t inner (domain r W change (places_at r W way)) i
+    → facet_at n (nodes_of r way) ≡ Some (record { name = name; change = change; kind = terms t }, inner) → values_held n (held A i way) ≡ offered t inner (domain r W change (places_at r W way)) i
 values_are_offered r W A way n i name change t inner all (inl h) at =
-    ap (values_held n) (held_is r W A way i all h) ∙ ap listed_values (row_at-answer_rows r W i n (nodes_of r W way) (part i (places_at r W way)) ∙ ap (listed_for r W i (part i (places_at r W way))) at)
+    ap (values_held n) (held_is r W A way i all h) ∙ ap listed_values (row_at-answer_rows r W i n (nodes_of r way) (part i (places_at r W way)) ∙ ap (listed_for r W i (part i (places_at r W way))) at)
     ∙ listed_values-partials_of _ _ (answer_keys (terms t) inner Y i) ∙ key_values-answer_keys t inner Y i ∙ offered_local t inner Y (domain r W change (places_at r W way)) i (filter_twice (is_on (i ∷ [])) _ ∙ domain_local r W change (i ∷ []) (places_at r W way))
   where
     Y : List Place
     Y = answer_domain r W i (record { name = name; change = change; kind = terms t }) (part i (places_at r W way))
 values_are_offered r W A way n i name change t inner all (inr h) at =
-    let none = facet_excludes_none n (nodes_of r W way) (record { name = name; change = change; kind = terms t }) inner at h.2 in
+    let none = facet_excludes_none n (nodes_of r way) (record { name = name; change = change; kind = terms t }) inner at h.2 in
     ap (values_held n) h.0 ∙ sym (offered_nothing t inner (domain r W change (places_at r W way)) i (domain_of_nothing r W change (i ∷ []) (places_at r W way) none.0 h.1))
 
 -- a key that an answer lists has its bucket held
 pub listed_is_held : (r : Request) (W : World) (A : List Told) (way : Way) (n i : ℕ) (f : Facet) (inner : Nodes) (key : Key) → AllByRecursion (IsTold r W) A → is_some (held A i way) ≡ true
-    → facet_at n (nodes_of r W way) ≡ Some (f, inner) → Member key (answer_keys f.kind inner (answer_domain r W i f (part i (places_at r W way))) i) → is_some (held A i (way ++ step_to n key)) ≡ true
+    → facet_at n (nodes_of r way) ≡ Some (f, inner) → Member key (answer_keys f.kind inner (answer_domain r W i f (part i (places_at r W way))) i) → is_some (held A i (way ++ step_to n key)) ≡ true
 listed_is_held r W A way n i f inner key all h at m =
-    held_below A i way n key (answer_at r W i (way_spot r W way)) (held_is r W A way i all h)
-    (ap (λ ps. is_some (find_key (nodes_in (facet_at n (nodes_of r W way))) key ps)) (row_at-answer_rows r W i n (nodes_of r W way) (part i (places_at r W way)) ∙ ap (listed_for r W i (part i (places_at r W way))) at)
+    held_below A i way n key (answer_at r W i (target_of r.nodes way)) (held_is r W A way i all h)
+    (ap (λ ps. is_some (find_key (nodes_in (facet_at n (nodes_of r way))) key ps)) (row_at-answer_rows r W i n (nodes_of r way) (part i (places_at r W way)) ∙ ap (listed_for r W i (part i (places_at r W way))) at)
     ∙ find_key-member _ _ _ (answer_keys f.kind inner (answer_domain r W i f (part i (places_at r W way))) i) key m)
 
 member_value : (v : Val) (vs : List Val) (rest : List Key) → has_val v vs ≡ true → Member (value v) (map value vs ++ rest)
@@ -92,7 +93,7 @@ member_value v vs rest h = let r = passing_member (same_val v) vs h in go vs (su
 
 -- an offered value's bucket is held
 pub offered_is_held : (r : Request) (W : World) (A : List Told) (way : Way) (n i : ℕ) (name : Text) (change : DomainChange) (t : Terms) (inner : Nodes) (v : Val) → AllByRecursion (IsTold r W) A → IsKnown r W A way i
-    → facet_at n (nodes_of r W way) ≡ Some (record { name = name; change = change; kind = terms t }, inner) → has_val v (values_held n (held A i way)) ≡ true → is_some (held A i (way ++ step_to n (value v))) ≡ true
+    → facet_at n (nodes_of r way) ≡ Some (record { name = name; change = change; kind = terms t }, inner) → has_val v (values_held n (held A i way)) ≡ true → is_some (held A i (way ++ step_to n (value v))) ≡ true
 offered_is_held r W A way n i name change t inner v all (inl h) at has =
     listed_is_held r W A way n i (record { name = name; change = change; kind = terms t }) inner (value v) all h at (member_value v (offered t inner Y i) (not_empty (terms t) Y (asked t.missing missing)) (ap (has_val v) (sym offers) ∙ has))
   where
@@ -101,6 +102,6 @@ offered_is_held r W A way n i name change t inner v all (inl h) at has =
 
     offers : values_held n (held A i way) ≡ offered t inner Y i
     offers =
-        ap (values_held n) (held_is r W A way i all h) ∙ ap listed_values (row_at-answer_rows r W i n (nodes_of r W way) (part i (places_at r W way)) ∙ ap (listed_for r W i (part i (places_at r W way))) at)
+        ap (values_held n) (held_is r W A way i all h) ∙ ap listed_values (row_at-answer_rows r W i n (nodes_of r way) (part i (places_at r W way)) ∙ ap (listed_for r W i (part i (places_at r W way))) at)
         ∙ listed_values-partials_of _ _ (answer_keys (terms t) inner Y i) ∙ key_values-answer_keys t inner Y i
 offered_is_held r W A way n i name change t inner v all (inr h) at has = absurd (false≢true (sym (ap (λ o. has_val v (values_held n o)) h.0) ∙ has))

@@ -8,16 +8,18 @@ use Rattle.fc_spec.specs.documents.Document.{Document, Block}
 use Rattle.fc_spec.specs.words.Lists.{is_empty}
 use Rattle.fc_spec.specs.queries.Matching.{matches}
 use Rattle.fc_spec.specs.documents.World.{World, Place, places, places_from, shard_places, block_places, on_shards, same_block}
-use Rattle.fc_spec.specs.requests.Request.{Stat, Request, BlockStep, stay, parents, children, DomainChange, Kind, terms, range, query, Facet, Nodes, no_nodes, statistic, facet, stats_of}
-use Rattle.fc_spec.specs.requests.Base.{base, meets_base, root_domain}
+use Rattle.fc_spec.specs.requests.Request.{Stat, Request, BlockStep, stay, parents, children, DomainChange, Kind, terms, range, query, Nodes, no_nodes, statistic, facet, stats_of}
+use Rattle.fc_spec.specs.requests.Base.{base, meets_base}
 use Rattle.fc_spec.specs.requests.Domain.{domain, moved, filtered, is_parent_of}
 use Rattle.fc_spec.specs.requests.Buckets.{Key, value, missing, whole, in_bucket, bucket_places}
+use Rattle.fc_spec.specs.requests.Paths.{Path, at_root, into, path_places}
 use Rattle.fc_spec.specs.requests.Statistics.{stats_over}
 use Rattle.fc_spec.specs.replies.Printed.{asked, range_keys}
 use Rattle.fc_spec.specs.requests.Ranks.{below_rank, rank_bound}
 use Rattle.fc_spec.specs.replies.Values.{entries_in}
 use Rattle.fc_spec.specs.messages.Message.{Partials, no_partials, partial, row, Way, Want, way_of, Ask, first, more}
-use Rattle.fc_spec.specs.messages.Answer.{not_empty, partials_of, answer_keys, answer_domain, answer_rows, facet_at, Spot, spot_in, spot_at, way_spot, answer_bucket, answer_wants, answer}
+use Rattle.fc_spec.specs.messages.Target.{Target, leads_nowhere, leads_to, target_nodes, target_places, target_of}
+use Rattle.fc_spec.specs.messages.Answer.{not_empty, partials_of, answer_keys, answer_domain, answer_rows, answer_bucket, answer_wants, answer}
 use Rattle.fc_spec.specs.laws.ShardAlone.{AnswersFromItsBlocks}
 use Rattle.fc_spec.proofs.words.MappedLists.{filter-map, list_any-map}
 use Rattle.fc_spec.proofs.documents.Shards.{is_on, every_on_shards}
@@ -191,34 +193,26 @@ rows_alike r V W i j (facet f inner rest) X Y same alike =
     ∙ (λ m. partials_of (λ k. bucket_stats_put j f.kind (stats_of inner) D k m) (λ k. insides k m) (keys_put i j f.kind inner D put_alike m)) in
     λ m. row (first m) (rows_alike r V W i j rest X Y same alike m)
 
--- two spots with the same nodes, whose parts are alike
-abbrev pub AlikeSpots : ℕ → ℕ → Spot → Spot → Type 0
-AlikeSpots i j s t = (s.nodes ≡ t.nodes) × Alike i j s.places t.places
+-- the places of a path are alike, and so are those where a way leads
+path_alike : (r : Request) (V W : World) (i j : ℕ) (path : Path) → SameAt i j V W → Alike i j (path_places r V path) (path_places r W path)
+path_alike r V W i j at_root same = documents_alike i j (λ p. meets_base r [] p.document) (places V) (places W) (λ p. refl) same
+path_alike r V W i j (into path f key) same =
+    documents_alike i j (λ p. in_bucket f.kind key p.document) (domain r V f.change (path_places r V path)) (domain r W f.change (path_places r W path)) (λ p. refl)
+    (domain_alike r V W i j f.change (path_places r V path) (path_places r W path) same (path_alike r V W i j path same))
 
-spot_in_alike : (r : Request) (V W : World) (i j : ℕ) (key : Key) (X Y : List Place) (f : Option (Facet × Nodes)) → SameAt i j V W → Alike i j X Y → AlikeSpots i j (spot_in r V key X f) (spot_in r W key Y f)
-spot_in_alike r V W i j key X Y None same alike = (refl, refl)
-spot_in_alike r V W i j key X Y (Some f) same alike =
-    (refl, documents_alike i j (λ p. in_bucket (f.0).kind key p.document) (domain r V (f.0).change X) (domain r W (f.0).change Y) (λ p. refl) (domain_alike r V W i j (f.0).change X Y same alike))
-
-spot_alike : (r : Request) (V W : World) (i j : ℕ) (way : Way) (s t : Spot) → SameAt i j V W → AlikeSpots i j s t → AlikeSpots i j (spot_at r V way s) (spot_at r W way t)
-spot_alike r V W i j [] s t same alike = alike
-spot_alike r V W i j (step ∷ way) s t same alike =
-    spot_alike r V W i j way (spot_in r V step.key s.places (facet_at step.node s.nodes)) (spot_in r W step.key t.places (facet_at step.node t.nodes)) same
-    (subst (λ nodes. AlikeSpots i j (spot_in r V step.key s.places (facet_at step.node s.nodes)) (spot_in r W step.key t.places (facet_at step.node nodes))) alike.0 (spot_in_alike r V W i j step.key s.places t.places (facet_at step.node s.nodes) same alike.1))
-
-way_alike : (r : Request) (V W : World) (i j : ℕ) (way : Way) → SameAt i j V W → AlikeSpots i j (way_spot r V way) (way_spot r W way)
-way_alike r V W i j way same =
-    spot_alike r V W i j way (record { nodes = r.nodes; places = root_domain r V }) (record { nodes = r.nodes; places = root_domain r W }) same
-    (refl, documents_alike i j (λ p. meets_base r [] p.document) (places V) (places W) (λ p. refl) same)
+target_alike : (r : Request) (V W : World) (i j : ℕ) (t : Target) → SameAt i j V W → Alike i j (target_places r V t) (target_places r W t)
+target_alike r V W i j leads_nowhere same = refl
+target_alike r V W i j (leads_to path nodes) same = path_alike r V W i j path same
 
 bucket_alike : (r : Request) (V W : World) (i j : ℕ) (way : Way) (key : Key) (rest other : Partials) → SameAt i j V W → rest ≡ other → answer_bucket r W j way key rest ≡ answer_bucket r V i way key other
 bucket_alike r V W i j way key rest other same e =
-    let s = way_spot r V way in
-    let t = way_spot r W way in
-    let alike : AlikeSpots i j s t = way_alike r V W i j way same in
-    let stats = ap (stats_over (stats_of s.nodes)) (alike.1) ∙ stats_renumbered (to_shard j) (stats_of s.nodes) (part i s.places) in
-    let rows = rows_alike r V W i j s.nodes (part i s.places) (part j t.places) same (part_alike i j s.places t.places (alike.1)) in
-    ap (λ nodes. partial key (stats_over (stats_of nodes) (part j t.places)) (answer_rows r W j nodes (part j t.places)) rest) (sym (alike.0)) ∙ (λ m. partial key (stats m) (rows m) (e m))
+    let t = target_of r.nodes way in
+    let X = target_places r V t in
+    let Y = target_places r W t in
+    let alike : Alike i j X Y = target_alike r V W i j t same in
+    let stats = ap (stats_over (stats_of (target_nodes t))) alike ∙ stats_renumbered (to_shard j) (stats_of (target_nodes t)) (part i X) in
+    let rows = rows_alike r V W i j (target_nodes t) (part i X) (part j Y) same (part_alike i j X Y alike) in
+    λ m. partial key (stats m) (rows m) (e m)
 
 wants_alike : (r : Request) (V W : World) (i j : ℕ) (ws : List Want) → SameAt i j V W → answer_wants r W j ws ≡ answer_wants r V i ws
 wants_alike r V W i j [] same = refl

@@ -11,7 +11,7 @@ use Rattle.fc_spec.specs.replies.Reading.{over_places}
 use Rattle.fc_spec.specs.replies.Chosen.{offering, entry_on, chosen, known, chosen_entries}
 use Rattle.fc_spec.specs.replies.Distributed.{printed_keys, carried}
 use Rattle.fc_spec.specs.messages.Message.{Way}
-use Rattle.fc_spec.specs.messages.Answer.{facet_at}
+use Rattle.fc_spec.specs.messages.Target.{facet_at}
 use Rattle.fc_spec.specs.messages.Held.{Told}
 use Rattle.fc_spec.specs.messages.Merged.{NodeOf, over_held}
 use Rattle.fc_spec.proofs.words.Members.{Member, filter_member}
@@ -20,7 +20,7 @@ use Rattle.fc_spec.proofs.messages.HeldAnswers.{IsTold}
 use Rattle.fc_spec.proofs.messages.HeldFurther.{step_to}
 use Rattle.fc_spec.proofs.messages.KnownBuckets.{nodes_of}
 use Rattle.fc_spec.proofs.words.AlikeLists.{map_alike, member_append, member_map, member_flat_map}
-use Rattle.fc_spec.proofs.messages.NextBuckets.{IsState, AreAmong, next_spot, next_state, domain_there, stats_agree, offering_agrees, offering_among, chosen_agree}
+use Rattle.fc_spec.proofs.messages.NextBuckets.{IsState, AreAmong, next_nodes, next_state, domain_there, stats_agree, offering_agrees, offering_among, chosen_agree}
 use Rattle.fc_spec.proofs.messages.PrintedKnown.{other_keys, other_known, AreTold, value_bucket_known}
 
 -- the node where a facet stands
@@ -48,7 +48,7 @@ known_distinct r W t inner H Y v d = go t.refine
 
 -- the bucket of a chosen value, over its known shards
 value_state : (r : Request) (W : World) (A : List Told) (H : List ℕ) (way : Way) (X : List Place) (n : ℕ) (name : Text) (change : DomainChange) (t : Terms) (inner : Nodes) (v : Val) → AllByRecursion (IsTold r W) A → IsState r W A H way X
-    → facet_at n (nodes_of r W way) ≡ Some (record { name = name; change = change; kind = terms t }, inner) → FacetIsTold r W A H way X n change (terms t) inner → Member v (chosen (over_places r W) t inner H (domain_there r W H change X))
+    → facet_at n (nodes_of r way) ≡ Some (record { name = name; change = change; kind = terms t }, inner) → FacetIsTold r W A H way X n change (terms t) inner → Member v (chosen (over_places r W) t inner H (domain_there r W H change X))
     → IsState r W A (known (over_places r W) t inner H (domain_there r W H change X) v) (way ++ step_to n (value v)) (bucket_places (terms t) (value v) (domain_there r W H change X))
 value_state r W A H way X n name change t inner v all state at told m =
     let Y = domain_there r W H change X in
@@ -56,12 +56,12 @@ value_state r W A H way X n name change t inner v all state at told m =
     (λ i here. value_bucket_known r W A H way X n name change t inner (chosen (over_places r W) t inner H Y) v i all state at told m here)
 
 known_agrees : (r : Request) (W : World) (A : List Told) (H : List ℕ) (way : Way) (X : List Place) (n : ℕ) (name : Text) (change : DomainChange) (t : Terms) (inner : Nodes) (v : Val) → AllByRecursion (IsTold r W) A → IsState r W A H way X
-    → facet_at n (nodes_of r W way) ≡ Some (record { name = name; change = change; kind = terms t }, inner) → known (over_held A) t inner H (node_at way n) v ≡ known (over_places r W) t inner H (domain_there r W H change X) v
+    → facet_at n (nodes_of r way) ≡ Some (record { name = name; change = change; kind = terms t }, inner) → known (over_held A) t inner H (node_at way n) v ≡ known (over_places r W) t inner H (domain_there r W H change X) v
 known_agrees r W A H way X n name change t inner v all state at = ap (cond t.refine H) (offering_agrees r W A H way X n name change t inner v all state at)
 
 -- the chosen values with their statistics
 chosen_entries_agree : (r : Request) (W : World) (A : List Told) (H : List ℕ) (way : Way) (X : List Place) (n : ℕ) (name : Text) (change : DomainChange) (t : Terms) (inner : Nodes) → AllByRecursion (IsTold r W) A → IsState r W A H way X
-    → facet_at n (nodes_of r W way) ≡ Some (record { name = name; change = change; kind = terms t }, inner) → FacetIsTold r W A H way X n change (terms t) inner
+    → facet_at n (nodes_of r way) ≡ Some (record { name = name; change = change; kind = terms t }, inner) → FacetIsTold r W A H way X n change (terms t) inner
     → chosen_entries (over_held A) t inner H (node_at way n) ≡ chosen_entries (over_places r W) t inner H (domain_there r W H change X)
 chosen_entries_agree r W A H way X n name change t inner all state at told =
     let Y = domain_there r W H change X in
@@ -71,11 +71,11 @@ chosen_entries_agree r W A H way X n name change t inner all state at told =
     (λ v m.
     ap (λ K. entry_on (over_held A) t inner H (node_at way n) K v) (known_agrees r W A H way X n name change t inner v all state at)
     ∙ ap (λ st. record { val = v; stats = st }) (stats_agree r W A (known (over_places r W) t inner H Y v) (way ++ step_to n (value v)) (bucket_places (terms t) (value v) Y) inner all
-    (value_state r W A H way X n name change t inner v all state at told m) (ap (λ s. s.nodes) (next_spot r W way n f inner (value v) at))))
+    (value_state r W A H way X n name change t inner v all state at told m) (next_nodes r way n f inner (value v) at)))
 
 -- the printed keys
 pub keys_agree : (r : Request) (W : World) (A : List Told) (H : List ℕ) (way : Way) (X : List Place) (n : ℕ) (name : Text) (change : DomainChange) (kind : Kind) (inner : Nodes) → AllByRecursion (IsTold r W) A → IsState r W A H way X
-    → facet_at n (nodes_of r W way) ≡ Some (record { name = name; change = change; kind = kind }, inner) → FacetIsTold r W A H way X n change kind inner
+    → facet_at n (nodes_of r way) ≡ Some (record { name = name; change = change; kind = kind }, inner) → FacetIsTold r W A H way X n change kind inner
     → printed_keys (over_held A) kind inner H (node_at way n) ≡ printed_keys (over_places r W) kind inner H (domain_there r W H change X)
 keys_agree r W A H way X n name change (terms t) inner all state at told = ap (terms_keys t) (chosen_entries_agree r W A H way X n name change t inner all state at told)
 keys_agree r W A H way X n name change (range g) inner all state at told = refl
@@ -83,7 +83,7 @@ keys_agree r W A H way X n name change (query q) inner all state at told = refl
 
 -- the shards that the bucket of a key carries
 pub carried_agree : (r : Request) (W : World) (A : List Told) (H : List ℕ) (way : Way) (X : List Place) (n : ℕ) (name : Text) (change : DomainChange) (kind : Kind) (inner : Nodes) (key : Key) → AllByRecursion (IsTold r W) A → IsState r W A H way X
-    → facet_at n (nodes_of r W way) ≡ Some (record { name = name; change = change; kind = kind }, inner) → carried (over_held A) kind inner H (node_at way n) key ≡ carried (over_places r W) kind inner H (domain_there r W H change X) key
+    → facet_at n (nodes_of r way) ≡ Some (record { name = name; change = change; kind = kind }, inner) → carried (over_held A) kind inner H (node_at way n) key ≡ carried (over_places r W) kind inner H (domain_there r W H change X) key
 carried_agree r W A H way X n name change (terms t) inner (value v) all state at = known_agrees r W A H way X n name change t inner v all state at
 carried_agree r W A H way X n name change _ inner _ all state at = refl
 
@@ -107,13 +107,13 @@ asked_is false k key m = absurd m
 
 -- the bucket of another key than a value, over the shards of the bucket around it
 other_state : (r : Request) (W : World) (A : List Told) (H : List ℕ) (way : Way) (X : List Place) (n : ℕ) (f : Facet) (inner : Nodes) (key : Key) → AllByRecursion (IsTold r W) A → IsState r W A H way X
-    → facet_at n (nodes_of r W way) ≡ Some (f, inner) → Member key (other_keys f.kind) → IsState r W A H (way ++ step_to n key) (bucket_places f.kind key (domain_there r W H f.change X))
+    → facet_at n (nodes_of r way) ≡ Some (f, inner) → Member key (other_keys f.kind) → IsState r W A H (way ++ step_to n key) (bucket_places f.kind key (domain_there r W H f.change X))
 other_state r W A H way X n f inner key all state at m =
     next_state r W A H H way X n f inner key state (λ i here. here) state.distinct at (λ i here. other_known r W A H way X n f inner key i all state at m here)
 
 -- the bucket of a printed key, over the shards that it carries
 pub printed_state : (r : Request) (W : World) (A : List Told) (H : List ℕ) (way : Way) (X : List Place) (n : ℕ) (name : Text) (change : DomainChange) (kind : Kind) (inner : Nodes) (key : Key) → AllByRecursion (IsTold r W) A → IsState r W A H way X
-    → facet_at n (nodes_of r W way) ≡ Some (record { name = name; change = change; kind = kind }, inner) → FacetIsTold r W A H way X n change kind inner → Member key (printed_keys (over_places r W) kind inner H (domain_there r W H change X))
+    → facet_at n (nodes_of r way) ≡ Some (record { name = name; change = change; kind = kind }, inner) → FacetIsTold r W A H way X n change kind inner → Member key (printed_keys (over_places r W) kind inner H (domain_there r W H change X))
     → IsState r W A (carried (over_places r W) kind inner H (domain_there r W H change X) key) (way ++ step_to n key) (bucket_places kind key (domain_there r W H change X))
 printed_state r W A H way X n name change (terms t) inner key all state at told m =
     let Y = domain_there r W H change X in

@@ -13,7 +13,8 @@ use Rattle.fc_spec.specs.replies.Values.{value_places, values_in}
 use Rattle.fc_spec.specs.replies.Reading.{offered, over_places}
 use Rattle.fc_spec.specs.replies.Chosen.{offering, known}
 use Rattle.fc_spec.specs.messages.Message.{Way}
-use Rattle.fc_spec.specs.messages.Answer.{not_empty, answer_keys, answer_domain, facet_at}
+use Rattle.fc_spec.specs.messages.Target.{facet_at}
+use Rattle.fc_spec.specs.messages.Answer.{not_empty, answer_keys, answer_domain}
 use Rattle.fc_spec.specs.messages.Held.{HeldBucket, Told, held}
 use Rattle.fc_spec.specs.requests.Shape.{no_exclusions, asks_again}
 use Rattle.fc_spec.proofs.words.Members.{Member, filter_member, member_of_filter}
@@ -24,10 +25,10 @@ use Rattle.fc_spec.proofs.messages.HeldAnswers.{part, IsTold, part_of_bucket}
 use Rattle.fc_spec.proofs.messages.HeldFurther.{step_to}
 use Rattle.fc_spec.proofs.messages.KnownBuckets.{places_at, nodes_of, IsKnown, facet_excludes_none}
 use Rattle.fc_spec.proofs.messages.OfferedHeld.{listed_is_held, offered_is_held}
-use Rattle.fc_spec.proofs.messages.NextBuckets.{IsState, next_spot, inner_none, domain_there, part_there, offers_agree}
+use Rattle.fc_spec.proofs.messages.NextBuckets.{IsState, next_nodes, next_bucket, inner_none, domain_there, part_there, offers_agree}
 
 -- what is not held has no place, so it is known
-pub known_by_absence : (r : Request) (W : World) (A : List Told) (way : Way) (i : ℕ) → no_exclusions (nodes_of r W way) ≡ true → (held A i way ≡ None → part i (places_at r W way) ≡ []) → IsKnown r W A way i
+pub known_by_absence : (r : Request) (W : World) (A : List Told) (way : Way) (i : ℕ) → no_exclusions (nodes_of r way) ≡ true → (held A i way ≡ None → part i (places_at r W way) ≡ []) → IsKnown r W A way i
 known_by_absence r W A way i none absent = go (held A i way) refl
   where
     go : (o : Option HeldBucket) → held A i way ≡ o → IsKnown r W A way i
@@ -66,17 +67,17 @@ listed_or_empty (range g) inner Y i key m = go (is_empty (bucket_places (range g
 listed_or_empty (query q) inner Y i key m = inl m
 
 -- a shard without a place in the bucket around has none in the bucket of a key
-nothing_inside : (r : Request) (W : World) (A : List Told) (way : Way) (n i : ℕ) (f : Facet) (inner : Nodes) (key : Key) → part i (places_at r W way) ≡ [] → no_exclusions (nodes_of r W way) ≡ true → facet_at n (nodes_of r W way) ≡ Some (f, inner)
+nothing_inside : (r : Request) (W : World) (A : List Told) (way : Way) (n i : ℕ) (f : Facet) (inner : Nodes) (key : Key) → part i (places_at r W way) ≡ [] → no_exclusions (nodes_of r way) ≡ true → facet_at n (nodes_of r way) ≡ Some (f, inner)
     → part i (places_at r W (way ++ step_to n key)) ≡ []
 nothing_inside r W A way n i f inner key empty none at =
-    ap (λ s. part i s.places) (next_spot r W way n f inner key at) ∙ bucket_local f.kind key (i ∷ []) (domain r W f.change (places_at r W way))
-    ∙ ap (bucket_places f.kind key) (domain_of_nothing r W f.change (i ∷ []) (places_at r W way) (facet_excludes_none n (nodes_of r W way) f inner at none).0 empty)
+    ap (part i) (next_bucket r W way n f inner key at) ∙ bucket_local f.kind key (i ∷ []) (domain r W f.change (places_at r W way))
+    ∙ ap (bucket_places f.kind key) (domain_of_nothing r W f.change (i ∷ []) (places_at r W way) (facet_excludes_none n (nodes_of r way) f inner at none).0 empty)
 
 -- the bucket of another key than a value is known at every shard
 pub other_known : (r : Request) (W : World) (A : List Told) (H : List ℕ) (way : Way) (X : List Place) (n : ℕ) (f : Facet) (inner : Nodes) (key : Key) (i : ℕ) → AllByRecursion (IsTold r W) A → IsState r W A H way X
-    → facet_at n (nodes_of r W way) ≡ Some (f, inner) → Member key (other_keys f.kind) → Member i H → IsKnown r W A (way ++ step_to n key) i
+    → facet_at n (nodes_of r way) ≡ Some (f, inner) → Member key (other_keys f.kind) → Member i H → IsKnown r W A (way ++ step_to n key) i
 other_known r W A H way X n f inner key i all state at m here =
-    known_by_absence r W A (way ++ step_to n key) i (ap (λ s. no_exclusions s.nodes) (next_spot r W way n f inner key at) ∙ inner_none r W A H way X n f inner state at) (absent (state.known i here))
+    known_by_absence r W A (way ++ step_to n key) i (ap no_exclusions (next_nodes r way n f inner key at) ∙ inner_none r W A H way X n f inner state at) (absent (state.known i here))
   where
     Y : List Place
     Y = answer_domain r W i f (part i (places_at r W way))
@@ -86,7 +87,7 @@ other_known r W A H way X n f inner key i all state at m here =
     absent (inl there) e =
         elim (listed_or_empty f.kind inner Y i key m) [
           | inl listed ↦ absurd (none_held (held A i (way ++ step_to n key)) e (listed_is_held r W A way n i f inner key all there at listed))
-          | inr empty ↦ ap (λ s. part i s.places) (next_spot r W way n f inner key at) ∙ sym (part_of_bucket r W i f key (places_at r W way)) ∙ nothing_is_empty (bucket_places f.kind key Y) empty
+          | inr empty ↦ ap (part i) (next_bucket r W way n f inner key at) ∙ sym (part_of_bucket r W i f key (places_at r W way)) ∙ nothing_is_empty (bucket_places f.kind key Y) empty
         ]
 
 -- of a chosen value of a terms facet that asks again every shard has told
@@ -95,7 +96,7 @@ AreTold A H way n t vs = asks_again t ≡ true → (v : Val) → Member v vs →
 
 -- the bucket of a chosen value is known at its known shards
 pub value_bucket_known : (r : Request) (W : World) (A : List Told) (H : List ℕ) (way : Way) (X : List Place) (n : ℕ) (name : Text) (change : DomainChange) (t : Terms) (inner : Nodes) (vs : List Val) (v : Val) (i : ℕ) → AllByRecursion (IsTold r W) A → IsState r W A H way X
-    → facet_at n (nodes_of r W way) ≡ Some (record { name = name; change = change; kind = terms t }, inner) → AreTold A H way n t vs → Member v vs → Member i (known (over_places r W) t inner H (domain_there r W H change X) v)
+    → facet_at n (nodes_of r way) ≡ Some (record { name = name; change = change; kind = terms t }, inner) → AreTold A H way n t vs → Member v vs → Member i (known (over_places r W) t inner H (domain_there r W H change X) v)
     → IsKnown r W A (way ++ step_to n (value v)) i
 value_bucket_known r W A H way X n name change t inner vs v i all state at told m here = by_refine t.refine refl here
   where
@@ -111,7 +112,7 @@ value_bucket_known r W A H way X n name change t inner vs v i all state at told 
     -- without a limit a shard that holds nothing of the value has no place of it
     no_place : t.limit ≡ None → Member i H → held A i (way ++ step_to n (value v)) ≡ None → part i (places_at r W (way ++ step_to n (value v))) ≡ []
     no_place unlimited at_H e =
-        ap (λ s. part i s.places) (next_spot r W way n f inner (value v) at) ∙ bucket_local (terms t) (value v) (i ∷ []) D
+        ap (part i) (next_bucket r W way n f inner (value v) at) ∙ bucket_local (terms t) (value v) (i ∷ []) D
         ∙ nothing_is_empty (value_places t v (part i D)) (none_found (has_val v (offered t inner Y i)) refl)
       where
         D : List Place
@@ -127,7 +128,7 @@ value_bucket_known r W A H way X n name change t inner vs v i all state at told 
         none_found false offers = not-false (is_empty (value_places t v (part i D))) (found_is ∙ offers)
 
     by_limit : t.refine ≡ true → Member i H → (o : Option ℕ) → t.limit ≡ o → IsKnown r W A (way ++ step_to n (value v)) i
-    by_limit refines at_H None e = known_by_absence r W A (way ++ step_to n (value v)) i (ap (λ s. no_exclusions s.nodes) (next_spot r W way n f inner (value v) at) ∙ inner_none r W A H way X n f inner state at) (no_place e at_H)
+    by_limit refines at_H None e = known_by_absence r W A (way ++ step_to n (value v)) i (ap no_exclusions (next_nodes r way n f inner (value v) at) ∙ inner_none r W A H way X n f inner state at) (no_place e at_H)
     by_limit refines at_H (Some k) e = inl (told (and_from t.refine (is_some t.limit) refines (ap is_some e)) v m i at_H)
 
     by_refine : (b : Bool) → t.refine ≡ b → Member i (cond b H (offering (over_places r W) t inner H Y v)) → IsKnown r W A (way ++ step_to n (value v)) i

@@ -7,7 +7,8 @@ use Rattle.fc_spec.specs.documents.World.{World}
 use Rattle.fc_spec.specs.requests.Request.{Request}
 use Rattle.fc_spec.specs.requests.Shape.{outermost_exclusions}
 use Rattle.fc_spec.specs.messages.Message.{first, more}
-use Rattle.fc_spec.specs.messages.Answer.{answer, way_spot}
+use Rattle.fc_spec.specs.messages.Target.{target_of}
+use Rattle.fc_spec.specs.messages.Answer.{answer}
 use Rattle.fc_spec.specs.messages.Held.{Told, held, told_by}
 use Rattle.fc_spec.specs.messages.Lacks.{Lack, lacks, terms_depth}
 use Rattle.fc_spec.specs.messages.Rounds.{SentMessage, told_in, next_lacks, wants_of, sent_by, first_round, later_round, rounds_from, search_rounds}
@@ -80,7 +81,7 @@ first_answers r W (i ∷ is) = (refl, first_answers r W is)
 -- each shard that is asked first tells of its root
 first_roots : (r : Request) (W : World) (is : List ℕ) (i : ℕ) → Member i is → is_some (held (told_in r.nodes (map (λ j. sent_by r W 1 j first) is)) i []) ≡ true
 first_roots r W [] i m = absurd m
-first_roots r W (j ∷ is) i (inl e) = subst (λ k. is_some (held (told_in r.nodes (map (λ j. sent_by r W 1 j first) (j ∷ is))) k []) ≡ true) (sym e) (told_held (record { shard = j; way = []; bucket = answer_at r W j (way_spot r W []) }) (told_in r.nodes (map (λ j. sent_by r W 1 j first) is)))
+first_roots r W (j ∷ is) i (inl e) = subst (λ k. is_some (held (told_in r.nodes (map (λ j. sent_by r W 1 j first) (j ∷ is))) k []) ≡ true) (sym e) (told_held (record { shard = j; way = []; bucket = answer_at r W j (target_of r.nodes []) }) (told_in r.nodes (map (λ j. sent_by r W 1 j first) is)))
 first_roots r W (j ∷ is) i (inr m) = held_among_later (told_by r.nodes j first (answer r W j first)) (told_in r.nodes (map (λ j. sent_by r W 1 j first) is)) i [] (first_roots r W is i m)
 
 number_is_below : (n a i : ℕ) → a ≤ i → i < a + n → Member i (range_with_len a n)

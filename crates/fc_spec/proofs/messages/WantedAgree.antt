@@ -9,7 +9,7 @@ use Rattle.fc_spec.specs.requests.Buckets.{value, bucket_places}
 use Rattle.fc_spec.specs.replies.Reading.{over_places}
 use Rattle.fc_spec.specs.replies.Distributed.{printed_keys, carried}
 use Rattle.fc_spec.specs.messages.Message.{Way, way_of}
-use Rattle.fc_spec.specs.messages.Answer.{facet_at}
+use Rattle.fc_spec.specs.messages.Target.{facet_at}
 use Rattle.fc_spec.specs.messages.Held.{Told, held}
 use Rattle.fc_spec.specs.messages.Merged.{count_held, over_held}
 use Rattle.fc_spec.specs.messages.Lacks.{Lack, want_of, each_of, wanted_at, facet_wanted, wanted}
@@ -19,7 +19,7 @@ use Rattle.fc_spec.proofs.messages.HeldAnswers.{IsTold}
 use Rattle.fc_spec.proofs.messages.HeldFurther.{step_to}
 use Rattle.fc_spec.proofs.messages.KnownBuckets.{nodes_of}
 use Rattle.fc_spec.proofs.words.AlikeLists.{flat_map_alike}
-use Rattle.fc_spec.proofs.messages.NextBuckets.{IsState, next_spot, domain_there, count_agrees, chosen_agree}
+use Rattle.fc_spec.proofs.messages.NextBuckets.{IsState, next_nodes, domain_there, count_agrees, chosen_agree}
 use Rattle.fc_spec.proofs.messages.PrintedAgree.{node_at, FacetIsTold, keys_agree, carried_agree, printed_state}
 use Rattle.fc_spec.proofs.messages.Merges.{AllTold, every_left, every_right, every_in, under_held, wanted_held, facet_told, AreFrom, from_start, facet_first, after_facet, after_statistic}
 
@@ -41,7 +41,7 @@ WantedInside r W A inner = (e : ℕ) (H : List ℕ) (way : Way) (X : List Place)
 
 -- under the buckets of a facet whose own chosen values are told of
 under_agrees : (r : Request) (W : World) (A : List Told) (H : List ℕ) (way : Way) (X : List Place) (n : ℕ) (name : Text) (change : DomainChange) (kind : Kind) (inner : Nodes) (e : ℕ) → AllByRecursion (IsTold r W) A → IsState r W A H way X
-    → facet_at n (nodes_of r W way) ≡ Some (record { name = name; change = change; kind = kind }, inner) → FacetIsTold r W A H way X n change kind inner
+    → facet_at n (nodes_of r way) ≡ Some (record { name = name; change = change; kind = kind }, inner) → FacetIsTold r W A H way X n change kind inner
     → ToldBelow A e (under_held A kind inner n H way) → WantedInside r W A inner → under_held A kind inner n H way e ≡ under_places r W kind inner n H (domain_there r W H change X) way e
 under_agrees r W A H way X n name change kind inner e all state at facet_is told inside =
     let f : Facet = record { name = name; change = change; kind = kind } in
@@ -53,14 +53,14 @@ under_agrees r W A H way X n name change kind inner e all state at facet_is told
     (λ k m. let shards = carried_agree r W A H way X n name change kind inner k all state at in
     ap (λ K. wanted (over_held A) e inner 0 K (way ++ step_to n k) (way ++ step_to n k)) shards
     ∙ inside e (carried (over_places r W) kind inner H Y k) (way ++ step_to n k) (bucket_places kind k Y) (printed_state r W A H way X n name change kind inner k all state at facet_is m)
-    (from_start r W (way ++ step_to n k) inner (ap (λ s. s.nodes) (next_spot r W way n f inner k at)))
+    (from_start r W (way ++ step_to n k) inner (next_nodes r way n f inner k at))
     (λ d less. subst (λ K. AllTold A (wanted (over_held A) d inner 0 K (way ++ step_to n k) (way ++ step_to n k))) shards
     (every_in (λ l. is_some (held A l.shard (way_of l.want))) (λ l. wanted (over_held A) d inner 0 (carried (over_held A) kind inner H (node_at way n) l) (way ++ step_to n l) (way ++ step_to n l)) (printed_keys (over_held A) kind inner H (node_at way n)) k
     (told d less) (subst (λ ks. Member k ks) (sym keys) m))))
 
 -- at a facet
 at_agrees : (r : Request) (W : World) (A : List Told) (H : List ℕ) (way : Way) (X : List Place) (n : ℕ) (name : Text) (change : DomainChange) (kind : Kind) (inner : Nodes) (e : ℕ) → AllByRecursion (IsTold r W) A → IsState r W A H way X
-    → facet_at n (nodes_of r W way) ≡ Some (record { name = name; change = change; kind = kind }, inner) → ToldBelow A e (wanted_held A kind inner n H way) → WantedInside r W A inner
+    → facet_at n (nodes_of r way) ≡ Some (record { name = name; change = change; kind = kind }, inner) → ToldBelow A e (wanted_held A kind inner n H way) → WantedInside r W A inner
     → wanted_held A kind inner n H way e ≡ wanted_there r W kind inner n H (domain_there r W H change X) way e
 at_agrees r W A H way X n name change (terms t) inner zero all state at told inside =
     ap (λ vs. cond (asks_again t) (flat_map (λ v. each_of H (want_of way n (value v))) vs) []) (chosen_agree r W A H way X n name change t inner all state at)

@@ -2,11 +2,9 @@
 use Rattle.std.proofs.Common.{◌≡◌, [], ◌∷◌, ◌++◌, Bool, true, false, cond, ◌&&◌, ◌==◌, Option, None, Some, refl, sym, ap}
 use Rattle.std.specs.Option.{option_and_then}
 use Rattle.std.proofs.lemmas.Bool.{and_parts, eqb-true}
-use Rattle.fc_spec.specs.documents.World.{World}
-use Rattle.fc_spec.specs.requests.Request.{Request}
 use Rattle.fc_spec.specs.messages.KeyOrder.{same_key}
 use Rattle.fc_spec.specs.messages.Message.{Way}
-use Rattle.fc_spec.specs.messages.Answer.{Spot, spot_at, spot_in, facet_at}
+use Rattle.fc_spec.specs.messages.Target.{Target, target_in, target_from, target_nodes, facet_at}
 use Rattle.fc_spec.specs.messages.Held.{HeldBucket, descend, behind, bucket_in}
 use Rattle.fc_spec.proofs.messages.Keys.{same_key_exact}
 
@@ -17,9 +15,9 @@ pub none_not_some : {A : Type 0} (a : A) → None ≡ Some a → ⊥
 none_not_some a e = cc
 
 -- one way behind another leads on from where that leads
-pub spot_at-append : (r : Request) (W : World) (way rest : Way) (s : Spot) → spot_at r W (way ++ rest) s ≡ spot_at r W rest (spot_at r W way s)
-spot_at-append r W [] rest s = refl
-spot_at-append r W (step ∷ way) rest s = spot_at-append r W way rest (spot_in r W step.key s.places (facet_at step.node s.nodes))
+pub target_from-append : (way rest : Way) (t : Target) → target_from t (way ++ rest) ≡ target_from (target_from t way) rest
+target_from-append [] rest t = refl
+target_from-append (step ∷ way) rest t = target_from-append way rest (target_in step.key t (facet_at step.node (target_nodes t)))
 
 pub descend-append : (way rest : Way) (b : HeldBucket) → descend (way ++ rest) b ≡ option_and_then (descend rest) (descend way b)
 descend-append [] rest b = refl

@@ -4,33 +4,33 @@ use Rattle.std.specs.Prelude.{codes, ◌==◌, unwrap_or}
 use Rattle.std.specs.List.{list_all, slice_split}
 use Rattle.std.proofs.lemmas.List.Elements.{All-nil, All-cons}
 use Rattle.std.proofs.lemmas.List.Sums.{AllPass-from_list_all}
-use Rattle.serde_json.specs.Data.{Data, null, boolean, number, string, array, object, Items, no_items, item, Members}
+use Rattle.serde_json.specs.Data.{Data, null, boolean, number, string, array, object, Members}
 use Rattle.serde_json.specs.Find.{get_member, as_object}
 use Rattle.fc_spec.specs.documents.Val.{Text}
 use Rattle.fc_spec.specs.words.Lists.{is_empty}
 use Rattle.fc_spec.specs.scripts.JsonObjects.{sole_member}
-use Rattle.fc_spec.specs.requests.RequestReading.{filter_fault, filter_read, filters_of, filters_in}
+use Rattle.fc_spec.specs.requests.RequestReading.{filter_fault, filter_read, filters_in}
 use Rattle.fc_spec.specs.documents.Schema.{Schema}
 use Rattle.fc_spec.specs.queries.Query.{Query}
 use Rattle.fc_spec.specs.queries.QueryTexts.{query_of}
 use Rattle.fc_spec.specs.queries.QueryFault.{QueryFault, shape, syntax, query as of_query}
 use Rattle.fc_spec.specs.queries.FilterReading.{is_tag, cut_at, past_front, tags_of, tagged, local_tags, text_filter, member_filter, object_filter, filter_parts, filter_with, filter_of}
 use Rattle.fc_spec.specs.requests.RequestFault.{bad_parameter, nested_exclude}
-use Rattle.fc_spec.specs.requests.RequestWalk.{query_fault, check_names, optional, text_in}
-use Rattle.fc_spec.specs.requests.DomainReading.{query_in, texts_in, tag_items, excluded, block_step, domain_filters, change_of, no_change, change_in}
+use Rattle.fc_spec.specs.requests.RequestWalk.{query_fault, check_names, said_or, text_in}
+use Rattle.fc_spec.specs.requests.DomainReading.{query_in, text_query, texts_in, tag_items, excluded, block_step, domain_filters, change_of, no_change, change_in}
 use Rattle.fc_spec.specs.queries.ValidQueries.{IsValidQuery}
 use Rattle.fc_spec.specs.requests.ValidRequests.{AreTags, IsValidFilter, IsValidStep, IsValidChange}
 use Rattle.fc_spec.specs.words.Walks.{◌>>=◌, unless}
 use Rattle.fc_spec.proofs.words.Present.{mapped}
 use Rattle.fc_spec.proofs.messages.PrintedKnown.{nothing_is_empty}
-use Rattle.fc_spec.proofs.words.ReadingWords.{going_on, whatever, seen, there, passed, if_there, all_of_each, or_right}
+use Rattle.fc_spec.proofs.words.ReadingWords.{going_on, whatever, seen, there, passed, if_there, all_of_each, or_right, all_of_items}
 use Rattle.fc_spec.proofs.queries.ValidTexts.{text_valid}
 
 pub query_in_valid : (s : Schema) (t : Text) → IfOk (query_in s t) (IsValidQuery s)
 query_in_valid s t = seen (IsValidQuery s) query_fault (query_of s t) (text_valid s t)
 
-pub query_from_text : (s : Schema) (d : Data) → IfOk (text_in d >>= query_in s) (IsValidQuery s)
-query_from_text s d = whatever (IsValidQuery s) (text_in d) (query_in s) (query_in_valid s)
+pub text_query_valid : (s : Schema) (d : Data) → IfOk (text_query s d) (IsValidQuery s)
+text_query_valid s d = whatever (IsValidQuery s) (text_in d) (query_in s) (query_in_valid s)
 
 -- ---- tags
 
@@ -53,8 +53,8 @@ excluded_valid outermost d =
 
 step_valid : (s : Schema) (to_parents to_children : Option Data) → IfOk (block_step s to_parents to_children) (IsValidStep s)
 step_valid s (Some p) (Some c) = tt
-step_valid s (Some p) None = whatever (IsValidStep s) (text_in p) _ (λ t. going_on (IsValidStep s) (IsValidQuery s) (query_in s t) _ (query_in_valid s t) (λ q h. h))
-step_valid s None (Some c) = whatever (IsValidStep s) (text_in c) _ (λ t. going_on (IsValidStep s) (IsValidQuery s) (query_in s t) _ (query_in_valid s t) (λ q h. h))
+step_valid s (Some p) None = going_on (IsValidStep s) (IsValidQuery s) (text_query s p) _ (text_query_valid s p) (λ q h. h)
+step_valid s None (Some c) = going_on (IsValidStep s) (IsValidQuery s) (text_query s c) _ (text_query_valid s c) (λ q h. h)
 step_valid s None None = tt
 
 domain_filters_valid : (s : Schema) (d : Data) → IfOk (domain_filters s d) (All (IsValidQuery s))
@@ -70,9 +70,9 @@ change_of_valid s outermost ms =
     let children_at = get_member (codes "blockChildren") ms in
     let filters_at = get_member (codes "filter") ms in
     whatever P (check_names (codes "excludeTags" ∷ codes "blockParent" ∷ codes "blockChildren" ∷ codes "filter" ∷ []) ms) _
-    (λ u. going_on P (AreExcluded outermost) (optional (excluded outermost) [] tags_at) _ (if_there (AreExcluded outermost) (excluded outermost) [] tags_at (no_tags outermost) (excluded_valid outermost))
+    (λ u. going_on P (AreExcluded outermost) (said_or (excluded outermost) [] tags_at) _ (if_there (AreExcluded outermost) (excluded outermost) [] tags_at (no_tags outermost) (excluded_valid outermost))
     (λ tags h. going_on P (IsValidStep s) (block_step s parents_at children_at) _ (step_valid s parents_at children_at)
-    (λ step k. going_on P (All (IsValidQuery s)) (optional (domain_filters s) [] filters_at) _ (if_there (All (IsValidQuery s)) (domain_filters s) [] filters_at (All-nil (IsValidQuery s)) (domain_filters_valid s))
+    (λ step k. going_on P (All (IsValidQuery s)) (said_or (domain_filters s) [] filters_at) _ (if_there (All (IsValidQuery s)) (domain_filters s) [] filters_at (All-nil (IsValidQuery s)) (domain_filters_valid s))
     (λ filters l. record { tags = h.tags; outermost = h.inside; step = k; filters = l }))))
 
 nothing_changes : (s : Schema) (outermost : Bool) → IsValidChange s outermost no_change
@@ -139,16 +139,11 @@ filter_valid s d = going_on (IsValidFilter s) PartsHaveTags (filter_parts d) _ (
 filter_read_valid : (s : Schema) (d : Data) → IfOk (filter_read s d) (IsValidFilter s)
 filter_read_valid s d = seen (IsValidFilter s) filter_fault (filter_of s d) (filter_valid s d)
 
-filters_of_valid : (s : Schema) (ds : Items) → IfOk (filters_of s ds) (All (IsValidFilter s))
-filters_of_valid s no_items = All-nil (IsValidFilter s)
-filters_of_valid s (item d ds) = going_on (All (IsValidFilter s)) (IsValidFilter s) (filter_read s d) _ (filter_read_valid s d)
-    (λ f h. going_on (All (IsValidFilter s)) (All (IsValidFilter s)) (filters_of s ds) _ (filters_of_valid s ds) (λ fs hs. All-cons (IsValidFilter s) f fs h hs))
-
 one_filter : (s : Schema) (d : Data) → IfOk (filter_read s d >>= (λ f. Ok (f ∷ []))) (All (IsValidFilter s))
 one_filter s d = going_on (All (IsValidFilter s)) (IsValidFilter s) (filter_read s d) _ (filter_read_valid s d) (λ f h. All-cons (IsValidFilter s) f [] h (All-nil (IsValidFilter s)))
 
 pub filters_in_valid : (s : Schema) (d : Data) → IfOk (filters_in s d) (All (IsValidFilter s))
-filters_in_valid s (array ds) = filters_of_valid s ds
+filters_in_valid s (array ds) = all_of_items (IsValidFilter s) (filter_read s) ds (filter_read_valid s)
 filters_in_valid s null = one_filter s null
 filters_in_valid s (boolean b) = one_filter s (boolean b)
 filters_in_valid s (number n) = one_filter s (number n)

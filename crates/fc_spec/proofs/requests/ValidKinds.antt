@@ -1,30 +1,29 @@
 -- The terms and range facets that are read are valid for the schema.
-use Rattle.std.proofs.Common.{◌≡◌, refl, ℕ, ◌<◌, ◌≤◌, ◌^◌, ℤ, pos, negsuc, [], length, Bool, true, false, cond, ◌&&◌, not, Option, None, Some, IfSome, IfOk, arith}
+use Rattle.std.proofs.Common.{◌≡◌, refl, ℕ, ◌<◌, ◌≤◌, ◌^◌, ℤ, pos, negsuc, [], length, Bool, true, false, cond, ◌&&◌, not, Option, None, Some, IfSome, IfOk, ok_or, arith}
 use Rattle.std.specs.Prelude.{codes, ◌≤ℤ◌, ◌<ℤ◌, int_lt, nat_lt, nat_le, unsigned_abs}
 use Rattle.std.proofs.lemmas.Bool.{leb-true, ltb-false}
 use Rattle.std.proofs.lemmas.Bool.Decides.{nat_tests}
 use Rattle.std.proofs.lemmas.Int.{ints}
-use Rattle.fc_spec.specs.requests.DomainReading.{query_in}
-use Rattle.fc_spec.specs.requests.RequestReading.{main_query}
+use Rattle.fc_spec.specs.requests.DomainReading.{text_query}
 use Rattle.serde_json.specs.Data.{Num, unsigned, negative, float, Data, null, boolean, number, string, array, object, Members}
 use Rattle.serde_json.specs.Find.{get_member, as_i64}
 use Rattle.fc_spec.specs.documents.Val.{Text}
 use Rattle.fc_spec.specs.documents.Schema.{Schema, field_named, holds_texts}
 use Rattle.fc_spec.specs.documents.IntegerTexts.{is_long}
-use Rattle.fc_spec.specs.requests.Request.{Sort, Nodes, Kind}
+use Rattle.fc_spec.specs.requests.Request.{Terms, Sort, Nodes, no_nodes, Kind}
 use Rattle.fc_spec.specs.requests.RequestFault.{unknown_field, bad_parameter, wrong_field_type, too_large, missing_parameter}
 use Rattle.fc_spec.specs.requests.RequestWalk.{required, optional, integer_in, whole_in, truth_in, text_in}
 use Rattle.fc_spec.specs.requests.Gaps.{gap_count, last_end}
 use Rattle.fc_spec.specs.requests.StatisticReading.{has_type}
-use Rattle.fc_spec.specs.requests.FacetReading.{TermsParts, field_in, up_to_a_million, limit_from, prefix_in, terms_parts, over_number, terms_of, words_in, other_words, include_words, range_of, range_parts, query_part}
+use Rattle.fc_spec.specs.requests.FacetReading.{field_in, up_to_a_million, limit_from, prefix_in, terms_parts, over_number, words_in, other_words, include_words, range_of, range_parts, query_part}
 use Rattle.fc_spec.specs.scripts.JsonValues.{is_number, HasNumbers, MembersHaveNumbers}
 use Rattle.fc_spec.specs.queries.ValidQueries.{IsValidQuery}
 use Rattle.fc_spec.specs.requests.ValidRequests.{IsFew, IsValidTerms, IsValidRange, IsValidKind}
 use Rattle.fc_spec.specs.words.Walks.{unless}
 use Rattle.fc_spec.proofs.scripts.JsonMembers.{member_numbers}
-use Rattle.fc_spec.proofs.words.ReadingWords.{going_on, whatever, there, passed, if_there}
+use Rattle.fc_spec.proofs.words.ReadingWords.{going_on, whatever, there, passed, needed, if_there}
 use Rattle.fc_spec.proofs.requests.ValidStatistics.{field_there, NamesItsStatistic}
-use Rattle.fc_spec.proofs.requests.ValidChanges.{query_in_valid, query_from_text}
+use Rattle.fc_spec.proofs.requests.ValidChanges.{text_query_valid}
 
 -- ---- fields
 
@@ -78,17 +77,6 @@ no_over (Some limit) n e = absurd cc
 
 -- ---- terms
 
--- all that a terms facet has but for its sort
-pub record AreValidParts (s : Schema) (p : TermsParts) : Type 0 where
-  field : p.field < length s.fields
-  offset : IsFew p.offset
-  limit : IfSome p.limit IsFew
-  mincount : 1 ≤ p.mincount
-  few : IsFew p.mincount
-  prefix : IfSome p.prefix (λ t. has_type s holds_texts p.field ≡ true)
-  overrequest : IsWithin (negsuc 0) (pos 1_000_000) p.overrequest
-  overrefine : IsWithin (negsuc 0) (pos 1_000_000) p.overrefine
-
 -- a prefix stands on texts
 IsPrefix : Schema → ℕ → Option Text → Type 0
 IsPrefix s field prefix = IfSome prefix (λ t. has_type s holds_texts field ≡ true)
@@ -97,36 +85,40 @@ prefix_in_valid : (s : Schema) (field : ℕ) (d : Data) → IfOk (prefix_in s fi
 unfolding IsPrefix
 prefix_in_valid s field d = whatever (IsPrefix s field) (text_in d) _ (λ t. going_on (IsPrefix s field) (λ u. has_type s holds_texts field ≡ true) (unless (has_type s holds_texts field) wrong_field_type) _ (passed (has_type s holds_texts field) wrong_field_type) (λ u e. e))
 
-up_to : (low default : ℤ) (o : Option Data) → IsWithin low (pos 1_000_000) default → IfOk (optional (up_to_a_million low) default o) (IsWithin low (pos 1_000_000))
-up_to low default o h = if_there (IsWithin low (pos 1_000_000)) (up_to_a_million low) default o h (within low (pos 1_000_000))
+up_to : (low default : ℤ) (name : Text) (ms : Members) → IsWithin low (pos 1_000_000) default → IfOk (optional name (up_to_a_million low) default ms) (IsWithin low (pos 1_000_000))
+up_to low default name ms h = if_there (IsWithin low (pos 1_000_000)) (up_to_a_million low) default (get_member name ms) h (within low (pos 1_000_000))
 
-pub parts_valid : (s : Schema) (ms : Members) → IfOk (terms_parts s ms) (AreValidParts s)
+-- valid by itself, as its sort stands
+pub parts_valid : (s : Schema) (ms : Members) → IfOk (terms_parts s ms) (IsValidTerms s no_nodes)
 unfolding IsPrefix
 parts_valid s ms =
-    let P = AreValidParts s in
-    whatever P (required (codes "field") ms) _ (λ named. going_on P (λ n. n < length s.fields) (field_in s named) _ (field_in_valid s named)
-    (λ field h. going_on P (IsWithin (pos 0) (pos 1_000_000)) (optional (up_to_a_million (pos 0)) (pos 0) (get_member (codes "offset") ms)) _ (up_to (pos 0) (pos 0) (get_member (codes "offset") ms) refl)
-    (λ offset o. going_on P (IsWithin (negsuc 0) (pos 1_000_000)) (optional (up_to_a_million (negsuc 0)) (pos 10) (get_member (codes "limit") ms)) _ (up_to (negsuc 0) (pos 10) (get_member (codes "limit") ms) refl)
-    (λ limit l. going_on P (IsWithin (pos 1) (pos 1_000_000)) (optional (up_to_a_million (pos 1)) (pos 1) (get_member (codes "mincount") ms)) _ (up_to (pos 1) (pos 1) (get_member (codes "mincount") ms) refl)
-    (λ mincount m. whatever P (optional truth_in false (get_member (codes "missing") ms)) _
-    (λ missing. going_on P (IsPrefix s field) (optional (prefix_in s field) None (get_member (codes "prefix") ms)) _ (if_there (IsPrefix s field) (prefix_in s field) None (get_member (codes "prefix") ms) tt (prefix_in_valid s field))
-    (λ prefix p. whatever P (optional truth_in false (get_member (codes "refine") ms)) _
-    (λ refine. going_on P (IsWithin (negsuc 0) (pos 1_000_000)) (optional (up_to_a_million (negsuc 0)) (negsuc 0) (get_member (codes "overrequest") ms)) _ (up_to (negsuc 0) (negsuc 0) (get_member (codes "overrequest") ms) refl)
-    (λ overrequest a. going_on P (IsWithin (negsuc 0) (pos 1_000_000)) (optional (up_to_a_million (negsuc 0)) (negsuc 0) (get_member (codes "overrefine") ms)) _ (up_to (negsuc 0) (negsuc 0) (get_member (codes "overrefine") ms) refl)
-    (λ overrefine b. whatever P (optional text_in [] (get_member (codes "method") ms)) _
+    let P = IsValidTerms s no_nodes in
+    going_on P (λ n. n < length s.fields) (required (codes "field") (field_in s) ms) _ (needed (λ n. n < length s.fields) (codes "field") (field_in s) ms (field_in_valid s))
+    (λ field h. going_on P (IsWithin (pos 0) (pos 1_000_000)) (optional (codes "offset") (up_to_a_million (pos 0)) (pos 0) ms) _ (up_to (pos 0) (pos 0) (codes "offset") ms refl)
+    (λ offset o. going_on P (IsWithin (negsuc 0) (pos 1_000_000)) (optional (codes "limit") (up_to_a_million (negsuc 0)) (pos 10) ms) _ (up_to (negsuc 0) (pos 10) (codes "limit") ms refl)
+    (λ limit l. going_on P (IsWithin (pos 1) (pos 1_000_000)) (optional (codes "mincount") (up_to_a_million (pos 1)) (pos 1) ms) _ (up_to (pos 1) (pos 1) (codes "mincount") ms refl)
+    (λ mincount m. whatever P (optional (codes "missing") truth_in false ms) _
+    (λ missing. going_on P (IsPrefix s field) (optional (codes "prefix") (prefix_in s field) None ms) _ (if_there (IsPrefix s field) (prefix_in s field) None (get_member (codes "prefix") ms) tt (prefix_in_valid s field))
+    (λ prefix p. whatever P (optional (codes "refine") truth_in false ms) _
+    (λ refine. going_on P (IsWithin (negsuc 0) (pos 1_000_000)) (optional (codes "overrequest") (up_to_a_million (negsuc 0)) (negsuc 0) ms) _ (up_to (negsuc 0) (negsuc 0) (codes "overrequest") ms refl)
+    (λ overrequest a. going_on P (IsWithin (negsuc 0) (pos 1_000_000)) (optional (codes "overrefine") (up_to_a_million (negsuc 0)) (negsuc 0) ms) _ (up_to (negsuc 0) (negsuc 0) (codes "overrefine") ms refl)
+    (λ overrefine b. whatever P (optional (codes "method") text_in [] ms) _
     (λ method. record {
       field = h;
       offset = from_zero offset o;
       limit = limit_few limit l;
+      sort = tt;
       mincount = (from_one mincount m).0;
       few = (from_one mincount m).1;
       prefix = p;
-      overrequest = a;
-      overrefine = b;
-    })))))))))))
+      overrequest = over_few (limit_from limit) overrequest (limit_few limit l) a;
+      overrefine = over_few (limit_from limit) overrefine (limit_few limit l) b;
+      unlimited = λ e. (no_over (limit_from limit) overrequest e, no_over (limit_from limit) overrefine e);
+    }))))))))))
 
-pub terms_valid : (s : Schema) (inner : Nodes) (p : TermsParts) (sort : Sort) → AreValidParts s p → NamesItsStatistic inner sort → IsValidTerms s inner (terms_of p sort)
-terms_valid s inner p sort h k = record {
+-- and with a sort by what stands under it
+pub terms_valid : (s : Schema) (inner : Nodes) (t : Terms) (sort : Sort) → IsValidTerms s no_nodes t → NamesItsStatistic inner sort → IsValidTerms s inner (record t { sort = sort })
+terms_valid s inner t sort h k = record {
   field = h.field;
   offset = h.offset;
   limit = h.limit;
@@ -134,9 +126,9 @@ terms_valid s inner p sort h k = record {
   mincount = h.mincount;
   few = h.few;
   prefix = h.prefix;
-  overrequest = over_few p.limit p.overrequest h.limit h.overrequest;
-  overrefine = over_few p.limit p.overrefine h.limit h.overrefine;
-  unlimited = λ e. (no_over p.limit p.overrequest e, no_over p.limit p.overrefine e);
+  overrequest = h.overrequest;
+  overrefine = h.overrefine;
+  unlimited = h.unlimited;
 }
 
 -- ---- ranges
@@ -164,8 +156,8 @@ integer_in_long (string t) h = tt
 integer_in_long (array ds) h = tt
 integer_in_long (object ms) h = tt
 
-required_numbers : (k : Text) (ms : Members) → MembersHaveNumbers ms → IfOk (required k ms) HasNumbers
-required_numbers k ms h = there HasNumbers (get_member k ms) missing_parameter (member_numbers k ms h)
+required_long : (k : Text) (ms : Members) → MembersHaveNumbers ms → IfOk (required k integer_in ms) IsLong
+required_long k ms h = going_on IsLong HasNumbers (ok_or (get_member k ms) missing_parameter) integer_in (there HasNumbers (get_member k ms) missing_parameter (member_numbers k ms h)) (λ d f. integer_in_long d f)
 
 not_below : (a b : ℤ) → not (int_lt b a) ≡ true → a ≤ℤ b
 not_below a b h = grind (arith, ints)
@@ -176,22 +168,19 @@ above a b h = grind (arith, ints)
 pub range_valid : (s : Schema) (ms : Members) → MembersHaveNumbers ms → IfOk (range_parts s ms) (IsValidRange s)
 range_valid s ms numbers =
     let P = IsValidRange s in
-    whatever P (required (codes "field") ms) _ (λ named. going_on P (λ n. n < length s.fields) (field_in s named) _ (field_in_valid s named)
+    going_on P (λ n. n < length s.fields) (required (codes "field") (field_in s) ms) _ (needed (λ n. n < length s.fields) (codes "field") (field_in s) ms (field_in_valid s))
     (λ field h. going_on P (λ u. has_type s (λ k. not (holds_texts k)) field ≡ true) (unless (has_type s (λ k. not (holds_texts k)) field) wrong_field_type) _ (passed (has_type s (λ k. not (holds_texts k)) field) wrong_field_type)
-    (λ u t. going_on P HasNumbers (required (codes "start") ms) _ (required_numbers (codes "start") ms numbers)
-    (λ first f. going_on P IsLong (integer_in first) _ (integer_in_long first f)
-    (λ start a. going_on P HasNumbers (required (codes "end") ms) _ (required_numbers (codes "end") ms numbers)
-    (λ last l. going_on P IsLong (integer_in last) _ (integer_in_long last l)
+    (λ u t. going_on P IsLong (required (codes "start") integer_in ms) _ (required_long (codes "start") ms numbers)
+    (λ start a. going_on P IsLong (required (codes "end") integer_in ms) _ (required_long (codes "end") ms numbers)
     (λ end b. going_on P (λ v. not (int_lt end start) ≡ true) (unless (not (int_lt end start)) bad_parameter) _ (passed (not (int_lt end start)) bad_parameter)
-    (λ v o. going_on P HasNumbers (required (codes "gap") ms) _ (required_numbers (codes "gap") ms numbers)
-    (λ step g. going_on P IsLong (integer_in step) _ (integer_in_long step g)
+    (λ v o. going_on P IsLong (required (codes "gap") integer_in ms) _ (required_long (codes "gap") ms numbers)
     (λ gap c. going_on P (λ w. int_lt (pos 0) gap ≡ true) (unless (int_lt (pos 0) gap) bad_parameter) _ (passed (int_lt (pos 0) gap) bad_parameter)
-    (λ w p. whatever P (optional truth_in false (get_member (codes "hardend") ms)) _
+    (λ w p. whatever P (optional (codes "hardend") truth_in false ms) _
     (λ hardend. let ends = range_of field start end gap hardend [] [] in
     going_on P (λ x. is_long (last_end ends) ≡ true) (unless (is_long (last_end ends)) bad_parameter) _ (passed (is_long (last_end ends)) bad_parameter)
     (λ x e. going_on P (λ y. nat_le (gap_count ends) 10_000 ≡ true) (unless (nat_le (gap_count ends) 10_000) too_large) _ (passed (nat_le (gap_count ends) 10_000) too_large)
-    (λ y n. whatever P (optional (words_in other_words) [] (get_member (codes "other") ms)) _
-    (λ other. whatever P (optional (words_in include_words) [] (get_member (codes "include") ms)) _
+    (λ y n. whatever P (optional (codes "other") (words_in other_words) [] ms) _
+    (λ other. whatever P (optional (codes "include") (words_in include_words) [] ms) _
     (λ include. record {
       field = h;
       of_integers = t;
@@ -202,7 +191,7 @@ range_valid s ms numbers =
       forward = above (pos 0) gap p;
       last = e;
       few = leb-true (gap_count ends) 10_000 n;
-    }))))))))))))))))
+    }))))))))))))
 
 -- ---- queries
 
@@ -211,9 +200,4 @@ abbrev pub IsKindAnywhere : Schema → Kind → Type 0
 IsKindAnywhere s kind = (inner : Nodes) → IsValidKind s inner kind
 
 pub query_part_valid : (s : Schema) (ms : Members) → IfOk (query_part s ms) (IsKindAnywhere s)
-query_part_valid s ms =
-    let P = IsKindAnywhere s in
-    whatever P (required (codes "q") ms) _ (λ d. whatever P (text_in d) _ (λ t. going_on P (IsValidQuery s) (query_in s t) _ (query_in_valid s t) (λ q h inner. h)))
-
-pub main_query_valid : (s : Schema) (d : Data) → IfOk (main_query s d) (IsValidQuery s)
-main_query_valid s d = query_from_text s d
+query_part_valid s ms = going_on (IsKindAnywhere s) (IsValidQuery s) (required (codes "q") (text_query s) ms) _ (needed (IsValidQuery s) (codes "q") (text_query s) ms (text_query_valid s)) (λ q h inner. h)

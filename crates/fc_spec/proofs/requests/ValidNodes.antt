@@ -4,15 +4,16 @@ use Rattle.std.specs.List.{AllByRecursion}
 use Rattle.fc_spec.specs.words.Lists.{is_empty}
 use Rattle.fc_spec.specs.documents.Schema.{Schema}
 use Rattle.fc_spec.specs.documents.World.{World, Place, on_shards}
-use Rattle.fc_spec.specs.requests.Base.{root_domain}
 use Rattle.fc_spec.specs.requests.Request.{Kind, terms, range, query, Facet, Nodes, no_nodes, statistic, facet, Request, stats_of}
 use Rattle.fc_spec.specs.requests.Buckets.{Key, whole, bucket_places}
+use Rattle.fc_spec.specs.requests.Paths.{at_root}
 use Rattle.fc_spec.specs.requests.Statistics.{Stats, stats_over}
 use Rattle.fc_spec.specs.requests.ValidRequests.{AreValidNodes, node_depth}
 use Rattle.fc_spec.specs.requests.Shape.{no_exclusions, outermost_exclusions}
 use Rattle.fc_spec.specs.messages.Lacks.{own_depth, terms_depth}
 use Rattle.fc_spec.specs.messages.Message.{Partials, no_partials, Rows, Way, Want, way_of, Ask, first, more}
-use Rattle.fc_spec.specs.messages.Answer.{answer_rows, answer, partials_of, answer_keys, answer_domain, facet_at, nodes_in, spot_in, spot_at, way_spot, answer_bucket, answer_wants, Spot}
+use Rattle.fc_spec.specs.messages.Target.{Target, leads_nowhere, leads_to, target_nodes, target_places, target_in, target_from, target_of, facet_at, nodes_in}
+use Rattle.fc_spec.specs.messages.Answer.{answer_rows, answer, partials_of, answer_keys, answer_domain, answer_bucket, answer_wants}
 use Rattle.fc_spec.specs.messages.Nesting.{nesting, rows_nesting}
 use Rattle.fc_spec.specs.messages.Rounds.{SentMessage, search_rounds}
 use Rattle.fc_spec.specs.laws.RequestLaws.{ValidExcludeOutermost, ValidHaveFewDepths, ValidHaveFewRounds, ValidAnswersNestLittle}
@@ -28,12 +29,12 @@ nothing_excluded : (s : Schema) (nodes : Nodes) → AreValidNodes s false nodes 
 nothing_excluded s no_nodes h = refl
 nothing_excluded s (statistic name st rest) h = nothing_excluded s rest h.1
 nothing_excluded s (facet f inner rest) h =
-    both (is_empty f.change.exclude && no_exclusions inner) (no_exclusions rest) (both (is_empty f.change.exclude) (no_exclusions inner) (ap is_empty ((h.0).outermost refl)) (nothing_excluded s inner h.2)) (nothing_excluded s rest h.3)
+    both (is_empty f.change.exclude && no_exclusions inner) (no_exclusions rest) (both (is_empty f.change.exclude) (no_exclusions inner) (ap is_empty (((h.0).change).outermost refl)) (nothing_excluded s inner h.1)) (nothing_excluded s rest h.2)
 
 excluded_outermost : (s : Schema) (outermost : Bool) (nodes : Nodes) → AreValidNodes s outermost nodes → outermost_exclusions nodes ≡ true
 excluded_outermost s outermost no_nodes h = refl
 excluded_outermost s outermost (statistic name st rest) h = excluded_outermost s outermost rest h.1
-excluded_outermost s outermost (facet f inner rest) h = both (no_exclusions inner) (outermost_exclusions rest) (nothing_excluded s inner h.2) (excluded_outermost s outermost rest h.3)
+excluded_outermost s outermost (facet f inner rest) h = both (no_exclusions inner) (outermost_exclusions rest) (nothing_excluded s inner h.1) (excluded_outermost s outermost rest h.2)
 
 pub valid_exclude_outermost : ValidExcludeOutermost
 valid_exclude_outermost s r h = excluded_outermost s true r.nodes h.nodes
@@ -88,24 +89,26 @@ deeper zero (facet f inner rest) = omega arith
 deeper (suc n) (statistic name st rest) = let h = deeper n rest in omega arith
 deeper (suc n) (facet f inner rest) = let h = deeper n rest in omega arith
 
-step_in : (r : Request) (W : World) (key : Key) (X : List Place) (o : Option (Facet × Nodes)) → (spot_in r W key X o).nodes ≡ nodes_in o
-step_in r W key X None = refl
-step_in r W key X (Some f) = refl
+step_in : (key : Key) (t : Target) (o : Option (Facet × Nodes)) → node_depth (target_nodes (target_in key t o)) ≤ node_depth (nodes_in o)
+step_in key leads_nowhere o = omega arith
+step_in key (leads_to path nodes) None = omega arith
+step_in key (leads_to path nodes) (Some f) = omega arith
 
-ways_lead_in : (r : Request) (W : World) (way : Way) (s : Spot) → node_depth (spot_at r W way s).nodes ≤ node_depth s.nodes
-ways_lead_in r W [] s = omega arith
-ways_lead_in r W (step ∷ way) s =
-    let o = facet_at step.node s.nodes in
-    let further : node_depth (spot_at r W way (spot_in r W step.key s.places o)).nodes ≤ node_depth (spot_in r W step.key s.places o).nodes = ways_lead_in r W way (spot_in r W step.key s.places o) in
-    let same : node_depth (spot_in r W step.key s.places o).nodes ≡ node_depth (nodes_in o) = ap node_depth (step_in r W step.key s.places o) in
-    let here : node_depth (nodes_in o) ≤ node_depth s.nodes = deeper step.node s.nodes in
+ways_lead_in : (way : Way) (t : Target) → node_depth (target_nodes (target_from t way)) ≤ node_depth (target_nodes t)
+ways_lead_in [] t = omega arith
+ways_lead_in (step ∷ way) t =
+    let o = facet_at step.node (target_nodes t) in
+    let further : node_depth (target_nodes (target_from (target_in step.key t o) way)) ≤ node_depth (target_nodes (target_in step.key t o)) = ways_lead_in way (target_in step.key t o) in
+    let in_it : node_depth (target_nodes (target_in step.key t o)) ≤ node_depth (nodes_in o) = step_in step.key t o in
+    let here : node_depth (nodes_in o) ≤ node_depth (target_nodes t) = deeper step.node (target_nodes t) in
     omega arith
 
 bucket_nests : (r : Request) (W : World) (i : ℕ) (way : Way) (key : Key) (rest : Partials) → node_depth r.nodes ≤ 8 → nesting rest ≤ 9 → nesting (answer_bucket r W i way key rest) ≤ 9
 bucket_nests r W i way key rest shallow h =
-    let s = way_spot r W way in
-    let here : rows_nesting (answer_rows r W i s.nodes (on_shards (i ∷ []) s.places)) ≤ node_depth s.nodes = rows_nest r W i s.nodes (on_shards (i ∷ []) s.places) in
-    let inside : node_depth s.nodes ≤ node_depth r.nodes = ways_lead_in r W way (record { nodes = r.nodes; places = root_domain r W }) in
+    let nodes = target_nodes (target_of r.nodes way) in
+    let X = on_shards (i ∷ []) (target_places r W (target_of r.nodes way)) in
+    let here : rows_nesting (answer_rows r W i nodes X) ≤ node_depth nodes = rows_nest r W i nodes X in
+    let inside : node_depth nodes ≤ node_depth r.nodes = ways_lead_in way (leads_to at_root r.nodes) in
     omega arith
 
 wants_nest : (r : Request) (W : World) (i : ℕ) (wants : List Want) → node_depth r.nodes ≤ 8 → nesting (answer_wants r W i wants) ≤ 9

@@ -11,22 +11,23 @@ use Rattle.fc_spec.specs.documents.Schema.{Schema}
 use Rattle.fc_spec.specs.queries.Query.{all}
 use Rattle.fc_spec.specs.requests.Request.{Kind, range, Nodes, no_nodes, Request}
 use Rattle.fc_spec.specs.requests.RequestFault.{RequestFault, reserved_name, too_large}
-use Rattle.fc_spec.specs.requests.RequestWalk.{outside, inside, check_names, required, optional, text_in}
+use Rattle.fc_spec.specs.requests.RequestWalk.{outside, inside, check_names, required, optional, said_or, text_in}
 use Rattle.fc_spec.specs.requests.StatisticReading.{statistic_of}
 use Rattle.fc_spec.specs.requests.DomainReading.{change_in}
 use Rattle.fc_spec.specs.requests.SortReading.{sort_in}
 use Rattle.fc_spec.specs.requests.FacetReading.{terms_parts, range_parts, query_part}
-use Rattle.fc_spec.specs.requests.RequestReading.{Node, of_statistic, of_facet, Walked, with_node, Reader, members_read, is_reserved, inner_read, own, facet_read, terms_read, range_read, query_read, statistic_read, func_read, FacetType, terms_type, range_type, query_type, func_type, parameters, typed_read, type_of, command_read, node_read, nodes_within, filters_in, main_query, zero_in, request_members, request_of}
+use Rattle.fc_spec.specs.requests.RequestReading.{Node, of_statistic, of_facet, Walked, with_node, Reader, members_read, is_reserved, inner_read, own, facet_read, terms_read, range_read, query_read, statistic_read, func_read, FacetType, terms_type, range_type, query_type, func_type, parameters, typed_read, type_of, command_read, node_read, nodes_within, filters_in, zero_in, request_members, request_of}
 use Rattle.fc_spec.specs.scripts.JsonValues.{HasNumbers, MembersHaveNumbers, keys_in, HasAscendingKeys, MembersHaveAscendingKeys}
 use Rattle.fc_spec.specs.laws.RequestLaws.{ReadAreValid, ReadAreValidWhole}
 use Rattle.fc_spec.specs.queries.ValidQueries.{IsValidQuery}
-use Rattle.fc_spec.specs.requests.ValidRequests.{IsValidFilter, IsValidChange, IsValidKind, IsValidRange, IsValidStatistic, node_names, AreValidNodes, AreOrderedInside, AreOrderedNodes, node_depth}
+use Rattle.fc_spec.specs.requests.DomainReading.{text_query}
+use Rattle.fc_spec.specs.requests.ValidRequests.{IsValidFilter, IsValidChange, IsValidKind, IsValidTerms, IsValidRange, IsValidStatistic, node_names, AreValidNodes, AreOrderedInside, AreOrderedNodes, node_depth}
 use Rattle.fc_spec.specs.words.Walks.{◌>>=◌, unless, with_fault}
 use Rattle.fc_spec.proofs.scripts.JsonMembers.{member_numbers, member_keys}
 use Rattle.fc_spec.proofs.words.ReadingWords.{going_on, whatever, seen, if_there}
 use Rattle.fc_spec.proofs.requests.ValidStatistics.{statistic_valid, NamesItsStatistic, sort_in_valid}
-use Rattle.fc_spec.proofs.requests.ValidChanges.{change_in_valid, filters_in_valid}
-use Rattle.fc_spec.proofs.requests.ValidKinds.{AreValidParts, parts_valid, terms_valid, range_valid, IsKindAnywhere, query_part_valid, main_query_valid}
+use Rattle.fc_spec.proofs.requests.ValidChanges.{text_query_valid, change_in_valid, filters_in_valid}
+use Rattle.fc_spec.proofs.requests.ValidKinds.{parts_valid, terms_valid, range_valid, IsKindAnywhere, query_part_valid}
 
 -- nodes that the members of an object give, so deep at most
 record AreReadFrom (s : Schema) (outermost : Bool) (left : ℕ) (ms : Members) (nodes : Nodes) : Type 0 where
@@ -81,7 +82,7 @@ facet_in ms = get_member (codes "facet") ms
 terms_read_valid : (s : Schema) (outermost : Bool) (left : ℕ) (deeper : Reader) → ReadsValid s false left deeper → (n : ℕ) (ms : Members) → MembersHaveNumbers ms → IfOk (terms_read s outermost deeper n ms) (IsNodeOf s outermost left ms)
 terms_read_valid s outermost left deeper valid n ms numbers =
     let P = IsNodeOf s outermost left ms in
-    going_on P (AreValidParts s) (own (terms_parts s ms)) _ (seen (AreValidParts s) outside (terms_parts s ms) (parts_valid s ms))
+    going_on P (IsValidTerms s no_nodes) (own (terms_parts s ms)) _ (seen (IsValidTerms s no_nodes) outside (terms_parts s ms) (parts_valid s ms))
     (λ parts h. going_on P (IsValidChange s outermost) (own (change_in s outermost ms)) _ (seen (IsValidChange s outermost) outside (change_in s outermost ms) (change_in_valid s outermost ms))
     (λ change k. going_on P (λ w. AreInside s false left (facet_in ms) w.read) (inner_read deeper n (facet_in ms)) _ (inner_valid s false left deeper valid n (facet_in ms) (member_numbers (codes "facet") ms numbers))
     (λ inner i. going_on P (NamesItsStatistic inner.read) (own (sort_in inner.read ms)) _ (seen (NamesItsStatistic inner.read) outside (sort_in inner.read ms) (sort_in_valid inner.read ms))
@@ -110,7 +111,7 @@ statistic_read_valid s outermost left n d t = going_on (λ w. IsReadNode s outer
 
 func_read_valid : (s : Schema) (outermost : Bool) (left n : ℕ) (ms : Members) → IfOk (func_read s n ms) (IsNodeOf s outermost left ms)
 func_read_valid s outermost left n ms =
-    whatever (IsNodeOf s outermost left ms) (own (required (codes "func") ms)) _ (λ d. whatever (IsNodeOf s outermost left ms) (own (text_in d)) _ (λ t. statistic_read_valid s outermost left n (object ms) t))
+    whatever (IsNodeOf s outermost left ms) (own (required (codes "func") text_in ms)) _ (λ t. statistic_read_valid s outermost left n (object ms) t)
 
 typed_read_valid : (kind : FacetType) (s : Schema) (outermost : Bool) (left : ℕ) (deeper : Reader) → ReadsValid s false left deeper → (n : ℕ) (ms : Members) → MembersHaveNumbers ms → IfOk (typed_read kind s outermost deeper n ms) (IsNodeOf s outermost left ms)
 typed_read_valid terms_type s outermost left deeper valid n ms numbers = terms_read_valid s outermost left deeper valid n ms numbers
@@ -137,7 +138,7 @@ node_valid s outermost left deeper valid n name d numbers =
 in_front : (s : Schema) (outermost : Bool) (left : ℕ) (name : Text) (d : Data) (ms : Members) (node : Node) (nodes : Nodes) → IsReadNode s outermost left d node → AreReadFrom s outermost (suc left) ms nodes → AreReadFrom s outermost (suc left) (member name d ms) (with_node name node nodes)
 in_front s outermost left name d ms (of_statistic st) nodes h k = record { valid = (h, k.valid); shallow = (let low = k.shallow in omega arith); names = ap (λ names. name ∷ names) k.names; ordered = λ a. k.ordered a.1 }
 in_front s outermost left name d ms (of_facet change kind inner) nodes h k = record {
-  valid = (h.0, h.1, h.2, k.valid);
+  valid = (record { change = h.0; kind = h.1 }, h.2, k.valid);
   shallow = (let low = k.shallow in let here : node_depth inner ≤ left = h.3 in omega arith);
   names = ap (λ names. name ∷ names) k.names;
   ordered = λ a. ((h.4 a.0).0, (h.4 a.0).1, k.ordered a.1);
@@ -173,9 +174,9 @@ request_members_valid s ms numbers =
     let query_at = get_member (codes "query") ms in
     let filters_at = get_member (codes "filter") ms in
     whatever P (own (check_names (codes "query" ∷ codes "filter" ∷ codes "limit" ∷ codes "facet" ∷ []) ms)) _
-    (λ u. going_on P (IsValidQuery s) (own (optional (main_query s) all query_at)) _ (seen (IsValidQuery s) outside (optional (main_query s) all query_at) (if_there (IsValidQuery s) (main_query s) all query_at (record { fits = tt; shallow = omega arith }) (main_query_valid s)))
-    (λ q h. going_on P (All (IsValidFilter s)) (own (optional (filters_in s) [] filters_at)) _ (seen (All (IsValidFilter s)) outside (optional (filters_in s) [] filters_at) (if_there (All (IsValidFilter s)) (filters_in s) [] filters_at (All-nil (IsValidFilter s)) (filters_in_valid s)))
-    (λ fs k. whatever P (own (optional zero_in tt (get_member (codes "limit") ms))) _
+    (λ u. going_on P (IsValidQuery s) (own (said_or (text_query s) all query_at)) _ (seen (IsValidQuery s) outside (said_or (text_query s) all query_at) (if_there (IsValidQuery s) (text_query s) all query_at (record { fits = tt; shallow = omega arith }) (text_query_valid s)))
+    (λ q h. going_on P (All (IsValidFilter s)) (own (said_or (filters_in s) [] filters_at)) _ (seen (All (IsValidFilter s)) outside (said_or (filters_in s) [] filters_at) (if_there (All (IsValidFilter s)) (filters_in s) [] filters_at (All-nil (IsValidFilter s)) (filters_in_valid s)))
+    (λ fs k. whatever P (own (optional (codes "limit") zero_in tt ms)) _
     (λ z. going_on P (λ w. AreInside s true 8 (facet_in ms) w.read) (inner_read (nodes_within 8 s true) 0 (facet_in ms)) _ (inner_valid s true 8 (nodes_within 8 s true) (within_valid 8 s true) 0 (facet_in ms) (member_numbers (codes "facet") ms numbers))
     (λ nodes i. record { query = h; filters = k; nodes = i.valid; depth = i.shallow; names = λ a. i.ordered (member_keys (codes "facet") ms a.1) })))))
 

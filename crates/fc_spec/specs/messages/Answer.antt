@@ -1,16 +1,15 @@
 -- What a shard answers: by the definitions of replies, on its own places.
-use Rattle.std.specs.Prelude.{ℕ, zero, suc, List, [], ◌∷◌, ◌++◌, map, not, Option, None, Some}
+use Rattle.std.specs.Prelude.{ℕ, List, [], ◌∷◌, ◌++◌, map, not}
 use Rattle.std.specs.List.{filter}
 use Rattle.fc_spec.specs.words.Lists.{is_empty}
 use Rattle.fc_spec.specs.documents.World.{World, Place, on_shards}
 use Rattle.fc_spec.specs.requests.Request.{Kind, terms, range, query, Facet, Nodes, no_nodes, statistic, facet, Request, stats_of}
-use Rattle.fc_spec.specs.requests.Base.{root_domain}
 use Rattle.fc_spec.specs.requests.Domain.{domain}
 use Rattle.fc_spec.specs.requests.Buckets.{Key, value, missing, whole, bucket_places}
-use Rattle.fc_spec.specs.requests.Paths.{places_inside}
 use Rattle.fc_spec.specs.requests.Statistics.{Stats, stats_over}
 use Rattle.fc_spec.specs.replies.Printed.{asked, range_keys}
 use Rattle.fc_spec.specs.replies.Reading.{offered}
+use Rattle.fc_spec.specs.messages.Target.{target_of, target_places, target_nodes}
 use Rattle.fc_spec.specs.messages.Message.{Partials, no_partials, partial, Rows, no_rows, row, Way, Want, way_of, Ask, first, more}
 
 -- those of the keys whose bucket is not empty
@@ -42,48 +41,12 @@ answer_rows r W i (facet f inner rest) X =
     (answer_keys f.kind inner (answer_domain r W i f X) i))
     (answer_rows r W i rest X)
 
--- the facet with a number among nodes, and the nodes nested in it
-abbrev pub facet_at : ℕ → Nodes → Option (Facet × Nodes)
-facet_at n no_nodes = None
-facet_at zero (statistic name s rest) = None
-facet_at zero (facet f inner rest) = Some (f, inner)
-facet_at (suc n) (statistic name s rest) = facet_at n rest
-facet_at (suc n) (facet f inner rest) = facet_at n rest
-
--- the nodes nested in it; none in no facet
-abbrev pub nodes_in : Option (Facet × Nodes) → Nodes
-nodes_in None = no_nodes
-nodes_in (Some f) = f.1
-
--- the nodes nested in the one where a way leads
-abbrev pub nodes_at : Way → Nodes → Nodes
-nodes_at [] nodes = nodes
-nodes_at (step ∷ way) nodes = nodes_at way (nodes_in (facet_at step.node nodes))
-
--- a set of places, with the nodes of its bucket
-pub record Spot : Type 0 where
-  pub nodes : Nodes
-  pub places : List Place
-
--- one step further in; a step that names no facet leads nowhere
-abbrev pub spot_in : Request → World → Key → List Place → Option (Facet × Nodes) → Spot
-spot_in r W key X None = record { nodes = no_nodes; places = [] }
-spot_in r W key X (Some f) = record { nodes = f.1; places = places_inside r W f.0 key X }
-
--- where a way leads, over all shards
-abbrev pub spot_at : Request → World → Way → Spot → Spot
-spot_at r W [] s = s
-spot_at r W (step ∷ way) s = spot_at r W way (spot_in r W step.key s.places (facet_at step.node s.nodes))
-
-abbrev pub way_spot : Request → World → Way → Spot
-way_spot r W way = spot_at r W way (record { nodes = r.nodes; places = root_domain r W })
-
 -- shard i's bucket of a key, where a way leads
 abbrev pub answer_bucket : Request → World → ℕ → Way → Key → Partials → Partials
 answer_bucket r W i way key rest =
-    let s = way_spot r W way in
-    let X = on_shards (i ∷ []) s.places in
-    partial key (stats_over (stats_of s.nodes) X) (answer_rows r W i s.nodes X) rest
+    let t = target_of r.nodes way in
+    let X = on_shards (i ∷ []) (target_places r W t) in
+    partial key (stats_over (stats_of (target_nodes t)) X) (answer_rows r W i (target_nodes t) X) rest
 
 -- one bucket for each want, in their order
 abbrev pub answer_wants : Request → World → ℕ → List Want → Partials

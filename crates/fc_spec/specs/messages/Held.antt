@@ -5,7 +5,7 @@ use Rattle.fc_spec.specs.requests.Buckets.{Key, value}
 use Rattle.fc_spec.specs.messages.KeyOrder.{same_key}
 use Rattle.fc_spec.specs.requests.Statistics.{Stats}
 use Rattle.fc_spec.specs.requests.Request.{Nodes, no_nodes, statistic, facet}
-use Rattle.fc_spec.specs.messages.Answer.{facet_at, nodes_in, nodes_at}
+use Rattle.fc_spec.specs.messages.Target.{facet_at, nodes_in, target_of, target_nodes}
 use Rattle.fc_spec.specs.messages.Message.{Partials, no_partials, partial, Rows, no_rows, row, Way, Want, way_of, Ask, first, more}
 
 -- a bucket that is held: its statistics, and the nodes nested in its own with their buckets
@@ -29,7 +29,7 @@ abbrev pub told_wants : Nodes → ℕ → List Want → Partials → List Told
 told_wants nodes i [] m = []
 told_wants nodes i (w ∷ ws) no_partials = []
 told_wants nodes i (w ∷ ws) (partial key stats rows rest) =
-    record { shard = i; way = way_of w; bucket = record { stats = stats; nodes = nodes_at (way_of w) nodes; rows = rows } } ∷ told_wants nodes i ws rest
+    record { shard = i; way = way_of w; bucket = record { stats = stats; nodes = target_nodes (target_of nodes (way_of w)); rows = rows } } ∷ told_wants nodes i ws rest
 
 abbrev pub told_by : Nodes → ℕ → Ask → Partials → List Told
 told_by nodes i first m = told_root nodes i m

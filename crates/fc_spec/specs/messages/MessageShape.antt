@@ -8,7 +8,7 @@ use Rattle.fc_spec.specs.requests.Statistics.{StatValue, number, extreme, Stats}
 use Rattle.fc_spec.specs.requests.Ranks.{rank_bound}
 use Rattle.fc_spec.specs.messages.Held.{listed_values}
 use Rattle.fc_spec.specs.messages.Message.{Partials, no_partials, partial, Rows, no_rows, row, Want, way_of, Ask, first, more}
-use Rattle.fc_spec.specs.messages.Answer.{nodes_at}
+use Rattle.fc_spec.specs.messages.Target.{target_of, target_nodes}
 
 -- least and greatest values may be absent, the other statistics are numbers
 abbrev pub is_extreme : StatKind → Bool
@@ -75,7 +75,7 @@ abbrev pub wants_fit : Nodes → List Want → Partials → Bool
 wants_fit nodes [] no_partials = true
 wants_fit nodes [] (partial k stats rows rest) = false
 wants_fit nodes (w ∷ ws) no_partials = false
-wants_fit nodes (w ∷ ws) (partial k stats rows rest) = top_fits w.key (nodes_at (way_of w) nodes) k stats rows && wants_fit nodes ws rest
+wants_fit nodes (w ∷ ws) (partial k stats rows rest) = top_fits w.key (target_nodes (target_of nodes (way_of w))) k stats rows && wants_fit nodes ws rest
 
 -- one bucket, the root's
 abbrev pub root_fits : Nodes → Partials → Bool

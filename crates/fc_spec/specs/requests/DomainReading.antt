@@ -11,17 +11,21 @@ use Rattle.fc_spec.specs.queries.QueryTexts.{query_of}
 use Rattle.fc_spec.specs.queries.FilterReading.{is_tag}
 use Rattle.fc_spec.specs.requests.Request.{BlockStep, stay, parents, children, DomainChange}
 use Rattle.fc_spec.specs.requests.RequestFault.{QFault, bad_parameter, nested_exclude}
-use Rattle.fc_spec.specs.requests.RequestWalk.{query_fault, check_names, optional, text_in, texts_of}
+use Rattle.fc_spec.specs.requests.RequestWalk.{query_fault, check_names, optional, text_in, each_item}
 use Rattle.fc_spec.specs.words.Walks.{◌>>=◌, unless, with_fault, each}
 
 -- the query of a text, or its fault
 abbrev pub query_in : Schema → Text → Result Query QFault
 query_in s t = with_fault query_fault (query_of s t)
 
+-- the query of a value that is a text
+abbrev pub text_query : Schema → Data → Result Query QFault
+text_query s d = text_in d >>= query_in s
+
 -- a text, or an array of texts
 abbrev pub texts_in : Data → Result (List Text) QFault
 texts_in (string t) = Ok (t ∷ [])
-texts_in (array ds) = ok_or (texts_of ds) bad_parameter
+texts_in (array ds) = each_item text_in ds
 texts_in _ = Err bad_parameter
 
 -- the parts of a text between its commas, none where it is empty; or the texts of an array
@@ -41,12 +45,10 @@ excluded outermost d = do
 abbrev pub block_step : Schema → (to_parents to_children : Option Data) → Result BlockStep QFault
 block_step s (Some p) (Some c) = Err bad_parameter
 block_step s (Some p) None = do
-  t ← text_in p
-  q ← query_in s t
+  q ← text_query s p
   Ok (parents q)
 block_step s None (Some c) = do
-  t ← text_in c
-  q ← query_in s t
+  q ← text_query s c
   Ok (children q)
 block_step s None None = Ok stay
 
@@ -59,9 +61,9 @@ domain_filters s d = do
 abbrev pub change_of : Schema → (outermost : Bool) → Members → Result DomainChange QFault
 change_of s outermost ms = do
   _ ← check_names (codes "excludeTags" ∷ codes "blockParent" ∷ codes "blockChildren" ∷ codes "filter" ∷ []) ms
-  tags ← optional (excluded outermost) [] (get_member (codes "excludeTags") ms)
+  tags ← optional (codes "excludeTags") (excluded outermost) [] ms
   step ← block_step s (get_member (codes "blockParent") ms) (get_member (codes "blockChildren") ms)
-  filters ← optional (domain_filters s) [] (get_member (codes "filter") ms)
+  filters ← optional (codes "filter") (domain_filters s) [] ms
   Ok (record { exclude = tags; block = step; filters = filters })
 
 -- what changes nothing
@@ -70,4 +72,4 @@ no_change = record { exclude = []; block = stay; filters = [] }
 
 -- the change of a facet's members
 abbrev pub change_in : Schema → (outermost : Bool) → Members → Result DomainChange QFault
-change_in s outermost ms = optional (λ d. ok_or (as_object d) bad_parameter >>= change_of s outermost) no_change (get_member (codes "domain") ms)
+change_in s outermost ms = optional (codes "domain") (λ d. ok_or (as_object d) bad_parameter >>= change_of s outermost) no_change ms

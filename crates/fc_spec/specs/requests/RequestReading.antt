@@ -1,21 +1,21 @@
 -- What request a JSON value is, or the first fault of a walk over it, with the names of the facets around it. Guide: JSON Request API; JSON Facet API.
 use Rattle.std.specs.Prelude.{ℕ, zero, suc, ◌+◌, List, [], ◌∷◌, codes, Bool, true, false, not, ◌||◌, ◌==◌, nat_lt, Option, None, Some, option_map, unwrap_or, ok_or, Result, Ok, Err, if◌then◌else◌}
 use Rattle.std.specs.Option.{option_and_then}
-use Rattle.serde_json.specs.Data.{Data, string, array, Items, no_items, item, Members, no_members, member}
+use Rattle.serde_json.specs.Data.{Data, string, array, Members, no_members, member}
 use Rattle.serde_json.specs.Find.{as_object, as_str, get_member}
 use Rattle.fc_spec.specs.documents.Val.{Text, same_text}
 use Rattle.fc_spec.specs.documents.Schema.{Schema}
 use Rattle.fc_spec.specs.scripts.JsonObjects.{natural_in}
-use Rattle.fc_spec.specs.queries.Query.{Query, all}
+use Rattle.fc_spec.specs.queries.Query.{all}
 use Rattle.fc_spec.specs.queries.QueryFault.{FilterFault, shape, query as of_query}
 use Rattle.fc_spec.specs.queries.FilterReading.{filter_of}
 use Rattle.fc_spec.specs.requests.Request.{Filter, Stat, DomainChange, Kind, terms, range, Nodes, no_nodes, statistic, facet, Request}
 use Rattle.fc_spec.specs.requests.RequestFault.{QFault, not_an_object, bad_command, unknown_type, bad_parameter, reserved_name, too_large, RequestFault}
-use Rattle.fc_spec.specs.requests.RequestWalk.{query_fault, outside, inside, check_names, required, optional, text_in}
+use Rattle.fc_spec.specs.requests.RequestWalk.{query_fault, outside, inside, check_names, required, optional, text_in, each_item}
 use Rattle.fc_spec.specs.requests.StatisticReading.{statistic_of}
-use Rattle.fc_spec.specs.requests.DomainReading.{change_in, query_in}
+use Rattle.fc_spec.specs.requests.DomainReading.{change_in, text_query}
 use Rattle.fc_spec.specs.requests.SortReading.{sort_in}
-use Rattle.fc_spec.specs.requests.FacetReading.{terms_parts, terms_of, range_parts, query_part}
+use Rattle.fc_spec.specs.requests.FacetReading.{terms_parts, range_parts, query_part}
 use Rattle.fc_spec.specs.words.Walks.{◌>>=◌, unless, with_fault}
 
 -- ---- nodes
@@ -73,7 +73,7 @@ terms_read s outermost deeper n ms = do
   change ← own (change_in s outermost ms)
   inner ← inner_read deeper n (get_member (codes "facet") ms)
   sort ← own (sort_in inner.read ms)
-  Ok (facet_read change (terms (terms_of parts sort)) inner)
+  Ok (facet_read change (terms (record parts { sort = sort })) inner)
 
 abbrev pub range_read : Schema → (outermost : Bool) → Reader → ℕ → Members → Result (Walked Node) RequestFault
 range_read s outermost deeper n ms = do
@@ -96,8 +96,7 @@ statistic_read s n t = do
 
 abbrev pub func_read : Schema → ℕ → Members → Result (Walked Node) RequestFault
 func_read s n ms = do
-  d ← own (required (codes "func") ms)
-  t ← own (text_in d)
+  t ← own (required (codes "func") text_in ms)
   statistic_read s n t
 
 -- the types, and the names of their parameters
@@ -130,9 +129,7 @@ typed_read func_type s outermost deeper n ms = func_read s n ms
 
 -- the type that a command names
 abbrev pub type_of : Members → Result FacetType QFault
-type_of ms = do
-  d ← required (codes "type") ms
-  ok_or (option_and_then type_named (as_str d)) unknown_type
+type_of ms = required (codes "type") (λ d. ok_or (option_and_then type_named (as_str d)) unknown_type) ms
 
 -- a command: a text is a statistic, an object names its type
 abbrev pub command_read : Schema → (outermost : Bool) → Reader → ℕ → Data → Result (Walked Node) RequestFault
@@ -164,36 +161,24 @@ filter_fault (of_query e) = query_fault e
 abbrev pub filter_read : Schema → Data → Result Filter QFault
 filter_read s d = with_fault filter_fault (filter_of s d)
 
-abbrev pub filters_of : Schema → Items → Result (List Filter) QFault
-filters_of s no_items = Ok []
-filters_of s (item d ds) = do
-  f ← filter_read s d
-  fs ← filters_of s ds
-  Ok (f ∷ fs)
-
 -- one filter, or an array of them
 abbrev pub filters_in : Schema → Data → Result (List Filter) QFault
-filters_in s (array ds) = filters_of s ds
+filters_in s (array ds) = each_item (filter_read s) ds
 filters_in s d = do
   f ← filter_read s d
   Ok (f ∷ [])
-
--- a text; every document where no query is named
-abbrev pub main_query : Schema → Data → Result Query QFault
-main_query s d = do
-  t ← text_in d
-  query_in s t
 
 -- the whole number 0: no documents are asked for
 abbrev pub zero_in : Data → Result (Unit {0}) QFault
 zero_in d = unless (unwrap_or (option_map (λ n. n == 0) (natural_in d)) false) bad_parameter
 
+-- every document is matched where no query is named
 abbrev pub request_members : Schema → Members → Result Request RequestFault
 request_members s ms = do
   _ ← own (check_names (codes "query" ∷ codes "filter" ∷ codes "limit" ∷ codes "facet" ∷ []) ms)
-  q ← own (optional (main_query s) all (get_member (codes "query") ms))
-  fs ← own (optional (filters_in s) [] (get_member (codes "filter") ms))
-  _ ← own (optional zero_in tt (get_member (codes "limit") ms))
+  q ← own (optional (codes "query") (text_query s) all ms)
+  fs ← own (optional (codes "filter") (filters_in s) [] ms)
+  _ ← own (optional (codes "limit") zero_in tt ms)
   nodes ← inner_read (nodes_within 8 s true) 0 (get_member (codes "facet") ms)
   Ok (record { query = q; filters = fs; nodes = nodes.read })
 

@@ -1,5 +1,5 @@
 -- Words for the walk over a request: faults with the names of the facets around them, and members that are numbers, truth values or texts. Guide: JSON Request API.
-use Rattle.std.specs.Prelude.{ℤ, List, [], ◌∷◌, Bool, not, ◌&&◌, int_lt, Option, None, Some, option_map, ok_or, Result, Ok}
+use Rattle.std.specs.Prelude.{ℤ, List, [], ◌∷◌, Bool, not, ◌&&◌, int_lt, Option, None, Some, ok_or, Result, Ok}
 use Rattle.std.specs.Option.{option_and_then}
 use Rattle.serde_json.specs.Data.{Data, Items, no_items, item, Members}
 use Rattle.serde_json.specs.Find.{get_member, as_bool, as_i64, as_number, as_str}
@@ -28,14 +28,18 @@ inside name f = record { at = name ∷ f.at; fault = f.fault }
 abbrev pub check_names : List Text → Members → Result (Unit {0}) QFault
 check_names names ms = unless (only_names names ms) unknown_key
 
--- the member of a name that has to be there
-abbrev pub required : Text → Members → Result Data QFault
-required name ms = ok_or (get_member name ms) missing_parameter
+-- what the member of a name says, which has to be there
+abbrev pub required : {A : Type 0} → Text → (Data → Result A QFault) → Members → Result A QFault
+required name read ms = ok_or (get_member name ms) missing_parameter >>= read
 
--- what a member says, where it is there; else this
-abbrev pub optional : {A : Type 0} → (Data → Result A QFault) → A → Option Data → Result A QFault
-optional read absent None = Ok absent
-optional read absent (Some d) = read d
+-- what a value says, where it is there; else this
+abbrev pub said_or : {A : Type 0} → (Data → Result A QFault) → A → Option Data → Result A QFault
+said_or read absent None = Ok absent
+said_or read absent (Some d) = read d
+
+-- what the member of a name says, where it is there; else this
+abbrev pub optional : {A : Type 0} → Text → (Data → Result A QFault) → A → Members → Result A QFault
+optional name read absent ms = said_or read absent (get_member name ms)
 
 -- a whole number of 64 bits signed
 abbrev pub integer_in : Data → Result ℤ QFault
@@ -54,7 +58,10 @@ truth_in d = ok_or (as_bool d) bad_parameter
 abbrev pub text_in : Data → Result Text QFault
 text_in d = ok_or (as_str d) bad_parameter
 
--- the texts of an array, where all its items are texts
-abbrev pub texts_of : Items → Option (List Text)
-texts_of no_items = Some []
-texts_of (item d ds) = option_and_then (λ t. option_map (λ ts. t ∷ ts) (texts_of ds)) (as_str d)
+-- what each item says, or the first fault
+abbrev pub each_item : {A : Type 0} → (Data → Result A QFault) → Items → Result (List A) QFault
+each_item read no_items = Ok []
+each_item read (item d ds) = do
+  a ← read d
+  more ← each_item read ds
+  Ok (a ∷ more)

@@ -3,7 +3,6 @@ use Rattle.std.specs.Prelude.{ℕ, suc, ◌-◌, length, take, codes, Bool, true
 use Rattle.std.specs.List.{ends_with}
 use Rattle.std.specs.Option.{option_and_then}
 use Rattle.serde_json.specs.Data.{Data, string, Members}
-use Rattle.serde_json.specs.Find.{get_member}
 use Rattle.fc_spec.specs.documents.Val.{Text, same_text}
 use Rattle.fc_spec.specs.scripts.JsonObjects.{sole_member}
 use Rattle.fc_spec.specs.requests.Request.{SortKey, by_count, by_index, by_statistic, Sort, Nodes, no_nodes, statistic, facet}
@@ -77,4 +76,4 @@ abbrev pub default_sort : Sort
 default_sort = record { by = by_count; descending = true }
 
 abbrev pub sort_in : Nodes → Members → Result Sort QFault
-sort_in inner ms = optional (sort_of inner) default_sort (get_member (codes "sort") ms)
+sort_in inner ms = optional (codes "sort") (sort_of inner) default_sort ms

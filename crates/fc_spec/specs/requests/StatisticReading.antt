@@ -1,6 +1,6 @@
 -- The statistic that a text asks for. Guide: JSON Facet API, "Stat Facet Functions".
-use Rattle.std.specs.Prelude.{ℕ, ◌-◌, List, length, take, drop, codes, Bool, true, false, not, ◌&&◌, ◌||◌, ◌==◌, Option, None, Some, ok_or, Result, Ok, if◌then◌else◌}
-use Rattle.std.specs.List.{list_all, prefix_len, suffix_len}
+use Rattle.std.specs.Prelude.{ℕ, ◌-◌, List, length, take, drop, codes, Bool, true, false, not, ◌&&◌, ◌||◌, ◌==◌, Option, None, Some, option_map, ok_or, unwrap_or, Result, Ok, if◌then◌else◌}
+use Rattle.std.specs.List.{list_all, slice_get, prefix_len, suffix_len}
 use Rattle.fc_spec.specs.documents.Val.{Text, same_text}
 use Rattle.fc_spec.specs.words.Lists.{is_empty}
 use Rattle.fc_spec.specs.documents.Schema.{Schema, FieldType, field_named, holds_texts}
@@ -36,9 +36,9 @@ takes_texts _ = false
 abbrev pub is_row : Text → Bool
 is_row t = not (is_empty t) && list_all is_name_byte t
 
--- the field with this number has a type that the test passes
+-- there is a field with this number, of a type that the test passes
 abbrev pub has_type : Schema → (FieldType → Bool) → ℕ → Bool
-has_type s test field = list_all (λ f. test f.kind) (take 1 (drop field s.fields))
+has_type s test field = unwrap_or (option_map (λ f. test f.kind) (slice_get s.fields field)) false
 
 -- a name, `(`, a row of letters, digits and `_`, and `)`, with spaces allowed between all parts and at both ends; then its field is there, and of integers where the statistic asks for them
 abbrev pub statistic_of : Schema → Text → Result Stat QFault

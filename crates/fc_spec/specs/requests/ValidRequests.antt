@@ -6,7 +6,7 @@ use Rattle.fc_spec.specs.documents.Schema.{Schema, holds_texts}
 use Rattle.fc_spec.specs.documents.IntegerTexts.{is_long}
 use Rattle.fc_spec.specs.queries.ValidQueries.{IsValidQuery}
 use Rattle.fc_spec.specs.queries.FilterReading.{is_tag}
-use Rattle.fc_spec.specs.requests.Request.{Filter, BlockStep, stay, parents, children, DomainChange, SortKey, by_count, by_index, by_statistic, Terms, Range, Stat, Kind, terms, range, query, Nodes, no_nodes, statistic, facet, Request, stats_of}
+use Rattle.fc_spec.specs.requests.Request.{Filter, BlockStep, stay, parents, children, DomainChange, SortKey, by_count, by_index, by_statistic, Terms, Range, Stat, Kind, terms, range, query, Facet, Nodes, no_nodes, statistic, facet, Request, stats_of}
 use Rattle.fc_spec.specs.requests.Gaps.{gap_count, last_end}
 use Rattle.fc_spec.specs.requests.StatisticReading.{takes_texts, has_type}
 
@@ -81,11 +81,16 @@ node_names no_nodes = []
 node_names (statistic name st rest) = name ∷ node_names rest
 node_names (facet f inner rest) = f.name ∷ node_names rest
 
+-- a facet is valid but for the nodes nested in it
+pub record IsValidFacet (s : Schema) (is_outermost : Bool) (f : Facet) (inner : Nodes) : Type 0 where
+  pub change : IsValidChange s is_outermost f.change
+  pub kind : IsValidKind s inner f.kind
+
 -- each node is valid by itself
 abbrev pub AreValidNodes : Schema → (outermost : Bool) → Nodes → Type 0
 AreValidNodes s outermost no_nodes = Unit {0}
 AreValidNodes s outermost (statistic name st rest) = IsValidStatistic s st × AreValidNodes s outermost rest
-AreValidNodes s outermost (facet f inner rest) = IsValidChange s outermost f.change × IsValidKind s inner f.kind × AreValidNodes s false inner × AreValidNodes s outermost rest
+AreValidNodes s outermost (facet f inner rest) = IsValidFacet s outermost f inner × AreValidNodes s false inner × AreValidNodes s outermost rest
 
 -- inside each facet the names differ and stand in the order of their bytes
 abbrev pub AreOrderedInside : Nodes → Type 0
