@@ -50,14 +50,14 @@ abbrev rest : KindHead → DomainChange → Result (Walked Nodes) RequestFault �
 rest kind change r = r >>= (λ w. own (kind_behind kind w.read) >>= (λ k. Ok (facet_read change k w)))
 
 with_nodes : {B : Type 0} (inner_view : B → Nodes) (m : ℕ) (name : Text) (change : DomainChange) (kind : KindHead) (whole : Result (Walked Node) RequestFault) (deeper : Result (Walked Nodes) RequestFault) (nodes : Result B Refused) (result : Result code_node.Node Refused)
-  → whole ≡ rest kind change deeper
-  → Answers (λ nodes. walked (inner_view nodes) m) request_fault_view nodes deeper
-  → MatchResult nodes (λ nodes. Answers node_view request_fault_view result (own (facet_behind name change kind (inner_view nodes)))) (λ refusal. result ≡ Err refusal)
-  → Answers (λ node. walked (node_view node).1 m) request_fault_view result whole
+    → whole ≡ rest kind change deeper
+    → Answers (λ nodes. walked (inner_view nodes) m) request_fault_view nodes deeper
+    → MatchResult nodes (λ nodes. Answers node_view request_fault_view result (own (facet_behind name change kind (inner_view nodes)))) (λ refusal. result ≡ Err refusal)
+    → Answers (λ node. walked (node_view node).1 m) request_fault_view result whole
 with_nodes inner_view m name change kind whole deeper (Ok nodes) result cut inner with_them =
     let e : whole ≡ rest kind change (Ok (walked (inner_view nodes) m)) = cut ∙ ap (rest kind change) inner in
     subst (λ w. Answers (λ node. walked (node_view node).1 m) request_fault_view result w) (sym e)
-      (of_kind node_view result name change (kind_behind kind (inner_view nodes)) (inner_view nodes) m with_them)
+    (of_kind node_view result name change (kind_behind kind (inner_view nodes)) (inner_view nodes) m with_them)
 with_nodes inner_view m name change kind whole deeper (Err Memory) result cut inner with_them =
     subst (λ r. Answers (λ node. walked (node_view node).1 m) request_fault_view r whole) (sym with_them) tt
 with_nodes inner_view m name change kind whole deeper (Err (Fault f)) result cut inner with_them =
@@ -65,14 +65,14 @@ with_nodes inner_view m name change kind whole deeper (Err (Fault f)) result cut
 
 -- a facet, whose nested nodes were read or refused
 pub facet_within : {B : Type 0} (inner_view : B → Nodes) (left n m : ℕ) (s : Schema) (outermost : Bool) (name : Text) (d : Data) (change : DomainChange) (kind : KindHead) (members : Option Members) (nodes : Result B Refused) (result : Result code_node.Node Refused)
-  → own (node_head left n s outermost name d) ≡ Ok (facet_head change kind members)
-  → Answers (λ nodes. walked (inner_view nodes) m) request_fault_view nodes (inner_nodes (nodes_within (left - 1) s false) (n + 1) members)
-  → MatchResult nodes (λ nodes. Answers node_view request_fault_view result (own (facet_behind name change kind (inner_view nodes)))) (λ refusal. result ≡ Err refusal)
-  → Answers (λ node. walked (node_view node).1 m) request_fault_view result (node_within left s outermost n name d)
+    → own (node_head left n s outermost name d) ≡ Ok (facet_head change kind members)
+    → Answers (λ nodes. walked (inner_view nodes) m) request_fault_view nodes (inner_nodes (nodes_within (left - 1) s false) (n + 1) members)
+    → MatchResult nodes (λ nodes. Answers node_view request_fault_view result (own (facet_behind name change kind (inner_view nodes)))) (λ refusal. result ≡ Err refusal)
+    → Answers (λ node. walked (node_view node).1 m) request_fault_view result (node_within left s outermost n name d)
 facet_within inner_view left n m s outermost name d change kind members nodes result h inner with_them =
     with_nodes inner_view m name change kind (node_within left s outermost n name d) (inner_nodes (nodes_within (left - 1) s false) (n + 1) members) nodes result
-      (of_node left n s outermost name d ∙ ap (λ r. r >>= resumed (nodes_within (left - 1) s false) (n + 1)) h)
-      inner with_them
+    (of_node left n s outermost name d ∙ ap (λ r. r >>= resumed (nodes_within (left - 1) s false) (n + 1)) h)
+    inner with_them
 
 -- one more node behind those that were read
 pub one_more : (f : ℕ → Text → Data → Result (Walked Node) RequestFault) (nodes : List code_node.Node) (node : code_node.Node) (n m : ℕ) (name : Text) (d : Data) (ms : Members) → f n name d ≡ Ok (walked (node_view node).1 m) → (node_view node).0 ≡ name → behind (map node_view nodes) (members_read f n (member name d ms)) ≡ behind (map node_view (nodes ++ node ∷ [])) (members_read f m ms)

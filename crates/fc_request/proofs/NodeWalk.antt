@@ -8,15 +8,15 @@ use Rattle.fc_spec.specs.documents.Val.{Text}
 use Rattle.fc_spec.specs.documents.Schema.{Schema}
 use Rattle.fc_spec.specs.requests.Request.{DomainChange, Sort, Terms, Kind, terms, range, Nodes, no_nodes}
 use Rattle.fc_spec.specs.requests.RequestFault.{QFault, not_an_object, bad_command, reserved_name, too_large, RequestFault}
-use Rattle.fc_spec.specs.requests.RequestWalk.{inside, check_names, required, optional, text_in}
+use Rattle.fc_spec.specs.requests.RequestWalk.{inside, check_names, required, said_or, text_in}
 use Rattle.fc_spec.specs.requests.StatisticReading.{statistic_of}
 use Rattle.fc_spec.specs.requests.DomainReading.{change_in}
 use Rattle.fc_spec.specs.requests.SortReading.{sort_of, sort_in, default_sort}
-use Rattle.fc_spec.specs.requests.FacetReading.{TermsParts, terms_parts, terms_of, range_parts, query_part}
+use Rattle.fc_spec.specs.requests.FacetReading.{terms_parts, range_parts, query_part}
 use Rattle.fc_spec.specs.requests.RequestReading.{Node, Walked, Reader, members_read, with_node, is_reserved, inner_read, own, facet_read, terms_read, range_read, query_read, statistic_read, func_read, FacetType, terms_type, range_type, query_type, func_type, parameters, type_of, typed_read, command_read, node_read, nodes_within}
 use Rattle.fc_spec.specs.words.Walks.{◌>>=◌, unless, with_fault}
 use Rattle.fc_request.specs.NodeView.{Part, linked}
-use Rattle.fc_request.specs.Heads.{KindHead, whole, unsorted, Head, statistic_head, facet_head, some_object, inner_members, facet_of, terms_before, statistic_before, func_head, typed_head, object_head, command_head, node_head, kind_behind, walked, inner_nodes, resumed, node_within}
+use Rattle.fc_request.specs.Heads.{KindHead, whole, unsorted, Head, statistic_head, facet_head, some_object, inner_members, facet_of, statistic_before, func_head, typed_head, object_head, command_head, node_head, kind_behind, walked, inner_nodes, resumed, node_within}
 
 -- ---- steps
 
@@ -31,7 +31,7 @@ same_steps (Ok a) f g h = h a
 same_steps (Err e) f g h = refl
 
 -- the nested nodes, and what follows them
-inner_step : (deeper : Reader) (n : ℕ) (o : Option Data) (k : Walked Nodes → Result (Walked Node) RequestFault) (c : Option Members → Head) → ((i : Option Members) → resumed deeper n (c i) ≡ (inner_nodes deeper n i >>= k)) → (inner_read deeper n o >>= k) ≡ (own (optional some_object None o >>= (λ i. Ok (c i))) >>= resumed deeper n)
+inner_step : (deeper : Reader) (n : ℕ) (o : Option Data) (k : Walked Nodes → Result (Walked Node) RequestFault) (c : Option Members → Head) → ((i : Option Members) → resumed deeper n (c i) ≡ (inner_nodes deeper n i >>= k)) → (inner_read deeper n o >>= k) ≡ (own (said_or some_object None o >>= (λ i. Ok (c i))) >>= resumed deeper n)
 inner_step deeper n None k c h = sym (h None)
 inner_step deeper n (Some d) k c h = of_object (as_object d)
   where
@@ -49,32 +49,18 @@ of_kind s outermost deeper n ms k =
     step deeper n (change_in s outermost ms) _ _ (λ change.
     inner_step deeper n (get_member (codes "facet") ms) (λ inner. Ok (facet_read change k inner)) (λ i. facet_head change (whole k) i) (λ i. refl))
 
-of_parts : (s : Schema) (outermost : Bool) (deeper : Reader) (n : ℕ) (ms : Members) (parts : TermsParts) → (do
-  change ← own (change_in s outermost ms)
-  inner ← inner_read deeper n (get_member (codes "facet") ms)
-  sort ← own (sort_in inner.read ms)
-  Ok (facet_read change (terms (terms_of parts sort)) inner)) ≡ (own (facet_of s outermost (unsorted (terms_of parts default_sort) (get_member (codes "sort") ms)) ms) >>= resumed deeper n)
-of_parts s outermost deeper n ms parts =
+of_terms : (s : Schema) (outermost : Bool) (deeper : Reader) (n : ℕ) (ms : Members) → terms_read s outermost deeper n ms ≡ (own (typed_head terms_type s outermost ms) >>= resumed deeper n)
+of_terms s outermost deeper n ms =
+    step deeper n (terms_parts s ms) _ _ (λ t.
     step deeper n (change_in s outermost ms) _ _ (λ change.
     inner_step deeper n (get_member (codes "facet") ms)
-    (λ inner. own (sort_in inner.read ms) >>= (λ sort. Ok (facet_read change (terms (terms_of parts sort)) inner)))
-    (λ i. facet_head change (unsorted (terms_of parts default_sort) (get_member (codes "sort") ms)) i)
-    (λ i. same_steps (inner_nodes deeper n i) _ _ (λ w. sorted change w (sort_in w.read ms))))
+    (λ inner. own (sort_in inner.read ms) >>= (λ sort. Ok (facet_read change (terms (record t { sort = sort })) inner)))
+    (λ i. facet_head change (unsorted t (get_member (codes "sort") ms)) i)
+    (λ i. same_steps (inner_nodes deeper n i) _ _ (λ w. sorted change t w (sort_in w.read ms)))))
   where
-    sorted : (change : DomainChange) (w : Walked Nodes) (r : Result Sort QFault) → (own (r >>= (λ sort. Ok (terms (record (terms_of parts default_sort) { sort = sort })))) >>= (λ k. Ok (facet_read change k w))) ≡ (own r >>= (λ sort. Ok (facet_read change (terms (terms_of parts sort)) w)))
-    sorted change w (Ok sort) = refl
-    sorted change w (Err e) = refl
-
-of_terms : (s : Schema) (outermost : Bool) (deeper : Reader) (n : ℕ) (ms : Members) → terms_read s outermost deeper n ms ≡ (own (typed_head terms_type s outermost ms) >>= resumed deeper n)
-of_terms s outermost deeper n ms = by_parts (terms_parts s ms)
-  where
-    by_parts : (r : Result TermsParts QFault) → (own r >>= (λ parts. do
-      change ← own (change_in s outermost ms)
-      inner ← inner_read deeper n (get_member (codes "facet") ms)
-      sort ← own (sort_in inner.read ms)
-      Ok (facet_read change (terms (terms_of parts sort)) inner))) ≡ (own ((r >>= (λ parts. Ok (terms_of parts default_sort))) >>= (λ t. facet_of s outermost (unsorted t (get_member (codes "sort") ms)) ms)) >>= resumed deeper n)
-    by_parts (Ok parts) = of_parts s outermost deeper n ms parts
-    by_parts (Err e) = refl
+    sorted : (change : DomainChange) (t : Terms) (w : Walked Nodes) (r : Result Sort QFault) → (own (r >>= (λ sort. Ok (terms (record t { sort = sort })))) >>= (λ k. Ok (facet_read change k w))) ≡ (own r >>= (λ sort. Ok (facet_read change (terms (record t { sort = sort })) w)))
+    sorted change t w (Ok sort) = refl
+    sorted change t w (Err e) = refl
 
 of_statistic_text : (s : Schema) (deeper : Reader) (n : ℕ) (t : Text) → statistic_read s n t ≡ (own (statistic_before s t) >>= resumed deeper n)
 of_statistic_text s deeper n t = step deeper n (statistic_of s t) _ _ (λ st. refl)
@@ -84,8 +70,7 @@ of_type terms_type s outermost deeper n ms = of_terms s outermost deeper n ms
 of_type range_type s outermost deeper n ms = step deeper n (range_parts s ms) _ _ (λ g. of_kind s outermost deeper n ms (range g))
 of_type query_type s outermost deeper n ms = step deeper n (query_part s ms) _ _ (λ q. of_kind s outermost deeper n ms q)
 of_type func_type s outermost deeper n ms =
-    step deeper n (required (codes "func") ms) _ _ (λ d.
-    step deeper n (text_in d) _ _ (λ t. of_statistic_text s deeper n t))
+    step deeper n (required (codes "func") text_in ms) _ _ (λ t. of_statistic_text s deeper n t)
 
 -- ---- a node
 

@@ -1,17 +1,18 @@
 -- What a node says before the nodes nested in it are read, and what is read behind them: the walk of requests, cut at its recursion.
-use Rattle.std.specs.Prelude.{ℕ, zero, suc, ◌+◌, ◌-◌, codes, Bool, false, not, ◌&&◌, nat_lt, Option, None, Some, ok_or, Result, Ok, Err}
+use Rattle.std.specs.Prelude.{ℕ, zero, suc, ◌+◌, ◌-◌, List, [], ◌∷◌, codes, Bool, true, false, not, ◌&&◌, nat_lt, Option, None, Some, ok_or, Result, Ok, Err}
 use Rattle.serde_json.specs.Data.{Data, string, Members}
 use Rattle.serde_json.specs.Find.{as_object, get_member}
 use Rattle.fc_spec.specs.documents.Val.{Text}
 use Rattle.fc_spec.specs.documents.Schema.{Schema}
-use Rattle.fc_spec.specs.requests.Request.{Stat, DomainChange, Terms, Kind, terms, range, Nodes, no_nodes}
+use Rattle.fc_spec.specs.queries.Query.{Query, all}
+use Rattle.fc_spec.specs.requests.Request.{Filter, Stat, DomainChange, Terms, Kind, terms, range, Nodes, no_nodes}
 use Rattle.fc_spec.specs.requests.RequestFault.{QFault, not_an_object, bad_command, reserved_name, too_large, RequestFault}
-use Rattle.fc_spec.specs.requests.RequestWalk.{check_names, required, optional, text_in}
+use Rattle.fc_spec.specs.requests.RequestWalk.{check_names, required, optional, said_or, text_in}
 use Rattle.fc_spec.specs.requests.StatisticReading.{statistic_of}
-use Rattle.fc_spec.specs.requests.DomainReading.{change_in}
+use Rattle.fc_spec.specs.requests.DomainReading.{change_in, text_query}
 use Rattle.fc_spec.specs.requests.SortReading.{sort_of, default_sort}
-use Rattle.fc_spec.specs.requests.FacetReading.{terms_parts, terms_of, range_parts, query_part}
-use Rattle.fc_spec.specs.requests.RequestReading.{Node, of_statistic, of_facet, Walked, Reader, is_reserved, own, facet_read, FacetType, terms_type, range_type, query_type, func_type, parameters, type_of, node_read, nodes_within}
+use Rattle.fc_spec.specs.requests.FacetReading.{terms_parts, range_parts, query_part}
+use Rattle.fc_spec.specs.requests.RequestReading.{Node, of_statistic, of_facet, Walked, Reader, is_reserved, own, facet_read, FacetType, terms_type, range_type, query_type, func_type, parameters, type_of, node_read, nodes_within, inner_read, filters_in, zero_in}
 use Rattle.fc_spec.specs.words.Walks.{◌>>=◌, unless}
 
 -- a kind that is whole, or a terms facet whose sort, as it is written, is read last
@@ -26,26 +27,20 @@ pub data Head : Type 0 where
 
 -- ---- before the nested nodes
 
--- the members of `facet`
 abbrev pub some_object : Data → Result (Option Members) QFault
 some_object d = do
   ms ← ok_or (as_object d) not_an_object
   Ok (Some ms)
 
+-- the members of `facet`
 abbrev pub inner_members : Members → Result (Option Members) QFault
-inner_members ms = optional some_object None (get_member (codes "facet") ms)
+inner_members ms = optional (codes "facet") some_object None ms
 
 abbrev pub facet_of : Schema → (outermost : Bool) → KindHead → Members → Result Head QFault
 facet_of s outermost kind ms = do
   change ← change_in s outermost ms
   inner ← inner_members ms
   Ok (facet_head change kind inner)
-
--- the terms facet of the members, by its default sort
-abbrev pub terms_before : Schema → Members → Result Terms QFault
-terms_before s ms = do
-  parts ← terms_parts s ms
-  Ok (terms_of parts default_sort)
 
 abbrev pub statistic_before : Schema → Text → Result Head QFault
 statistic_before s t = do
@@ -54,13 +49,12 @@ statistic_before s t = do
 
 abbrev pub func_head : Schema → Members → Result Head QFault
 func_head s ms = do
-  d ← required (codes "func") ms
-  t ← text_in d
+  t ← required (codes "func") text_in ms
   statistic_before s t
 
 abbrev pub typed_head : FacetType → Schema → (outermost : Bool) → Members → Result Head QFault
 typed_head terms_type s outermost ms = do
-  t ← terms_before s ms
+  t ← terms_parts s ms
   facet_of s outermost (unsorted t (get_member (codes "sort") ms)) ms
 typed_head range_type s outermost ms = do
   g ← range_parts s ms
@@ -94,7 +88,7 @@ node_head left n s outermost name d = do
 abbrev pub kind_behind : KindHead → Nodes → Result Kind QFault
 kind_behind (whole k) inner = Ok k
 kind_behind (unsorted t d) inner = do
-  sort ← optional (sort_of inner) default_sort d
+  sort ← said_or (sort_of inner) default_sort d
   Ok (terms (record t { sort = sort }))
 
 -- the facet of this name over its nested nodes
@@ -121,3 +115,20 @@ resumed deeper n (facet_head change kind inner) = do
 abbrev pub node_within : ℕ → Schema → (outermost : Bool) → ℕ → Text → Data → Result (Walked Node) RequestFault
 node_within zero s outermost n name d = own (Err too_large)
 node_within (suc left) s outermost n name d = node_read s outermost (nodes_within left s false) n name d
+
+-- ---- the request
+
+-- its query and its filters, where its members are known and it asks for no documents
+abbrev pub request_head : Schema → Members → Result (Query × List Filter) QFault
+request_head s ms = do
+  _ ← check_names (codes "query" ∷ codes "filter" ∷ codes "limit" ∷ codes "facet" ∷ []) ms
+  q ← optional (codes "query") (text_query s) all ms
+  fs ← optional (codes "filter") (filters_in s) [] ms
+  _ ← optional (codes "limit") zero_in tt ms
+  Ok (q, fs)
+
+-- its outermost nodes
+abbrev pub outermost : Schema → Members → Result Nodes RequestFault
+outermost s ms = do
+  w ← inner_read (nodes_within 8 s true) 0 (get_member (codes "facet") ms)
+  Ok w.read

@@ -43,6 +43,25 @@ impl Request {
             HasNumbers (view json.now) → HasAscendingKeys (view json.now) →
             IsValidRequest schema.now (request_view request)) }
     {
-        Err(Refusal::Memory)
+        match json.as_object() {
+            Some(members) => read_members(alloc, schema, members),
+            None => Err(Refusal::Fault(own(alloc, QFault::NotAnObject))),
+        }
     }
+}
+
+// The query and the filters of a request, whose members are known, and which asks for no documents.
+fn request_head(
+    alloc: Global,
+    schema: &Schema,
+    members: &Map<String, Value>,
+) -> Result<(Query, Vec<Filter>), Refusal<QFault>>
+    ensures { Answers (λ parts. (query_view parts.0, map filter_view parts.1.items)) fault_view result
+        (heads.request_head schema.now (members_view members.now.entries)) }
+{
+    check_names(members, &["query", "filter", "limit", "facet"])?;
+    let query = query_in(alloc, schema, members)?;
+    let filters = filters_in(alloc, schema, members)?;
+    no_documents_in(members)?;
+    Ok((query, filters))
 }

@@ -1,5 +1,6 @@
 // Nodes, one behind another, each with those nested in it.
-ghost use Rattle.std.specs.Prelude.{◌≡◌, ◌<◌, [], false, IfOk, MatchResult, OnOk, option_map};
+ghost use Rattle.std.specs.Prelude.{◌+◌, ◌≤◌, length, ◌≡◌, ◌<◌, [], false, IfOk, MatchResult, OnOk, option_map};
+ghost use Rattle.std.specs.Result.{ForOk};
 ghost use Rattle.serde_json.specs.View.{view, members_view};
 ghost use Rattle.fc_spec.specs.requests.Request as definition;
 ghost use Rattle.fc_spec.specs.requests.Request.{stay};
@@ -16,6 +17,7 @@ ghost use Rattle.fc_request.specs.NodeView.{node_of, node_view, nodes_view};
 use super::head::{Head, KindHead, node_head};
 use super::sort::sort_in;
 use crate::{BlockStep, Domain, Kind, Node, QFault, RequestFault, Terms};
+use fc_base::json::member;
 use fc_base::{Name, Refusal, Schema, Stat, WantMemory};
 use serde_json::{Map, Value};
 use std::alloc::Global;
@@ -71,6 +73,7 @@ pub(crate) fn no_change(alloc: Global) -> Domain
 
 // The terms facet by its sort.
 fn sorted(mut terms: Terms, nodes: &[Node], sort: Option<&Value>) -> Result<Terms, Refusal<QFault>>
+    requires { length nodes.now ≤ 64 }
     ensures { Answers (λ terms. definition.terms (terms_view terms)) fault_view result
         (heads.kind_behind (heads.unsorted (terms_view terms) (option_map (λ json. view json.now) sort.entry)) (nodes_view nodes.now)) }
 {
@@ -86,6 +89,7 @@ fn facet_node(
     kind: KindHead<'_>,
     nodes: Vec<Node>,
 ) -> Result<Node, Refusal<QFault>>
+    requires { length nodes.items ≤ 64 }
     ensures { Answers node_view fault_view result
         (heads.facet_behind name.now (domain_view domain) (kind_head_view kind.entry) (nodes_view nodes.items)) }
 {
@@ -142,6 +146,7 @@ fn facet_in(
     kind: KindHead<'_>,
     nodes: Vec<Node>,
 ) -> Result<Node, Refusal<RequestFault>>
+    requires { length nodes.items ≤ 64 }
     ensures { Answers node_view request_fault_view result
         (walk.own (heads.facet_behind name.now (domain_view domain) (kind_head_view kind.entry) (nodes_view nodes.items))) }
 {
@@ -160,6 +165,7 @@ fn facet_with(
     kind: KindHead<'_>,
     nodes: Result<Vec<Node>, Refusal<RequestFault>>,
 ) -> Result<Node, Refusal<RequestFault>>
+    requires { ForOk nodes (λ nodes. length nodes.items ≤ 64) }
     ensures { MatchResult nodes
         (λ nodes. Answers node_view request_fault_view result
         (walk.own (heads.facet_behind name.now (domain_view domain) (kind_head_view kind.entry) (nodes_view nodes.items))))
@@ -182,9 +188,13 @@ fn read_node(
     name: &str,
     json: &Value,
 ) -> Result<Node, Refusal<RequestFault>>
+    requires { seen.old ≤ 64 }
     ensures answer { Answers (λ node. heads.walked (node_view node).1 seen.new) request_fault_view result
         (heads.node_within left schema.now outermost seen.old name.now (view json.now)) }
     ensures name { IfOk result (λ node. (node_view node).0 ≡ name.now) }
+    ensures counted { OnOk result (seen.old < seen.new) }
+    ensures rises { seen.old ≤ seen.new }
+    ensures few { seen.new ≤ 64 }
 {
     match head_in(alloc, schema, left, *seen, outermost, name, json) {
         Ok(Head::Statistic(stat)) => {
@@ -209,9 +219,13 @@ fn inner_nodes(
     seen: &mut u32,
     members: Option<&Map<String, Value>>,
 ) -> Result<Vec<Node>, Refusal<RequestFault>>
-    ensures { Answers (λ nodes. heads.walked (nodes_view nodes.items) seen.new) request_fault_view result
+    requires { seen.old ≤ 64 }
+    ensures answer { Answers (λ nodes. heads.walked (nodes_view nodes.items) seen.new) request_fault_view result
         (heads.inner_nodes (walk.nodes_within left schema.now false) seen.old
         (option_map (λ ms. members_view ms.now.entries) members.entry)) }
+    ensures counted { IfOk result (λ nodes. length nodes.items + seen.old ≤ seen.new) }
+    ensures rises { seen.old ≤ seen.new }
+    ensures few { seen.new ≤ 64 }
 {
     match members {
         Some(members) => read_nodes(alloc, schema, left, seen, false, members),
@@ -230,8 +244,12 @@ pub(crate) fn read_nodes(
     outermost: bool,
     members: &Map<String, Value>,
 ) -> Result<Vec<Node>, Refusal<RequestFault>>
-    ensures { Answers (λ nodes. heads.walked (nodes_view nodes.items) seen.new) request_fault_view result
+    requires { seen.old ≤ 64 }
+    ensures answer { Answers (λ nodes. heads.walked (nodes_view nodes.items) seen.new) request_fault_view result
         (walk.nodes_within left schema.now outermost seen.old (members_view members.now.entries)) }
+    ensures counted { IfOk result (λ nodes. length nodes.items + seen.old ≤ seen.new) }
+    ensures rises { seen.old ≤ seen.new }
+    ensures few { seen.new ≤ 64 }
 {
     let mut nodes = Vec::new(alloc);
     for (name, json) in members {
@@ -245,4 +263,23 @@ pub(crate) fn read_nodes(
         }
     }
     Ok(nodes)
+}
+
+/// The outermost nodes of a request.
+pub(crate) fn nodes_in(
+    alloc: Global,
+    schema: &Schema,
+    members: &Map<String, Value>,
+) -> Result<Vec<Node>, Refusal<RequestFault>>
+    ensures { Answers (λ nodes. nodes_view nodes.items) request_fault_view result
+        (heads.outermost schema.now (members_view members.now.entries)) }
+{
+    let Some(json) = member(members, "facet") else {
+        return Ok(Vec::new(alloc));
+    };
+    let Some(facets) = json.as_object() else {
+        return Err(Refusal::Fault(own(alloc, QFault::NotAnObject)));
+    };
+    let mut seen = 0;
+    read_nodes(alloc, schema, 8, &mut seen, true, facets)
 }

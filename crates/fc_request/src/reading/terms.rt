@@ -4,7 +4,7 @@ ghost use Rattle.serde_json.specs.View.{view, members_view};
 ghost use Rattle.fc_base.specs.Answers.{Answers};
 ghost use Rattle.fc_request.specs.FaultView.{fault_view};
 ghost use Rattle.fc_request.specs.KindView.{terms_view};
-ghost use Rattle.fc_request.specs.Heads.{terms_before};
+ghost use Rattle.fc_spec.specs.requests.FacetReading.{terms_parts};
 
 use crate::{QFault, Terms};
 use fc_base::{Refusal, Schema};
@@ -16,7 +16,7 @@ pub(crate) fn terms_in(
     schema: &Schema,
     members: &Map<String, Value>,
 ) -> Result<Terms, Refusal<QFault>>
-    ensures { Answers terms_view fault_view result (terms_before schema.now (members_view members.now.entries)) }
+    ensures { Answers terms_view fault_view result (terms_parts schema.now (members_view members.now.entries)) }
 {
     Err(Refusal::Memory)
 }

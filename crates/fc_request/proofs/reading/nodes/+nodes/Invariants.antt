@@ -1,4 +1,4 @@
-use Rattle.std.proofs.Common.{◌≡◌, ◌+◌, ◌*◌, map}
+use Rattle.std.proofs.Common.{◌≡◌, ◌+◌, ◌*◌, ◌≤◌, length, map}
 use Rattle.serde_json.specs.View.{members_view}
 use Rattle.fc_spec.specs.requests.RequestReading.{members_read, nodes_within}
 use Rattle.fc_request.specs.Heads.{node_within}
@@ -16,6 +16,10 @@ abbrev pub decreases-read_nodes : goal.decreases-read_nodes
 decreases-read_nodes l = 3 * l.left + 1
 
 abbrev pub invariant-read_nodes-loop-name : goal.invariant-read_nodes-loop-name
-invariant-read_nodes-loop-name l =
-    behind (map node_view l.nodes.items) (members_read (node_within l.left l.schema l.outermost) l.seen (members_view l.name-iterator))
-    ≡ nodes_within l.left l.schema l.outermost l.initial.seen (members_view l.members.entries)
+invariant-read_nodes-loop-name l = record {
+  read : behind (map node_view l.nodes.items) (members_read (node_within l.left l.schema l.outermost) l.seen (members_view l.name-iterator))
+      ≡ nodes_within l.left l.schema l.outermost l.initial.seen (members_view l.members.entries);
+  counted : length l.nodes.items + l.initial.seen ≤ l.seen;
+  rises : l.initial.seen ≤ l.seen;
+  few : l.seen ≤ 64;
+}
