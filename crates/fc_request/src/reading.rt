@@ -1,4 +1,5 @@
 // Reading a request from JSON.
+mod domain;
 mod fields;
 mod filters;
 mod query;
