@@ -44,14 +44,15 @@ fn is_tag(text: &str) -> bool
     !text.is_empty() && are_tag_bytes(text.as_bytes())
 }
 
-// What stands between the commas.
-fn parts_of(alloc: Global, list: &str) -> Result<Vec<&str>, AllocError>
+/// What stands between the commas of a text, in its order.
+pub fn parts_of(alloc: Global, list: &str) -> Result<Vec<&str>, AllocError>
     ensures { IfOk result (λ parts. map (λ x. x.now) parts.items ≡ slice_split (λ b. b == 44) list.now) }
 {
     list.split(',').collect(alloc)
 }
 
-fn are_tags(parts: &[&str]) -> bool
+/// Each text is a tag: one or more ASCII letters, digits, `_`, `-` and `.`.
+pub fn are_tags(parts: &[&str]) -> bool
     ensures { result ≡ list_all reading.is_tag (map (λ x. x.now) parts.now) }
 {
     for part in parts {
@@ -62,7 +63,8 @@ fn are_tags(parts: &[&str]) -> bool
     true
 }
 
-fn names_of(alloc: Global, parts: &[&str]) -> Result<Vec<Name>, WantMemory>
+/// A name of each text, in their order.
+pub fn names_of(alloc: Global, parts: &[&str]) -> Result<Vec<Name>, WantMemory>
     ensures { IfOk result (λ names. names.items ≡ map (λ x. x.now) parts.now) }
 {
     let mut names = Vec::new(alloc);

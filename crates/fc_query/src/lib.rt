@@ -17,6 +17,6 @@ mod tokens;
 mod trees;
 
 pub use fault::{FilterFault, QueryFault};
-pub use filter::{Filter, read_filter};
+pub use filter::{Filter, are_tags, names_of, parts_of, read_filter};
 pub use query::{Bound, Clause, Need, Query};
 pub use text::parse;

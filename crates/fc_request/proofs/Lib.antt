@@ -1,2 +1,5 @@
 pub mod NodeWalk
 pub mod NodeAnswers
+pub mod RequestParts
+pub mod FieldTypes
+pub mod ReadSoFar

@@ -20,10 +20,10 @@ use Rattle.fc_request.specs.Heads.{KindHead, whole, unsorted, Head, statistic_he
 
 -- ---- steps
 
--- a step and what follows it, in the walk and in the head
-step : {A : Type 0} (deeper : Reader) (n : ℕ) (r : Result A QFault) (f : A → Result (Walked Node) RequestFault) (g : A → Result Head QFault) → ((a : A) → f a ≡ (own (g a) >>= resumed deeper n)) → (own r >>= f) ≡ (own (r >>= g) >>= resumed deeper n)
-step deeper n (Ok a) f g h = h a
-step deeper n (Err e) f g h = refl
+-- a step and what follows it, in a walk and in its head with what follows that
+pub step : {A B C : Type 0} (k : C → Result B RequestFault) (r : Result A QFault) (f : A → Result B RequestFault) (g : A → Result C QFault) → ((a : A) → f a ≡ (own (g a) >>= k)) → (own r >>= f) ≡ (own (r >>= g) >>= k)
+step k (Ok a) f g h = h a
+step k (Err e) f g h = refl
 
 -- what follows the same is the same
 same_steps : {A B E : Type 0} (r : Result A E) (f g : A → Result B E) → ((a : A) → f a ≡ g a) → (r >>= f) ≡ (r >>= g)
@@ -46,13 +46,13 @@ of_kind : (s : Schema) (outermost : Bool) (deeper : Reader) (n : ℕ) (ms : Memb
   inner ← inner_read deeper n (get_member (codes "facet") ms)
   Ok (facet_read change k inner)) ≡ (own (facet_of s outermost (whole k) ms) >>= resumed deeper n)
 of_kind s outermost deeper n ms k =
-    step deeper n (change_in s outermost ms) _ _ (λ change.
+    step (resumed deeper n) (change_in s outermost ms) _ _ (λ change.
     inner_step deeper n (get_member (codes "facet") ms) (λ inner. Ok (facet_read change k inner)) (λ i. facet_head change (whole k) i) (λ i. refl))
 
 of_terms : (s : Schema) (outermost : Bool) (deeper : Reader) (n : ℕ) (ms : Members) → terms_read s outermost deeper n ms ≡ (own (typed_head terms_type s outermost ms) >>= resumed deeper n)
 of_terms s outermost deeper n ms =
-    step deeper n (terms_parts s ms) _ _ (λ t.
-    step deeper n (change_in s outermost ms) _ _ (λ change.
+    step (resumed deeper n) (terms_parts s ms) _ _ (λ t.
+    step (resumed deeper n) (change_in s outermost ms) _ _ (λ change.
     inner_step deeper n (get_member (codes "facet") ms)
     (λ inner. own (sort_in inner.read ms) >>= (λ sort. Ok (facet_read change (terms (record t { sort = sort })) inner)))
     (λ i. facet_head change (unsorted t (get_member (codes "sort") ms)) i)
@@ -63,14 +63,14 @@ of_terms s outermost deeper n ms =
     sorted change t w (Err e) = refl
 
 of_statistic_text : (s : Schema) (deeper : Reader) (n : ℕ) (t : Text) → statistic_read s n t ≡ (own (statistic_before s t) >>= resumed deeper n)
-of_statistic_text s deeper n t = step deeper n (statistic_of s t) _ _ (λ st. refl)
+of_statistic_text s deeper n t = step (resumed deeper n) (statistic_of s t) _ _ (λ st. refl)
 
 of_type : (kind : FacetType) (s : Schema) (outermost : Bool) (deeper : Reader) (n : ℕ) (ms : Members) → typed_read kind s outermost deeper n ms ≡ (own (typed_head kind s outermost ms) >>= resumed deeper n)
 of_type terms_type s outermost deeper n ms = of_terms s outermost deeper n ms
-of_type range_type s outermost deeper n ms = step deeper n (range_parts s ms) _ _ (λ g. of_kind s outermost deeper n ms (range g))
-of_type query_type s outermost deeper n ms = step deeper n (query_part s ms) _ _ (λ q. of_kind s outermost deeper n ms q)
+of_type range_type s outermost deeper n ms = step (resumed deeper n) (range_parts s ms) _ _ (λ g. of_kind s outermost deeper n ms (range g))
+of_type query_type s outermost deeper n ms = step (resumed deeper n) (query_part s ms) _ _ (λ q. of_kind s outermost deeper n ms q)
 of_type func_type s outermost deeper n ms =
-    step deeper n (required (codes "func") text_in ms) _ _ (λ t. of_statistic_text s deeper n t)
+    step (resumed deeper n) (required (codes "func") text_in ms) _ _ (λ t. of_statistic_text s deeper n t)
 
 -- ---- a node
 
@@ -79,8 +79,8 @@ of_members : (s : Schema) (outermost : Bool) (deeper : Reader) (n : ℕ) (ms : M
   _ ← own (check_names (parameters kind) ms)
   typed_read kind s outermost deeper n ms) ≡ (own (object_head s outermost ms) >>= resumed deeper n)
 of_members s outermost deeper n ms =
-    step deeper n (type_of ms) _ _ (λ kind.
-    step deeper n (check_names (parameters kind) ms) _ _ (λ known. of_type kind s outermost deeper n ms))
+    step (resumed deeper n) (type_of ms) _ _ (λ kind.
+    step (resumed deeper n) (check_names (parameters kind) ms) _ _ (λ known. of_type kind s outermost deeper n ms))
 
 of_command : (s : Schema) (outermost : Bool) (deeper : Reader) (n : ℕ) (d : Data) → command_read s outermost deeper n d ≡ (own (command_head s outermost d) >>= resumed deeper n)
 of_command s outermost deeper n (string t) = of_statistic_text s deeper n t
@@ -96,8 +96,8 @@ of_node (suc left) n s outermost name d =
     let deep : nat_lt 0 (suc left) ≡ true = lt-ltb 0 (suc left) (omega arith) in
     let less : suc left - 1 ≡ left = omega arith in
     rw (deep, less)
-    (step (nodes_within left s false) (n + 1) (unless (nat_lt n 64) too_large) _ _ (λ few.
-    step (nodes_within left s false) (n + 1) (unless (not (is_reserved name)) reserved_name) _ _ (λ free.
+    (step (resumed (nodes_within left s false) (n + 1)) (unless (nat_lt n 64) too_large) _ _ (λ few.
+    step (resumed (nodes_within left s false) (n + 1)) (unless (not (is_reserved name)) reserved_name) _ _ (λ free.
     of_command s outermost (nodes_within left s false) (n + 1) d)))
 
 -- ---- nodes, one behind another

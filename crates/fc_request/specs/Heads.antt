@@ -5,7 +5,7 @@ use Rattle.serde_json.specs.Find.{as_object, get_member}
 use Rattle.fc_spec.specs.documents.Val.{Text}
 use Rattle.fc_spec.specs.documents.Schema.{Schema}
 use Rattle.fc_spec.specs.queries.Query.{Query, all}
-use Rattle.fc_spec.specs.requests.Request.{Filter, Stat, DomainChange, Terms, Kind, terms, range, Nodes, no_nodes}
+use Rattle.fc_spec.specs.requests.Request.{Filter, Stat, DomainChange, Terms, Kind, terms, range, Nodes, no_nodes, Request}
 use Rattle.fc_spec.specs.requests.RequestFault.{QFault, not_an_object, bad_command, reserved_name, too_large, RequestFault}
 use Rattle.fc_spec.specs.requests.RequestWalk.{check_names, required, optional, said_or, text_in}
 use Rattle.fc_spec.specs.requests.StatisticReading.{statistic_of}
@@ -128,7 +128,13 @@ request_head s ms = do
   Ok (q, fs)
 
 -- its outermost nodes
-abbrev pub outermost : Schema → Members → Result Nodes RequestFault
-outermost s ms = do
+abbrev pub outermost_nodes : Schema → Members → Result Nodes RequestFault
+outermost_nodes s ms = do
   w ← inner_read (nodes_within 8 s true) 0 (get_member (codes "facet") ms)
   Ok w.read
+
+abbrev pub request_parts : Schema → Members → Result Request RequestFault
+request_parts s ms = do
+  head ← own (request_head s ms)
+  nodes ← outermost_nodes s ms
+  Ok (record { query = head.0; filters = head.1; nodes = nodes })

@@ -69,3 +69,14 @@ fn values_have_filters_or_faults(rt: HostRuntime) -> Result<(), Fail> {
     }
     Ok(())
 }
+
+#[test]
+fn texts_have_tags(rt: HostRuntime) -> Result<(), Fail> {
+    let alloc = rt.alloc();
+    let parts = parts_of(alloc, "A,b-2")?;
+    assert!(rt; are_tags(&parts));
+    let names = names_of(alloc, &parts)?;
+    assert_eq!(rt; names.len(), 2);
+    assert_eq!(rt; names[1].text(), "b-2");
+    Ok(())
+}

@@ -14,9 +14,10 @@ ghost use Rattle.fc_request.specs.Heads as heads;
 ghost use Rattle.fc_request.specs.KindView.{domain_view, terms_view};
 ghost use Rattle.fc_request.specs.NodeView.{node_of, node_view, nodes_view};
 
+use super::domain::no_change;
 use super::head::{Head, KindHead, node_head};
 use super::sort::sort_in;
-use crate::{BlockStep, Domain, Kind, Node, QFault, RequestFault, Terms};
+use crate::{Domain, Kind, Node, QFault, RequestFault, Terms};
 use fc_base::json::member;
 use fc_base::{Name, Refusal, Schema, Stat, WantMemory};
 use serde_json::{Map, Value};
@@ -42,7 +43,7 @@ fn inside(alloc: Global, name: &str, mut fault: RequestFault) -> Result<RequestF
     Ok(fault)
 }
 
-fn node(
+pub(crate) fn node(
     alloc: Global,
     name: &str,
     domain: Domain,
@@ -58,17 +59,6 @@ fn node(
         kind,
         nodes,
     })
-}
-
-/// What changes no domain.
-pub(crate) fn no_change(alloc: Global) -> Domain
-    ensures { domain_view result ≡ record { exclude = []; block = stay; filters = [] } }
-{
-    Domain {
-        exclude: Vec::new(alloc),
-        block: BlockStep::Stay,
-        filters: Vec::new(alloc),
-    }
 }
 
 // The terms facet by its sort.
@@ -272,7 +262,7 @@ pub(crate) fn nodes_in(
     members: &Map<String, Value>,
 ) -> Result<Vec<Node>, Refusal<RequestFault>>
     ensures { Answers (λ nodes. nodes_view nodes.items) request_fault_view result
-        (heads.outermost schema.now (members_view members.now.entries)) }
+        (heads.outermost_nodes schema.now (members_view members.now.entries)) }
 {
     let Some(json) = member(members, "facet") else {
         return Ok(Vec::new(alloc));
