@@ -5,6 +5,7 @@ mod domain;
 mod fault;
 mod kind;
 mod node;
+mod reading;
 mod request;
 
 pub use domain::{BlockStep, Domain};

@@ -1,0 +1,2 @@
+// Reading a request from JSON.
+mod words;
