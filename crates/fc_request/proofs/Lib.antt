@@ -1,0 +1,2 @@
+pub mod NodeStatistics
+pub mod RangeGaps

@@ -2,3 +2,5 @@ pub mod FaultView
 pub mod KindView
 pub mod NodeView
 pub mod RequestView
+pub mod NodeStatistics
+pub mod RangeGaps

@@ -1,6 +1,12 @@
 // Kinds of facet, with their parameters.
-use fc_base::{FieldId, Name, Stat};
+ghost use Rattle.std.specs.Prelude.{◌≡◌, ◌<◌, ◌^◌, pos, ◌*ℤ◌, ◌-ℤ◌, unsigned_abs, IfOk};
+ghost use Rattle.fc_spec.specs.requests.Gaps.{gap_count, low_end};
+ghost use Rattle.fc_spec.specs.documents.Val as definition;
+ghost use Rattle.fc_base.specs.View.{val_view};
+
+use fc_base::{FieldId, Name, Stat, Val, WantMemory};
 use fc_query::Query;
+use std::alloc::Global;
 
 /// What a node is: a facet that has buckets, or a statistic.
 #[derive(Debug, Drop, PartialEq, Eq)]
@@ -71,4 +77,49 @@ pub struct Range {
     pub upper: bool,
     pub edge: bool,
     pub outer: bool,
+}
+
+impl Range {
+    ghost use Rattle.fc_request.specs.KindView.{range_view};
+    ghost use Rattle.fc_request.specs.RangeGaps.{HasFewGaps};
+
+    /// How many buckets of the gaps there are.
+    pub fn gaps(&self) -> u32
+        requires { HasFewGaps (range_view self.now) }
+        ensures { result ≡ gap_count (range_view self.now) }
+    {
+        self.end
+            .abs_diff(self.start)
+            .div_ceil(self.gap.unsigned_abs()) as u32
+    }
+
+    // How far the low end of a gap is from the start.
+    fn before_gap(&self, gap: u32) -> u128
+        requires forward { HasFewGaps (range_view self.now) }
+        requires there { gap < gap_count (range_view self.now) }
+        ensures product { pos result ≡ pos gap *ℤ self.now.gap }
+        ensures below { result < unsigned_abs (self.now.end -ℤ self.now.start) }
+        ensures small { result < 2 ^ 96 }
+    {
+        u128::from(gap) * u128::from(self.gap.unsigned_abs())
+    }
+
+    fn low_end(&self, gap: u32) -> i64
+        requires forward { HasFewGaps (range_view self.now) }
+        requires there { gap < gap_count (range_view self.now) }
+        ensures { result ≡ low_end (range_view self.now) gap }
+    {
+        let low = i128::from(self.start) + self.before_gap(gap) as i128;
+        prove!(low < i128::from(self.end));
+        low as i64
+    }
+
+    /// The low end of a gap, from number 0. (Guide: JSON Facet API, "Range Facet")
+    pub fn low(&self, _alloc: Global, gap: u32) -> Result<Val, WantMemory>
+        requires forward { HasFewGaps (range_view self.now) }
+        requires there { gap < gap_count (range_view self.now) }
+        ensures { IfOk result (λ val. val_view val ≡ definition.long (low_end (range_view self.now) gap)) }
+    {
+        Ok(Val::Long(self.low_end(gap)))
+    }
 }
