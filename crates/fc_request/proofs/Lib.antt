@@ -1,2 +1,3 @@
+pub mod NamedSorts
 pub mod NodeStatistics
 pub mod RangeGaps

@@ -4,3 +4,4 @@ pub mod NodeView
 pub mod RequestView
 pub mod NodeStatistics
 pub mod RangeGaps
+pub mod SortView

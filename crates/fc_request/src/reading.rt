@@ -1,2 +1,3 @@
 // Reading a request from JSON.
+mod sort;
 mod words;
