@@ -1,3 +1,5 @@
+pub mod FieldTypes
 pub mod NamedSorts
 pub mod NodeStatistics
 pub mod RangeGaps
+pub mod ReadSoFar

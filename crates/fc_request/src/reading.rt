@@ -1,3 +1,7 @@
 // Reading a request from JSON.
+mod fields;
+mod filters;
+mod query;
 mod sort;
+mod statistic;
 mod words;
