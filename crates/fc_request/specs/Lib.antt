@@ -5,3 +5,4 @@ pub mod RequestView
 pub mod NodeStatistics
 pub mod RangeGaps
 pub mod SortView
+pub mod TermsParts

@@ -4,4 +4,5 @@ mod filters;
 mod query;
 mod sort;
 mod statistic;
+mod terms;
 mod words;
