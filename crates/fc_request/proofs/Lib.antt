@@ -2,4 +2,5 @@ pub mod FieldTypes
 pub mod NamedSorts
 pub mod NodeStatistics
 pub mod RangeGaps
+pub mod RangeWords
 pub mod ReadSoFar

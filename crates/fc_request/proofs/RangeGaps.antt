@@ -30,3 +30,7 @@ some_step (negsuc n) forward = omega (arith, ints)
 
 pub product_small : (a b : ℕ) → a < 2 ^ 32 → b ≤ 2 ^ 63 → a * b < 2 ^ 96
 product_small a b first second = grind arith
+
+-- all gaps together are less than one gap wider than the range
+pub whole_width : (width step : ℕ) → 0 < step → div_ceil width step * step < width + step
+whole_width width step some = (div_ceil_times width step some).1

@@ -2,6 +2,7 @@
 mod fields;
 mod filters;
 mod query;
+mod range;
 mod sort;
 mod statistic;
 mod terms;
