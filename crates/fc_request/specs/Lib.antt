@@ -6,3 +6,4 @@ pub mod NodeStatistics
 pub mod RangeGaps
 pub mod SortView
 pub mod TermsParts
+pub mod RangeParts

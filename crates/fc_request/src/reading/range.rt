@@ -10,13 +10,14 @@ ghost use Rattle.fc_spec.specs.requests.RequestWalk.{optional};
 ghost use Rattle.fc_base.specs.Answers.{Answers};
 ghost use Rattle.fc_request.specs.FaultView.{fault_view};
 ghost use Rattle.fc_request.specs.KindView.{range_view};
+ghost use Rattle.fc_request.specs.RangeParts.{words_behind, GoesOn};
 
 use super::fields::{field_in, holds_integers};
 use super::terms::optional_truth;
 use super::words::{integer_in, required, texts_in};
 use crate::{QFault, Range};
 use fc_base::json::{is_same, member};
-use fc_base::{Refusal, Schema};
+use fc_base::{FieldId, Refusal, Schema};
 use serde_json::{Map, Value};
 use std::alloc::Global;
 
@@ -101,6 +102,26 @@ fn asks_for_lower(texts: &[&str]) -> bool
     texts.is_empty() || asks_for(texts, "lower")
 }
 
+fn without_words(field: FieldId, start: i64, end: i64, gap: i64, hardend: bool) -> Range
+    ensures view { range_view result ≡ reading.range_of field.0 start end gap hardend [] [] }
+    ensures gap { result.gap ≡ gap }
+{
+    Range {
+        field,
+        start,
+        end,
+        gap,
+        hardend,
+        before: false,
+        after: false,
+        between: false,
+        lower: true,
+        upper: false,
+        edge: false,
+        outer: false,
+    }
+}
+
 // The range with these words.
 fn with_words(range: Range, other: &[&str], include: &[&str]) -> Range
     ensures { range_view result ≡ reading.range_of range.field.0 range.start range.end range.gap range.hardend
@@ -116,4 +137,53 @@ fn with_words(range: Range, other: &[&str], include: &[&str]) -> Range
         outer: asks_for(include, "outer"),
         ..range
     }
+}
+
+// The field and the numbers of a range facet; behind `hardend` its last end and the number of its gaps
+// are tested.
+fn numbers_in(schema: &Schema, members: &Map<String, Value>) -> Result<Range, Refusal<QFault>>
+    ensures { GoesOn (λ range. words_behind (members_view members.now.entries) (range_view range)) result
+        (reading.range_parts schema.now (members_view members.now.entries)) }
+{
+    let named = required(members, "field")?;
+    let field = field_in(schema, named)?;
+    if !holds_integers(schema, field) {
+        return Err(Refusal::Fault(QFault::WrongFieldType));
+    }
+    let first = required(members, "start")?;
+    let start = integer_in(first)?;
+    let last = required(members, "end")?;
+    let end = integer_in(last)?;
+    if end < start {
+        return Err(Refusal::Fault(QFault::BadParameter));
+    }
+    let step = required(members, "gap")?;
+    let gap = integer_in(step)?;
+    if gap <= 0 {
+        return Err(Refusal::Fault(QFault::BadParameter));
+    }
+    let hardend = optional_truth(members, "hardend")?;
+    let range = without_words(field, start, end, gap, hardend);
+    if !range.has_long_end() {
+        return Err(Refusal::Fault(QFault::BadParameter));
+    }
+    if range.gap_count() > 10_000 {
+        return Err(Refusal::Fault(QFault::TooLarge));
+    }
+    Ok(range)
+}
+
+/// What a range facet says, in the order of the guide's parameters. (Guide: JSON Facet API, "Range Facet")
+pub(crate) fn range_in(
+    alloc: Global,
+    schema: &Schema,
+    members: &Map<String, Value>,
+) -> Result<Range, Refusal<QFault>>
+    ensures { Answers range_view fault_view result
+        (reading.range_parts schema.now (members_view members.now.entries)) }
+{
+    let range = numbers_in(schema, members)?;
+    let other = words_in(alloc, members, "other", &OTHER)?;
+    let include = words_in(alloc, members, "include", &INCLUDE)?;
+    Ok(with_words(range, other.as_slice(), include.as_slice()))
 }
