@@ -14,14 +14,14 @@ use Rattle.fc_spec.specs.requests.FacetReading.{field_in, range_of, range_parts}
 use Rattle.fc_request.specs.RangeParts.{words_behind}
 
 pub numbers_read : (s : Schema) (ms : Members) (named first last step : Data) (field : ℕ) (start end gap : ℤ) (hard : Bool)
-  → required (codes "field") ms ≡ Ok named → field_in s named ≡ Ok field → has_type s (λ k. not (holds_texts k)) field ≡ true
-  → required (codes "start") ms ≡ Ok first → integer_in first ≡ Ok start
-  → required (codes "end") ms ≡ Ok last → integer_in last ≡ Ok end → int_lt end start ≡ false
-  → required (codes "gap") ms ≡ Ok step → integer_in step ≡ Ok gap → int_lt (pos 0) gap ≡ true
-  → optional truth_in false (get_member (codes "hardend") ms) ≡ Ok hard
-  → is_long (last_end (range_of field start end gap hard [] [])) ≡ true
-  → nat_le (gap_count (range_of field start end gap hard [] [])) 10_000 ≡ true
-  → range_parts s ms ≡ words_behind ms (range_of field start end gap hard [] [])
+    → required (codes "field") ms ≡ Ok named → field_in s named ≡ Ok field → has_type s (λ k. not (holds_texts k)) field ≡ true
+    → required (codes "start") ms ≡ Ok first → integer_in first ≡ Ok start
+    → required (codes "end") ms ≡ Ok last → integer_in last ≡ Ok end → int_lt end start ≡ false
+    → required (codes "gap") ms ≡ Ok step → integer_in step ≡ Ok gap → int_lt (pos 0) gap ≡ true
+    → optional truth_in false (get_member (codes "hardend") ms) ≡ Ok hard
+    → is_long (last_end (range_of field start end gap hard [] [])) ≡ true
+    → nat_le (gap_count (range_of field start end gap hard [] [])) 10_000 ≡ true
+    → range_parts s ms ≡ words_behind ms (range_of field start end gap hard [] [])
 numbers_read s ms named first last step field start end gap hard h1 h2 h3 h4 h5 h6 h7 h8 h9 h10 h11 h12 h13 h14 =
     rw (h1, h2, h3, h4, h5, h6, h7, h8, h9, h10, h11, h12, h13, h14) refl
 

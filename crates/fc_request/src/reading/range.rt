@@ -22,6 +22,7 @@ use serde_json::{Map, Value};
 use std::alloc::Global;
 
 const OTHER: [&str; 5] = ["before", "after", "between", "none", "all"];
+
 const INCLUDE: [&str; 5] = ["lower", "upper", "edge", "outer", "all"];
 
 // Whether the word is among these texts.
@@ -73,7 +74,7 @@ fn words_in<'v>(
 ) -> Result<Vec<&'v str>, Refusal<QFault>>
     ensures { Answers (λ texts. map (λ text. text.now) texts.items) fault_view result
         (optional (reading.words_in (map (λ word. word.now) words.now)) []
-            (get_member name.now (members_view members.now.entries))) }
+        (get_member name.now (members_view members.now.entries))) }
 {
     match member(members, name) {
         Some(json) => words_of(alloc, json, words),

@@ -191,7 +191,7 @@ pub(crate) fn sort_in(nodes: &[Node], json: Option<&Value>) -> Result<Sort, Refu
     requires { length nodes.now < 2 ^ 32 }
     ensures { Answers sort_view fault_view result
         (optional (reading.sort_of (nodes_view nodes.now)) reading.default_sort
-            (option_map (λ json. view json.now) json.entry)) }
+        (option_map (λ json. view json.now) json.entry)) }
 {
     match json {
         Some(json) => sort_of(nodes, json),

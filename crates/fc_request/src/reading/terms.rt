@@ -28,7 +28,7 @@ fn number_in(
     requires high { absent ≤ℤ pos 1_000_000 }
     ensures answer { Answers (λ number. number) fault_view result
         (walk.optional (reading.up_to_a_million low) absent
-            (get_member name.now (members_view members.now.entries))) }
+        (get_member name.now (members_view members.now.entries))) }
     ensures low { IfOk result (λ number. low ≤ℤ number) }
     ensures high { IfOk result (λ number. number ≤ℤ pos 1_000_000) }
 {
@@ -39,15 +39,11 @@ fn number_in(
 }
 
 // A whole number from this one to a million, and this one where the member is absent.
-fn count_in(
-    members: &Map<String, Value>,
-    name: &str,
-    low: u32,
-) -> Result<u32, Refusal<QFault>>
+fn count_in(members: &Map<String, Value>, name: &str, low: u32) -> Result<u32, Refusal<QFault>>
     requires { low < 2 }
     ensures { Answers (λ number. pos number) fault_view result
         (walk.optional (reading.up_to_a_million (pos low)) (pos low)
-            (get_member name.now (members_view members.now.entries))) }
+        (get_member name.now (members_view members.now.entries))) }
 {
     let number = number_in(members, name, i64::from(low), i64::from(low))?;
     Ok(number as u32)
@@ -101,7 +97,7 @@ fn prefix_in(
     requires { field.0 < length schema.now.fields }
     ensures { Answers (λ prefix. prefix) fault_view result
         (walk.optional (reading.prefix_in schema.now field.0) None
-            (get_member (codes "prefix") (members_view members.now.entries))) }
+        (get_member (codes "prefix") (members_view members.now.entries))) }
 {
     let Some(json) = member(members, "prefix") else {
         return Ok(None);

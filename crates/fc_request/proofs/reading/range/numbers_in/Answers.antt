@@ -20,10 +20,10 @@ returns c =
     let end_fits : FitsSigned w64 c.in_ok-end.end = search rules in
     let gap_fits : FitsSigned w64 c.in_ok-gap.gap = search rules in
     let view_is : range_view c.without_words-range.result ≡ range_of c.in_ok-field.field.0 c.in_ok-start.start c.in_ok-end.end c.in_ok-gap.gap c.in_ok-hardend.hardend [] [] =
-      c.without_words-range.ensures.view
-      ∙ ap (λ z. range_of field z (to_z w64 (of_z w64 end)) (to_z w64 (of_z w64 gap)) hardend [] []) (to_z-of_z w64 start start_fits)
-      ∙ ap (λ z. range_of field start z (to_z w64 (of_z w64 gap)) hardend [] []) (to_z-of_z w64 end end_fits)
-      ∙ ap (λ z. range_of field start end z hardend [] []) (to_z-of_z w64 gap gap_fits) in
+    c.without_words-range.ensures.view
+    ∙ ap (λ z. range_of field z (to_z w64 (of_z w64 end)) (to_z w64 (of_z w64 gap)) hardend [] []) (to_z-of_z w64 start start_fits)
+    ∙ ap (λ z. range_of field start z (to_z w64 (of_z w64 gap)) hardend [] []) (to_z-of_z w64 end end_fits)
+    ∙ ap (λ z. range_of field start end z hardend [] []) (to_z-of_z w64 gap gap_fits) in
     let ordered : c.in_ok-start.start ≤ℤ c.in_ok-end.end = omega (arith, ints) in
     let forward : pos 0 <ℤ c.in_ok-gap.gap = omega (arith, ints) in
     let long = ap (λ g. is_long (last_end g)) (sym view_is) ∙ sym c.has_long_end.ensures ∙ c.if-not-has_long_end.false in
