@@ -2,7 +2,7 @@
 use Rattle.std.proofs.Common.{◌≡◌, ◌++◌, refl}
 use Rattle.std.specs.Option.{option_to_list}
 use Rattle.fc_spec.specs.documents.Val.{Text}
-use Rattle.fc_spec.specs.requests.Request.{Nodes, Stat, stats_of}
+use Rattle.fc_spec.specs.requests.Request.{Nodes, stats_of}
 use Rattle.fc_spec.specs.requests.RequestReading.{Node, of_statistic, of_facet, with_node}
 use Rattle.fc_request.specs.NodeStatistics.{statistic_of_node}
 

@@ -1,5 +1,5 @@
-use Rattle.std.proofs.Common.{◌≡◌, ◌∙◌, ◌*◌, ◌<◌, ◌≤◌, ◌^◌, ap, pos, w64, FitsSigned, unsigned_abs, ◌-ℤ◌, arith, rules}
-use Rattle.std.proofs.lemmas.Int.{ints, to_z-of_z}
+use Rattle.std.proofs.Common.{◌∙◌, ◌*◌, ap, pos, w64, FitsSigned, unsigned_abs, ◌-ℤ◌, rules}
+use Rattle.std.proofs.lemmas.Int.{to_z-of_z}
 use Rattle.fc_request.proofs.RangeGaps.{below_width, product_is, product_small, some_step}
 use Rattle.fc_request.proofs.kind.Range.before_gap.Goals as goal
 

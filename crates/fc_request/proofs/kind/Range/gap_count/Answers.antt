@@ -1,4 +1,4 @@
-use Rattle.std.proofs.Common.{◌≡◌, ◌∙◌, ap, w64, FitsSigned, unsigned_abs, arith, rules}
+use Rattle.std.proofs.Common.{◌∙◌, ap, w64, FitsSigned, unsigned_abs, arith, rules}
 use Rattle.std.proofs.lemmas.Int.{to_z-of_z}
 use Rattle.fc_request.proofs.RangeGaps.{whole_width, some_step}
 use Rattle.fc_request.proofs.kind.Range.gap_count.Goals as goal

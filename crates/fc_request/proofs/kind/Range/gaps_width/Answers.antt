@@ -1,4 +1,4 @@
-use Rattle.std.proofs.Common.{◌≡◌, ◌∙◌, ◌*◌, ◌+◌, ◌<◌, ◌^◌, ap, pos, w64, FitsSigned, unsigned_abs, arith, rules}
+use Rattle.std.proofs.Common.{◌∙◌, ◌*◌, ◌+◌, ◌<◌, ◌^◌, ap, pos, w64, FitsSigned, unsigned_abs, arith, rules}
 use Rattle.std.proofs.lemmas.Int.{to_z-of_z}
 use Rattle.fc_spec.specs.requests.Gaps.{gap_count}
 use Rattle.fc_request.specs.KindView.{range_view}

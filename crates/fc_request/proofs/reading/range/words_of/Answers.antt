@@ -1,4 +1,4 @@
-use Rattle.std.proofs.Common.{◌≡◌, sym, ◌∙◌, ap, map, true, false}
+use Rattle.std.proofs.Common.{sym, ◌∙◌, ap, map}
 use Rattle.std.specs.List.{list_all, list_any}
 use Rattle.serde_json.specs.View.{view}
 use Rattle.fc_spec.specs.documents.Val.{same_text}

@@ -3,7 +3,7 @@ use Rattle.std.specs.Cmp.Lexicographic.{pointwise}
 use Rattle.std.proofs.lemmas.Map.Text.{is_eq-slice_cmp}
 use Rattle.fc_spec.specs.documents.Val.{same_text}
 use Rattle.fc_request.specs.declared.node.Node.TheFolds.{fold_out-Node}
-use Rattle.fc_request.specs.NodeView.{Part, node_step, node_view}
+use Rattle.fc_request.specs.NodeView.{Part, node_step}
 use Rattle.fc_request.proofs.reading.sort.has_name.Goals as goal
 
 pub returns : goal.returns
