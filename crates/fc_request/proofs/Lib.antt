@@ -1,5 +1,10 @@
-pub mod NodeWalk
-pub mod NodeAnswers
-pub mod RequestParts
 pub mod FieldTypes
+pub mod NamedSorts
+pub mod NodeAnswers
+pub mod NodeStatistics
+pub mod NodeWalk
+pub mod RangeGaps
+pub mod RangeNumbers
+pub mod RangeWords
 pub mod ReadSoFar
+pub mod RequestParts

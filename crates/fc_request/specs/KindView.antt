@@ -1,5 +1,5 @@
 -- What facets of each kind and domain changes stand for in the definitions.
-use Rattle.std.specs.Prelude.{map, option_map}
+use Rattle.std.specs.Prelude.{map}
 use Rattle.fc_spec.specs.requests.Request as definition
 use Rattle.fc_query.specs.QueryView.{query_view}
 use Rattle.fc_request.specs.declared.domain.Domain.{Domain}

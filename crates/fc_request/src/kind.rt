@@ -1,6 +1,13 @@
 // Kinds of facet, with their parameters.
-use fc_base::{FieldId, Name, Stat};
+ghost use Rattle.std.specs.Prelude.{◌≡◌, ◌<◌, ◌+◌, ◌*◌, ◌^◌, pos, ◌<ℤ◌, ◌*ℤ◌, ◌-ℤ◌, unsigned_abs, IfOk};
+ghost use Rattle.fc_spec.specs.requests.Gaps.{gap_count, low_end, last_end};
+ghost use Rattle.fc_spec.specs.documents.IntegerTexts.{is_long};
+ghost use Rattle.fc_spec.specs.documents.Val as definition;
+ghost use Rattle.fc_base.specs.View.{val_view};
+
+use fc_base::{FieldId, Name, Stat, Val, WantMemory};
 use fc_query::Query;
+use std::alloc::Global;
 
 /// What a node is: a facet that has buckets, or a statistic.
 #[derive(Debug, Drop, PartialEq, Eq)]
@@ -71,4 +78,87 @@ pub struct Range {
     pub upper: bool,
     pub edge: bool,
     pub outer: bool,
+}
+
+impl Range {
+    ghost use Rattle.fc_request.specs.KindView.{range_view};
+    ghost use Rattle.fc_request.specs.RangeGaps.{HasFewGaps};
+
+    // How many gaps there are, and perhaps more than there may be.
+    pub(crate) fn gap_count(&self) -> u64
+        requires { pos 0 <ℤ self.now.gap }
+        ensures count { result ≡ gap_count (range_view self.now) }
+        ensures narrow { result * unsigned_abs self.now.gap < 2 ^ 64 + unsigned_abs self.now.gap }
+    {
+        self.end
+            .abs_diff(self.start)
+            .div_ceil(self.gap.unsigned_abs())
+    }
+
+    // How wide they are together.
+    fn gaps_width(&self) -> u128
+        requires { pos 0 <ℤ self.now.gap }
+        ensures product { pos result ≡ pos (gap_count (range_view self.now)) *ℤ self.now.gap }
+        ensures small { result < 2 ^ 65 }
+    {
+        u128::from(self.gap_count()) * u128::from(self.gap.unsigned_abs())
+    }
+
+    // The last high end.
+    fn last_end(&self) -> i128
+        requires { pos 0 <ℤ self.now.gap }
+        ensures { result ≡ last_end (range_view self.now) }
+    {
+        if self.hardend || self.gap_count() == 0 {
+            i128::from(self.end)
+        } else {
+            i128::from(self.start) + self.gaps_width() as i128
+        }
+    }
+
+    // Whether the last high end is within 64 bits.
+    pub(crate) fn has_long_end(&self) -> bool
+        requires { pos 0 <ℤ self.now.gap }
+        ensures { result ≡ is_long (last_end (range_view self.now)) }
+    {
+        i64::try_from(self.last_end()).is_ok()
+    }
+
+    /// How many buckets of the gaps there are.
+    pub fn gaps(&self) -> u32
+        requires { HasFewGaps (range_view self.now) }
+        ensures { result ≡ gap_count (range_view self.now) }
+    {
+        self.gap_count() as u32
+    }
+
+    // How far the low end of a gap is from the start.
+    fn before_gap(&self, gap: u32) -> u128
+        requires forward { HasFewGaps (range_view self.now) }
+        requires there { gap < gap_count (range_view self.now) }
+        ensures product { pos result ≡ pos gap *ℤ self.now.gap }
+        ensures below { result < unsigned_abs (self.now.end -ℤ self.now.start) }
+        ensures small { result < 2 ^ 96 }
+    {
+        u128::from(gap) * u128::from(self.gap.unsigned_abs())
+    }
+
+    fn low_end(&self, gap: u32) -> i64
+        requires forward { HasFewGaps (range_view self.now) }
+        requires there { gap < gap_count (range_view self.now) }
+        ensures { result ≡ low_end (range_view self.now) gap }
+    {
+        let low = i128::from(self.start) + self.before_gap(gap) as i128;
+        prove!(low < i128::from(self.end));
+        low as i64
+    }
+
+    /// The low end of a gap, from number 0. (Guide: JSON Facet API, "Range Facet")
+    pub fn low(&self, _alloc: Global, gap: u32) -> Result<Val, WantMemory>
+        requires forward { HasFewGaps (range_view self.now) }
+        requires there { gap < gap_count (range_view self.now) }
+        ensures { IfOk result (λ val. val_view val ≡ definition.long (low_end (range_view self.now) gap)) }
+    {
+        Ok(Val::Long(self.low_end(gap)))
+    }
 }

@@ -181,7 +181,7 @@ fn typed_head<'v>(
             facet_of(alloc, schema, outermost, kind, members)
         }
         FacetType::Range => {
-            let range = range_in(schema, members)?;
+            let range = range_in(alloc, schema, members)?;
             facet_of(alloc, schema, outermost, KindHead::Range(range), members)
         }
         FacetType::Query => {
