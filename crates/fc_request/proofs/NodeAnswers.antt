@@ -1,5 +1,5 @@
 -- What is answered for a node, from what its steps answered.
-use Rattle.std.proofs.Common.{◌≡◌, ℕ, ◌+◌, ◌-◌, ◌∙◌, ap, sym, subst, refl, List, [], ◌∷◌, ◌++◌, Bool, false, map, Option, None, Some, Result, Ok, Err, MatchResult}
+use Rattle.std.proofs.Common.{◌≡◌, ℕ, ◌+◌, ◌-◌, ◌∙◌, ap, sym, subst, List, [], ◌∷◌, ◌++◌, Bool, false, map, Option, Result, Ok, Err, MatchResult}
 use Rattle.std.proofs.lemmas.List.{map-append}
 use Rattle.serde_json.specs.Data.{Data, Members, member}
 use Rattle.fc_spec.specs.documents.Val.{Text}
@@ -14,9 +14,9 @@ use Rattle.fc_base.specs.declared.error.Refusal.TheVariants.{Memory, Fault}
 use Rattle.fc_request.specs.declared.fault.RequestFault as code_fault
 use Rattle.fc_request.specs.declared.node.Node as code_node
 use Rattle.fc_request.specs.FaultView.{request_fault_view}
-use Rattle.fc_request.specs.NodeView.{Part, linked, node_view}
+use Rattle.fc_request.specs.NodeView.{Part, node_view}
 use Rattle.fc_request.specs.Heads.{KindHead, Head, statistic_head, facet_head, node_head, kind_behind, facet_behind, walked, inner_nodes, resumed, node_within}
-use Rattle.fc_request.proofs.NodeWalk.{of_node, behind, behind-next, linked_before, linked_before-linked}
+use Rattle.fc_request.proofs.NodeWalk.{of_node, behind, behind-next}
 
 abbrev Refused : Type 0
 Refused = Refusal code_fault.RequestFault

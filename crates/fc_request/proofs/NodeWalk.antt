@@ -1,22 +1,22 @@
 -- The walk of a node is its head and what is read behind it; nodes are read one behind another.
-use Rattle.std.proofs.Common.{◌≡◌, ℕ, zero, suc, ◌+◌, ◌-◌, ◌∙◌, ap, sym, refl, arith, List, [], ◌∷◌, ◌++◌, Bool, true, false, not, ◌&&◌, Option, None, Some, Result, Ok, Err, ok_or}
+use Rattle.std.proofs.Common.{◌≡◌, ℕ, zero, suc, ◌+◌, ◌-◌, ap, sym, refl, arith, List, [], ◌∷◌, ◌++◌, Bool, true, false, not, Option, None, Some, Result, Ok, Err, ok_or}
 use Rattle.std.specs.Prelude.{codes, nat_lt}
 use Rattle.std.proofs.lemmas.Bool.{lt-ltb}
-use Rattle.serde_json.specs.Data.{Data, null, boolean, number, string, array, object, Members, no_members, member}
+use Rattle.serde_json.specs.Data.{Data, null, boolean, number, string, array, object, Members, member}
 use Rattle.serde_json.specs.Find.{as_object, get_member}
 use Rattle.fc_spec.specs.documents.Val.{Text}
 use Rattle.fc_spec.specs.documents.Schema.{Schema}
 use Rattle.fc_spec.specs.requests.Request.{DomainChange, Sort, Terms, Kind, terms, range, Nodes, no_nodes}
-use Rattle.fc_spec.specs.requests.RequestFault.{QFault, not_an_object, bad_command, reserved_name, too_large, RequestFault}
+use Rattle.fc_spec.specs.requests.RequestFault.{QFault, not_an_object, reserved_name, too_large, RequestFault}
 use Rattle.fc_spec.specs.requests.RequestWalk.{inside, check_names, required, said_or, text_in}
 use Rattle.fc_spec.specs.requests.StatisticReading.{statistic_of}
 use Rattle.fc_spec.specs.requests.DomainReading.{change_in}
-use Rattle.fc_spec.specs.requests.SortReading.{sort_of, sort_in, default_sort}
+use Rattle.fc_spec.specs.requests.SortReading.{sort_in}
 use Rattle.fc_spec.specs.requests.FacetReading.{terms_parts, range_parts, query_part}
-use Rattle.fc_spec.specs.requests.RequestReading.{Node, Walked, Reader, members_read, with_node, is_reserved, inner_read, own, facet_read, terms_read, range_read, query_read, statistic_read, func_read, FacetType, terms_type, range_type, query_type, func_type, parameters, type_of, typed_read, command_read, node_read, nodes_within}
-use Rattle.fc_spec.specs.words.Walks.{◌>>=◌, unless, with_fault}
+use Rattle.fc_spec.specs.requests.RequestReading.{Node, Walked, Reader, members_read, with_node, is_reserved, inner_read, own, facet_read, terms_read, statistic_read, FacetType, terms_type, range_type, query_type, func_type, parameters, type_of, typed_read, command_read, nodes_within}
+use Rattle.fc_spec.specs.words.Walks.{◌>>=◌, unless}
 use Rattle.fc_request.specs.NodeView.{Part, linked}
-use Rattle.fc_request.specs.Heads.{KindHead, whole, unsorted, Head, statistic_head, facet_head, some_object, inner_members, facet_of, statistic_before, func_head, typed_head, object_head, command_head, node_head, kind_behind, walked, inner_nodes, resumed, node_within}
+use Rattle.fc_request.specs.Heads.{whole, unsorted, Head, facet_head, some_object, facet_of, statistic_before, typed_head, object_head, command_head, node_head, walked, inner_nodes, resumed, node_within}
 
 -- ---- steps
 

@@ -20,7 +20,7 @@ use Rattle.fc_request.specs.declared.fault.RequestFault as code_fault
 use Rattle.fc_request.specs.declared.request.Request as code_request
 use Rattle.fc_request.specs.FaultView.{request_fault_view}
 use Rattle.fc_request.specs.RequestView.{request_view}
-use Rattle.fc_request.specs.Heads.{request_head, outermost_nodes, request_parts}
+use Rattle.fc_request.specs.Heads.{outermost_nodes, request_parts}
 use Rattle.fc_request.proofs.NodeWalk.{step}
 
 -- the request of a query and filters with these nodes

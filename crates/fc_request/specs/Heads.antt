@@ -1,5 +1,5 @@
 -- What a node says before the nodes nested in it are read, and what is read behind them: the walk of requests, cut at its recursion.
-use Rattle.std.specs.Prelude.{ℕ, zero, suc, ◌+◌, ◌-◌, List, [], ◌∷◌, codes, Bool, true, false, not, ◌&&◌, nat_lt, Option, None, Some, ok_or, Result, Ok, Err}
+use Rattle.std.specs.Prelude.{ℕ, zero, suc, List, [], ◌∷◌, codes, Bool, true, false, not, ◌&&◌, nat_lt, Option, None, Some, ok_or, Result, Ok, Err}
 use Rattle.serde_json.specs.Data.{Data, string, Members}
 use Rattle.serde_json.specs.Find.{as_object, get_member}
 use Rattle.fc_spec.specs.documents.Val.{Text}

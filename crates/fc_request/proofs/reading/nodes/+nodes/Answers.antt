@@ -1,14 +1,14 @@
-use Rattle.std.proofs.Common.{arith, ◌≡◌, ◌∙◌, ap, sym, map, option_map, Vec, Global, Ok}
+use Rattle.std.proofs.Common.{arith, ◌∙◌, ap, sym, map, Vec, Global, Ok}
 use Rattle.std.specs.Prelude.{string_bytes}
 use Rattle.serde_json.specs.View.{view, members_view}
-use Rattle.fc_spec.specs.requests.RequestReading.{members_read, nodes_within}
+use Rattle.fc_spec.specs.requests.RequestReading.{members_read}
 use Rattle.fc_request.specs.declared.node.Node.{Node}
 use Rattle.fc_request.specs.HeadView.{head_view, kind_head_view}
 use Rattle.fc_request.specs.Heads.{node_within, walked}
 use Rattle.fc_request.specs.KindView.{domain_view}
 use Rattle.fc_request.specs.NodeView.{node_view, nodes_view}
 use Rattle.fc_request.proofs.NodeAnswers.{refused_node, statistic_within, facet_within, one_more}
-use Rattle.fc_request.proofs.NodeWalk.{behind, of_nodes, linked_before-linked}
+use Rattle.fc_request.proofs.NodeWalk.{behind, linked_before-linked}
 use Rattle.fc_request.proofs.reading.nodes.+nodes.Goals as goal
 
 pub read_node-returns-in_ok-statistic_node-in-Ok-Statistic-clause-answer :
