@@ -1,10 +1,5 @@
-pub mod FieldTypes
 pub mod NamedSorts
 pub mod NodeAnswers
 pub mod NodeStatistics
 pub mod NodeWalk
-pub mod RangeGaps
-pub mod RangeNumbers
-pub mod RangeWords
-pub mod ReadSoFar
 pub mod RequestParts

@@ -11,7 +11,7 @@ use Rattle.fc_request.specs.declared.reading.head.KindHead.{KindHead}
 use Rattle.fc_request.specs.declared.reading.head.KindHead.TheVariants as kind
 use Rattle.fc_request.specs.declared.reading.head.Head.{Head}
 use Rattle.fc_request.specs.declared.reading.head.Head.TheVariants as head
-use Rattle.fc_request.specs.KindView.{domain_view, terms_view, range_view}
+use Rattle.fc_facet.specs.KindView.{domain_view, terms_view, range_view}
 use Rattle.fc_request.specs.Heads as said
 
 abbrev pub kind_head_view : KindHead → said.KindHead

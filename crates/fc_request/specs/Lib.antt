@@ -1,10 +1,7 @@
 pub mod FaultView
-pub mod KindView
 pub mod NodeView
 pub mod RequestView
 pub mod NodeStatistics
-pub mod RangeGaps
 pub mod SortView
-pub mod RangeParts
 pub mod Heads
 pub mod HeadView

@@ -5,11 +5,11 @@ use Rattle.fc_spec.specs.requests.Request as definition
 use Rattle.fc_spec.specs.requests.RequestReading as reading
 use Rattle.fc_base.specs.StatisticView.{stat_view}
 use Rattle.fc_query.specs.QueryView.{query_view}
-use Rattle.fc_request.specs.declared.kind.Kind.{Kind}
-use Rattle.fc_request.specs.declared.kind.Kind.TheVariants as kind
+use Rattle.fc_facet.specs.declared.kind.Kind.{Kind}
+use Rattle.fc_facet.specs.declared.kind.Kind.TheVariants as kind
 use Rattle.fc_request.specs.declared.node.Node.{Node, fold-Node, out-Node}
 use Rattle.fc_request.specs.declared.node.Node.TheOpen.{Node-F}
-use Rattle.fc_request.specs.KindView.{domain_view, terms_view, range_view}
+use Rattle.fc_facet.specs.KindView.{domain_view, terms_view, range_view}
 
 -- a node without those behind it: its name and what it is
 abbrev pub Part : Type 0

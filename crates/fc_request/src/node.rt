@@ -3,8 +3,8 @@ ghost use Rattle.std.specs.Prelude.{◌≡◌, IfOk, map, option_map};
 ghost use Rattle.fc_spec.specs.requests.Request.{stats_of};
 ghost use Rattle.fc_base.specs.StatisticView.{stat_view};
 
-use crate::{Domain, Kind};
 use fc_base::{Name, Stat, WantMemory};
+use fc_facet::{Domain, Kind};
 use std::alloc::Global;
 
 /// A facet with the nodes nested in it, or a statistic, which has none and changes no domain.

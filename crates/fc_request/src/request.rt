@@ -10,17 +10,18 @@ ghost use Rattle.fc_spec.specs.scripts.JsonValues.{HasAscendingKeys, HasNumbers}
 ghost use Rattle.fc_base.specs.Answers.{Answers};
 ghost use Rattle.fc_query.specs.FilterView.{filter_view};
 ghost use Rattle.fc_query.specs.QueryView.{query_view};
-ghost use Rattle.fc_request.specs.FaultView.{fault_view, request_fault_view};
+ghost use Rattle.fc_facet.specs.FaultView.{fault_view};
+ghost use Rattle.fc_request.specs.FaultView.{request_fault_view};
 ghost use Rattle.fc_request.specs.Heads as heads;
 ghost use Rattle.fc_request.specs.NodeView.{node_view, nodes_view};
 ghost use Rattle.fc_request.specs.RequestView.{request_view, IsRoot};
 
-use crate::reading::{
-    check_names, filters_in, main_query, no_change, node, nodes_in, own, zero_in,
-};
-use crate::{Kind, Node, QFault, RequestFault};
+use crate::reading::{node, nodes_in, own};
+use crate::{Node, RequestFault};
 use fc_base::json::member;
 use fc_base::{Refusal, Schema, WantMemory};
+use fc_facet::reading::{check_names, filters_in, main_query, no_change, zero_in};
+use fc_facet::{Kind, QFault};
 use fc_query::{Filter, Query};
 use serde_json::{Map, Value};
 use std::alloc::Global;

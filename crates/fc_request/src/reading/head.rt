@@ -2,22 +2,19 @@
 ghost use Rattle.std.specs.Prelude.{option_map};
 ghost use Rattle.serde_json.specs.View.{view, members_view};
 ghost use Rattle.fc_base.specs.Answers.{Answers};
-ghost use Rattle.fc_request.specs.FaultView.{fault_view};
+ghost use Rattle.fc_facet.specs.FaultView.{fault_view};
 ghost use Rattle.std.specs.Prelude.{◌≡◌, ◌<◌, OnOk, map};
 ghost use Rattle.fc_spec.specs.requests.RequestWalk.{check_names as check_names_of};
 ghost use Rattle.fc_spec.specs.requests.RequestReading as walk;
 ghost use Rattle.fc_request.specs.Heads as heads;
 ghost use Rattle.fc_request.specs.HeadView.{facet_type_view, head_view, kind_head_view};
 
-use super::domain::change_in;
-use super::query::query_part;
-use super::range::range_in;
-use super::statistic::statistic_of;
-use super::terms::terms_in;
-use super::words::{check_names, required, text_in};
-use crate::{Domain, QFault, Range, Terms};
 use fc_base::json::{is_same, member};
 use fc_base::{Refusal, Schema, Stat};
+use fc_facet::reading::{
+    change_in, check_names, query_part, range_in, required, statistic_of, terms_in, text_in,
+};
+use fc_facet::{Domain, QFault, Range, Terms};
 use fc_query::Query;
 use serde_json::{Map, Value};
 use std::alloc::Global;

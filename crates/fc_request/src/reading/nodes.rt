@@ -8,18 +8,20 @@ ghost use Rattle.fc_spec.specs.requests.RequestWalk.{inside as inside_of, outsid
 ghost use Rattle.fc_spec.specs.requests.RequestReading as walk;
 ghost use Rattle.fc_base.specs.Answers.{Answers};
 ghost use Rattle.fc_base.specs.StatisticView.{stat_view};
-ghost use Rattle.fc_request.specs.FaultView.{fault_view, request_fault_view};
+ghost use Rattle.fc_facet.specs.FaultView.{fault_view};
+ghost use Rattle.fc_request.specs.FaultView.{request_fault_view};
 ghost use Rattle.fc_request.specs.HeadView.{head_view, kind_head_view};
 ghost use Rattle.fc_request.specs.Heads as heads;
-ghost use Rattle.fc_request.specs.KindView.{domain_view, terms_view};
+ghost use Rattle.fc_facet.specs.KindView.{domain_view, terms_view};
 ghost use Rattle.fc_request.specs.NodeView.{node_of, node_view, nodes_view};
 
-use super::domain::no_change;
 use super::head::{Head, KindHead, node_head};
 use super::sort::sort_in;
-use crate::{Domain, Kind, Node, QFault, RequestFault, Terms};
+use crate::{Node, RequestFault};
 use fc_base::json::member;
 use fc_base::{Name, Refusal, Schema, Stat, WantMemory};
+use fc_facet::reading::no_change;
+use fc_facet::{Domain, Kind, QFault, Terms};
 use serde_json::{Map, Value};
 use std::alloc::Global;
 

@@ -9,14 +9,16 @@ ghost use Rattle.fc_spec.specs.requests.SortReading as reading;
 ghost use Rattle.fc_spec.specs.scripts.JsonObjects as objects;
 ghost use Rattle.fc_spec.specs.requests.StatisticReading as texts;
 ghost use Rattle.fc_base.specs.Answers.{Answers};
-ghost use Rattle.fc_request.specs.FaultView.{fault_view};
-ghost use Rattle.fc_request.specs.KindView.{sort_key_view, sort_view};
+ghost use Rattle.fc_facet.specs.FaultView.{fault_view};
+ghost use Rattle.fc_facet.specs.KindView.{sort_key_view, sort_view};
 ghost use Rattle.fc_request.specs.NodeView.{node_view, nodes_view};
 ghost use Rattle.fc_request.specs.SortView.{named_view};
 
-use crate::{Node, QFault, Sort, SortKey};
+use crate::Node;
 use fc_base::Refusal;
 use fc_base::json::sole_member;
+use fc_facet::reading::is_word;
+use fc_facet::{QFault, Sort, SortKey};
 use serde_json::Value;
 
 // What is sorted by, by its name, and whether descending, where that is said.
@@ -78,12 +80,6 @@ fn split_sort(text: &[u8]) -> NamedSort<'_>
         name: text,
         descending: None,
     }
-}
-
-fn is_word(text: &[u8], word: &str) -> bool
-    ensures { result ≡ same_text text.now word.now }
-{
-    text == word.as_bytes()
 }
 
 fn direction_of(json: &Value) -> Option<bool>

@@ -5,7 +5,7 @@ use Rattle.fc_spec.specs.requests.RequestReading.{members_read}
 use Rattle.fc_request.specs.declared.node.Node.{Node}
 use Rattle.fc_request.specs.HeadView.{head_view, kind_head_view}
 use Rattle.fc_request.specs.Heads.{node_within, walked}
-use Rattle.fc_request.specs.KindView.{domain_view}
+use Rattle.fc_facet.specs.KindView.{domain_view}
 use Rattle.fc_request.specs.NodeView.{node_view, nodes_view}
 use Rattle.fc_request.proofs.NodeAnswers.{refused_node, statistic_within, facet_within, one_more}
 use Rattle.fc_request.proofs.NodeWalk.{behind, linked_before-linked}

@@ -1,0 +1,5 @@
+pub mod FieldTypes
+pub mod RangeGaps
+pub mod RangeNumbers
+pub mod RangeWords
+pub mod ReadSoFar

@@ -1,0 +1,58 @@
+-- What facets of each kind and domain changes stand for in the definitions.
+use Rattle.std.specs.Prelude.{map}
+use Rattle.fc_spec.specs.requests.Request as definition
+use Rattle.fc_query.specs.QueryView.{query_view}
+use Rattle.fc_facet.specs.declared.domain.Domain.{Domain}
+use Rattle.fc_facet.specs.declared.domain.BlockStep.{BlockStep}
+use Rattle.fc_facet.specs.declared.domain.BlockStep.TheVariants as step
+use Rattle.fc_facet.specs.declared.kind.SortKey.{SortKey}
+use Rattle.fc_facet.specs.declared.kind.SortKey.TheVariants as key
+use Rattle.fc_facet.specs.declared.kind.Sort.{Sort}
+use Rattle.fc_facet.specs.declared.kind.Terms.{Terms}
+use Rattle.fc_facet.specs.declared.kind.Range.{Range}
+
+abbrev pub step_view : BlockStep → definition.BlockStep
+step_view step.Stay = definition.stay
+step_view (step.Parents q) = definition.parents (query_view q)
+step_view (step.Children q) = definition.children (query_view q)
+
+abbrev pub domain_view : Domain → definition.DomainChange
+domain_view d = record { exclude = d.exclude.items; block = step_view d.block; filters = map query_view d.filters.items }
+
+abbrev pub sort_key_view : SortKey → definition.SortKey
+sort_key_view key.Count = definition.by_count
+sort_key_view key.Index = definition.by_index
+sort_key_view (key.Stat n) = definition.by_statistic n
+
+abbrev pub sort_view : Sort → definition.Sort
+sort_view s = record { by = sort_key_view s.by; descending = s.descending }
+
+abbrev pub terms_view : Terms → definition.Terms
+terms_view t = record {
+  field = t.field.0;
+  offset = t.offset;
+  limit = t.limit;
+  sort = sort_view t.sort;
+  mincount = t.mincount;
+  missing = t.missing;
+  prefix = t.prefix;
+  refine = t.refine;
+  overrequest = t.overrequest;
+  overrefine = t.overrefine;
+}
+
+abbrev pub range_view : Range → definition.Range
+range_view g = record {
+  field = g.field.0;
+  start = g.start;
+  end = g.end;
+  gap = g.gap;
+  hardend = g.hardend;
+  before = g.before;
+  after = g.after;
+  between = g.between;
+  lower = g.lower;
+  upper = g.upper;
+  edge = g.edge;
+  outer = g.outer;
+}

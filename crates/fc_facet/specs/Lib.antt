@@ -1,0 +1,4 @@
+pub mod FaultView
+pub mod KindView
+pub mod RangeGaps
+pub mod RangeParts
