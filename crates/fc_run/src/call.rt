@@ -33,7 +33,8 @@ fn give<K: Sink>(sink: &mut K, answer: &Result<RunText, WantMemory>) -> Status
 }
 
 /// Reads a script from `source` and writes its answer to `sink`: one line for each search, in script order, its reply
-/// or the error of its request; or the one line of the script's fault. `words` are those of the command; the first is the program's name.
+/// or the error of its request; or the one line of the script's fault. `words` are those of the command; the first
+/// is the program's name.
 ///
 /// Today exactly the lists of one word are taken. A script is taken where it has no fault, its schema has one shard,
 /// and the request of each search has a fault, which its error line tells, or is answered: it has no facets, or one
