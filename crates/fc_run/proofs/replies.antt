@@ -1,3 +1,5 @@
+pub mod BuiltNodes
+pub mod ErrorJson
 pub mod PlainKeys
 pub mod PlainPlaces
 pub mod PlainReplies

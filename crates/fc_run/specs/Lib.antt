@@ -1,4 +1,5 @@
 pub mod PlainReply
+pub mod FacetView
 pub mod Fitting
 pub mod Term
 pub mod Tally

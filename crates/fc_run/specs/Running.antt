@@ -1,10 +1,11 @@
 -- Running the lines of a script over one shard: what it has indexed, and the lines that its searches write.
-use Rattle.std.specs.Prelude.{◌≡◌, ◌≤◌, List, [], ◌∷◌, ◌++◌, length, map, All, Ok, Err}
+use Rattle.std.specs.Prelude.{◌≡◌, ◌≤◌, List, [], ◌∷◌, ◌++◌, length, map, All, Result, Ok, Err}
 use Rattle.fc_spec.specs.documents.Val.{Text}
 use Rattle.fc_spec.specs.words.Lists.{joined}
 use Rattle.fc_spec.specs.documents.Document.{Block, Batch}
 use Rattle.fc_spec.specs.documents.Schema.{Schema, texts_held}
 use Rattle.fc_spec.specs.requests.Request.{Request}
+use Rattle.fc_spec.specs.requests.RequestFault.{RequestFault}
 use Rattle.fc_spec.specs.scripts.Script.{add, commit, sync, asks}
 use Rattle.fc_spec.specs.scripts.Lines.{reply_line, error_line}
 use Rattle.fc_spec.specs.scripts.Outputs.{Replies}
@@ -44,16 +45,20 @@ blocks_in i = joined i.committed ++ i.waiting
 
 -- ---- what is written
 
--- a search writes its line over every batch that is committed
-abbrev pub search_text : Replies → Indexed → Text → Request → Text
-search_text reply i session r = reply_line (reply r (joined i.committed ∷ [])) (length i.committed ∷ []) session
+-- what a search writes over batches: of a request its reply, of a fault its error
+abbrev pub batches_text : Replies → List Batch → Text → Result Request RequestFault → Text
+batches_text reply batches session (Ok r) = reply_line (reply r (joined batches ∷ [])) (length batches ∷ []) session
+batches_text reply batches session (Err f) = error_line f session
+
+-- over every batch that is committed
+abbrev pub search_text : Replies → Indexed → Text → Result Request RequestFault → Text
+search_text reply i session a = batches_text reply i.committed session a
 
 abbrev pub line_text : Replies → Indexed → AskedLine → Text
 line_text reply i (add shard block) = []
 line_text reply i (commit shard) = []
 line_text reply i sync = []
-line_text reply i (asks session (Ok r)) = search_text reply i session r
-line_text reply i (asks session (Err f)) = error_line f session
+line_text reply i (asks session a) = search_text reply i session a
 
 -- what lines write, one after another
 abbrev pub lines_text : Replies → Indexed → List AskedLine → Text

@@ -32,14 +32,15 @@ fn give<K: Sink>(sink: &mut K, answer: &Result<RunText, WantMemory>) -> Status
     }
 }
 
-/// Reads a script from `source` and writes its answer to `sink`: one line for each search, in script order, or the
-/// one line of the script's fault. `words` are those of the command; the first is the program's name.
+/// Reads a script from `source` and writes its answer to `sink`: one line for each search, in script order, its reply
+/// or the error of its request; or the one line of the script's fault. `words` are those of the command; the first
+/// is the program's name.
 ///
 /// Today exactly the lists of one word are taken. A script is taken where it has no fault, its schema has one shard,
-/// and the request of each search is an object of `query`, `filter`, `limit` and `facet`, each of which may be
-/// absent: `limit` is 0, and `facet` is empty or has one terms facet of every value in index order. Other bytes are
+/// and the request of each search has a fault, which its error line tells, or is answered: it has no facets, or one
+/// alone, of every value of a field in index order, in its own domain and with nothing nested in it. Other bytes are
 /// refused at their first line that is at fault or not built, as not JSON or not built; or with line 0, as too long
-/// or, where no line says anything, not built. Then no reply is written.
+/// or, where no line says anything, not built. Then nothing else is written.
 ///
 /// The clauses on bytes hold where the source tells the bytes that it has left, and the sink those that were
 /// written.

@@ -4,7 +4,7 @@ ghost use Rattle.fc_spec.specs.scripts.ScriptTotals.{script_limits};
 ghost use Rattle.fc_spec.specs.scripts.ValidScripts.{IsWithin};
 ghost use Rattle.fc_script.specs.Built.{outcome};
 ghost use Rattle.fc_script.specs.Counts.{IsLineOf};
-ghost use Rattle.fc_script.specs.ValidRequests.{IsAskedOf};
+ghost use Rattle.fc_script.specs.AskedRequests.{IsAskedOf};
 ghost use Rattle.fc_run.specs.Outcome.{ArePrinted, IsRunText, too_many};
 ghost use Rattle.fc_script.specs.ScriptView.{script_view};
 
@@ -26,7 +26,7 @@ fn reply_lines(alloc: Global, script: Script) -> Result<Vec<u8>, WantMemory>
     requires one { script.schema.shards ≡ 1 }
     requires within { IsWithin script_limits (script_view script) }
     requires valid { All (IsLineOf script.schema) (script_view script).lines }
-    requires asked { All (IsAskedOf script.schema) script.lines.items }
+    requires asked { All (IsAskedOf script.schema) (script_view script).lines }
     ensures { IfOk result (λ text. ArePrinted (script_view script) text.items) }
 {
     without_limits();

@@ -7,17 +7,17 @@ ghost use Rattle.fc_spec.specs.scripts.ScriptTotals.{added};
 ghost use Rattle.fc_spec.specs.documents.Totals.{document_total};
 ghost use Rattle.fc_spec.specs.documents.ValidBlocks.{IsBlockOf};
 ghost use Rattle.fc_docs.specs.View.{block_view};
-ghost use Rattle.fc_run.specs.Fitting.{AreDifferentIn, Fits};
-ghost use Rattle.fc_script.specs.ValidRequests.{IsAskedOf};
+ghost use Rattle.fc_run.specs.Fitting.{AreDifferentIn, IsSearchable};
+ghost use Rattle.fc_script.specs.AskedRequests.{IsAskedOf};
 ghost use Rattle.fc_run.specs.Running.{indexed_after, line_text, lines_text, nothing, search_text, shard_view, with_block, with_commit, HasKinds, IsIndexOf};
-ghost use Rattle.fc_script.specs.ScriptView.{line_view};
-ghost use Rattle.fc_script.specs.View.{request_view};
+ghost use Rattle.fc_script.specs.ScriptView.{asked_view, line_view};
 
-use crate::search::reply_line;
+use crate::search::search_line;
 use crate::shard::Shard;
 use fc_base::{Name, Schema, WantMemory};
 use fc_docs::Block;
-use fc_script::{Line, Request};
+use fc_request::{Request, RequestFault};
+use fc_script::Line;
 use std::alloc::Global;
 
 // The one shard of a script, and what its searches have written, as far as the lines were run.
@@ -71,16 +71,21 @@ impl Running {
     }
 
     // Runs a search: writes its line over every commit so far.
-    fn search(self, alloc: Global, session: &Name, request: &Request) -> Result<Running, WantMemory>
-        requires fits { All (λ segment. Fits segment.texts request.now) self.shard.segments.items }
+    fn search(
+        self,
+        alloc: Global,
+        session: &Name,
+        asked: &Result<Request, RequestFault>,
+    ) -> Result<Running, WantMemory>
+        requires asked { IfOk asked.now (IsSearchable self.shard.segments.items) }
         requires different { AreDifferentIn (joined (shard_view self.shard).committed) }
         requires few { document_total (joined (shard_view self.shard).committed) ≤ 1_048_576 }
         ensures shard { IfOk result (λ running. running.shard ≡ self.shard) }
         ensures text { IfOk result (λ running. running.text.items
-            ≡ self.text.items ++ search_text distributed (shard_view self.shard) session.now (request_view request.now)) }
+            ≡ self.text.items ++ search_text distributed (shard_view self.shard) session.now (asked_view asked.now)) }
     {
         let Running { shard, mut text } = self;
-        let line = reply_line(alloc, &shard.segments, request, session)?;
+        let line = search_line(alloc, &shard.segments, session, asked)?;
         text.extend_from_slice(&line)?;
         Ok(Running { shard, text })
     }
@@ -88,7 +93,7 @@ impl Running {
     // Runs one more line.
     fn run(self, alloc: Global, schema: &Schema, line: Line) -> Result<Running, WantMemory>
         requires index { IsIndexOf schema.now self.shard }
-        requires asked { IsAskedOf schema.now line }
+        requires asked { IsAskedOf schema.now (line_view line) }
         ensures shard { IfOk result (λ running. shard_view running.shard
             ≡ indexed_after (shard_view self.shard) (line_view line)) }
         ensures kinds { IfOk result (λ running. HasKinds schema.now running.shard) }
@@ -99,7 +104,7 @@ impl Running {
             Line::Add(_, block) => self.add(block),
             Line::Commit(_) => self.commit(alloc, schema),
             Line::Sync => Ok(self),
-            Line::Search(session, request) => self.search(alloc, &session, &request),
+            Line::Search(session, asked) => self.search(alloc, &session, &asked),
         }
     }
 }
@@ -112,7 +117,7 @@ pub(crate) fn lines_text(
 ) -> Result<Vec<u8>, WantMemory>
     requires valid { All (IsBlockOf schema.now) (filter_map added (map line_view lines.items)) }
     requires few { document_total (filter_map added (map line_view lines.items)) ≤ 1_048_576 }
-    requires asked { All (IsAskedOf schema.now) lines.items }
+    requires asked { All (IsAskedOf schema.now) (map line_view lines.items) }
     ensures { IfOk result (λ text. text.items
         ≡ lines_text distributed nothing (map line_view lines.items)) }
 {

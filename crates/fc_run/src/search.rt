@@ -1,9 +1,12 @@
 // Searching the segments of one shard.
 mod columns;
 mod domain;
+mod error;
+mod facet;
 mod found;
+mod line;
 mod reply;
 mod tally;
 mod term;
 
-pub(crate) use reply::reply_line;
+pub(crate) use line::search_line;

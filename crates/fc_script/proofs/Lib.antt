@@ -1,13 +1,13 @@
 pub mod AskedCounts
+pub mod AskedLines
+pub mod BuiltNodes
 pub mod CountedDocuments
 pub mod CountedLines
 pub mod CutLines
-pub mod FiltersSoFar
 pub mod IdSets
 pub mod InRange
 pub mod LimitsLeft
 pub mod LineOrder
-pub mod FacetObjects
 pub mod NewIds
 pub mod NotBuiltFaults
 pub mod Outcomes

@@ -1,5 +1,5 @@
 -- Reading line by line gives the script's outcome.
-use Rattle.std.proofs.Common.{◌≡◌, ℕ, ◌<◌, List, [], ◌∷◌, ◌++◌, map, length, Bool, true, false, not, cond, ◌==◌, nat_lt, nat_le, Option, None, Some, Result, Ok, Err, is_err, refl, sym, ◌∙◌, ap, subst, arith}
+use Rattle.std.proofs.Common.{◌≡◌, ℕ, ◌<◌, List, [], ◌∷◌, ◌++◌, map, length, Bool, true, false, not, cond, ◌==◌, nat_lt, nat_le, Option, None, Some, Result, Ok, Err, refl, sym, ◌∙◌, ap, arith}
 use Rattle.std.proofs.lemmas.Bool.{lt-ltb}
 use Rattle.std.proofs.lemmas.Bool.Decides.{nat_tests}
 use Rattle.std.proofs.lemmas.List.{map-append}
@@ -8,6 +8,7 @@ use Rattle.fc_spec.specs.documents.Val.{Text}
 use Rattle.fc_spec.specs.documents.Schema.{Schema}
 use Rattle.fc_spec.specs.requests.Request.{Request}
 use Rattle.fc_spec.specs.requests.RequestFault.{RequestFault}
+use Rattle.fc_spec.specs.requests.RequestReading.{request_of}
 use Rattle.fc_spec.specs.scripts.Script.{Line, add, commit, sync, asks}
 use Rattle.fc_spec.specs.scripts.ScriptFault.{LineFault, ScriptFault, too_long}
 use Rattle.fc_spec.specs.scripts.ScriptReading.{Numbered, at_line as script_at_line, check_last, is_silent, numbered_lines, schema_on, script_limit, script_of_lines, value_on, with_lines}
@@ -17,12 +18,12 @@ use Rattle.fc_spec.specs.scripts.LineReading.{line_said}
 use Rattle.fc_spec.specs.scripts.ValidScripts.{line_asking}
 use Rattle.fc_spec.specs.words.Walks.{◌>>=◌, unless, with_fault}
 use Rattle.fc_script.specs.ShownFaults.{ShownFault, not_built, shown, FirstFault}
-use Rattle.fc_script.specs.Requests.{request_of}
-use Rattle.fc_script.specs.Built.{AskedScript, asks_unbuilt, first_unbuilt, unbuilt_behind, unbuilt_in, request_or_default, fault_of, not_built_at, judged, outcome_within}
+use Rattle.fc_script.specs.BuiltRequests.{is_answered}
+use Rattle.fc_script.specs.Built.{AskedScript, asks_unbuilt, first_unbuilt, unbuilt_behind, unbuilt_in, fault_of, not_built_at, judged, outcome_within}
 use Rattle.fc_script.specs.ReadSoFar.{AskedLine, ReadSoFar, asked_line, with_asked, at_line, with_rest, one_shard, read_from, read_in}
 use Rattle.fc_script.proofs.AskedCounts.{check_last-asked}
 use Rattle.fc_script.proofs.LineOrder.{Ascend, IsBehind, FailsBehind, numbers_ascend, unbuilt_later, fault_later}
-use Rattle.fc_script.proofs.NotBuiltFaults.{FailsAsNotBuilt, request_fails, count_fails}
+use Rattle.fc_script.proofs.NotBuiltFaults.{FailsAsNotBuilt, count_fails}
 
 -- what a line says is read before what it asks
 said_first : {A : Type 0} (v : Result Data LineFault) (say : Data → Result (Line Data) LineFault) (next : Line Data → Result A ShownFault)
@@ -43,7 +44,7 @@ not_below n k below = grind (arith, nat_tests)
 module _ (limits : Limits) (s : Schema) where
   -- what a search asks
   abbrev see : Data → Result Request RequestFault
-  see d = request_or_default (request_of s d)
+  see d = request_of s d
 
   abbrev so_far : List AskedLine → ReadSoFar
   so_far ls = record { limits = limits; schema = s; lines = ls }
@@ -98,23 +99,16 @@ module _ (limits : Limits) (s : Schema) where
     built_line now = ap (λ count. at_line n (with_fault shown count >>= λ u. Ok (so_far (map (line_asking see) earlier ++ line_asking see now ∷ []))) >>= λ r. with_rest r ls) (same_count now)
         ∙ counted now (check_last limits s (earlier ++ now ∷ []) now)
 
-    search_line : (session : Text) (d : Data) (r : Result Request ShownFault) → request_of s d ≡ r → read_on (asked_line s (asks session d)) ≡ defined_on (asks_unbuilt s (Ok (asks session d))) (asks session d)
-    search_line session d (Ok r) is =
-        ap (λ (q : Result Request ShownFault). read_on (q >>= λ a. Ok (asks session (Ok a)))) is
-        ∙ ap (λ (q : Result Request ShownFault). read_on (Ok (asks session (request_or_default q)))) (sym is)
-        ∙ built_line (asks session d)
-        ∙ ap (λ (q : Result Request ShownFault). defined_on (is_err q) (asks session d)) (sym is)
-    search_line session d (Err e) is =
-        ap (λ (q : Result Request ShownFault). read_on (q >>= λ a. Ok (asks session (Ok a)))) is
-        ∙ ap (λ (g : ShownFault). Err (record { line = n; fault = g })) (subst FailsAsNotBuilt is (request_fails s d))
-        ∙ unbuilt (asks session d) (check_last limits s (earlier ++ asks session d ∷ []) (asks session d)) (count_fails limits s (earlier ++ asks session d ∷ []) (asks session d))
-        ∙ ap (λ (q : Result Request ShownFault). defined_on (is_err q) (asks session d)) (sym is)
+    search_line : (session : Text) (d : Data) (answered : Bool)
+        → read_on (unless answered not_built >>= λ u. Ok (asks session (request_of s d))) ≡ defined_on (not answered) (asks session d)
+    search_line session d true = built_line (asks session d)
+    search_line session d false = unbuilt (asks session d) (check_last limits s (earlier ++ asks session d ∷ []) (asks session d)) (count_fails limits s (earlier ++ asks session d ∷ []) (asks session d))
 
     said_line : (now : Line Data) → read_on (asked_line s now) ≡ defined_on (asks_unbuilt s (Ok now)) now
     said_line (add shard b) = built_line (add shard b)
     said_line (commit shard) = built_line (commit shard)
     said_line sync = built_line sync
-    said_line (asks session d) = search_line session d (request_of s d) refl
+    said_line (asks session d) = search_line session d (is_answered (request_of s d))
 
     -- with what a line says, or its fault
     line_here : (said : Result (Line Data) LineFault)

@@ -1,10 +1,10 @@
 -- What a run makes of the bytes of a script today: the script, or its first line that is at fault or not built.
-use Rattle.std.specs.Prelude.{ℕ, List, [], ◌∷◌, Bool, false, ◌==◌, is_err, nat_lt, Option, None, Some, Result, Ok, Err, if◌then◌else◌}
+use Rattle.std.specs.Prelude.{ℕ, List, [], ◌∷◌, Bool, false, ◌==◌, not, nat_lt, Option, None, Some, Result, Ok, Err, if◌then◌else◌}
 use Rattle.serde_json.specs.Data.{Data}
 use Rattle.fc_spec.specs.documents.Schema.{Schema}
-use Rattle.fc_spec.specs.queries.Query.{all}
-use Rattle.fc_spec.specs.requests.Request.{no_nodes, Request}
+use Rattle.fc_spec.specs.requests.Request.{Request}
 use Rattle.fc_spec.specs.requests.RequestFault.{RequestFault}
+use Rattle.fc_spec.specs.requests.RequestReading.{request_of}
 use Rattle.fc_spec.specs.scripts.Script.{Line, asks, Script}
 use Rattle.fc_spec.specs.scripts.ScriptFault.{LineFault, ScriptFault}
 use Rattle.fc_spec.specs.scripts.ScriptTotals.{Limits, script_limits}
@@ -12,8 +12,8 @@ use Rattle.fc_spec.specs.scripts.ScriptReading.{Numbered, numbered_lines, schema
 use Rattle.fc_spec.specs.scripts.LineReading.{line_said}
 use Rattle.fc_spec.specs.scripts.ValidScripts.{asking}
 use Rattle.fc_spec.specs.words.Walks.{◌>>=◌}
-use Rattle.fc_script.specs.ShownFaults.{ShownFault, not_built, shown, FirstFault}
-use Rattle.fc_script.specs.Requests.{request_of}
+use Rattle.fc_script.specs.ShownFaults.{not_built, shown, FirstFault}
+use Rattle.fc_script.specs.BuiltRequests.{is_answered}
 
 -- a script whose requests were read
 abbrev pub AskedScript : Type 0
@@ -23,7 +23,7 @@ AskedScript = Script (Result Request RequestFault)
 
 -- what a line says is a search whose request is not built
 abbrev pub asks_unbuilt : Schema → Result (Line Data) LineFault → Bool
-asks_unbuilt s (Ok (asks session d)) = is_err (request_of s d)
+asks_unbuilt s (Ok (asks session d)) = not (is_answered (request_of s d))
 asks_unbuilt s _ = false
 
 -- the number of the first of these lines that is such a search
@@ -43,14 +43,9 @@ unbuilt_in (l ∷ ls) = unbuilt_behind l ls (schema_on l.1)
 
 -- ---- the outcome
 
--- the request that was read; a script is taken only where each is built, so what stands here for another is never seen
-abbrev pub request_or_default : Result Request ShownFault → Result Request RequestFault
-request_or_default (Ok r) = Ok r
-request_or_default (Err e) = Ok (record { query = all; filters = []; nodes = no_nodes })
-
--- the script with its requests read
+-- the script with its requests read, each or its fault
 abbrev pub asked : Script Data → AskedScript
-asked S = asking (λ d. request_or_default (request_of S.schema d)) S
+asked S = asking (request_of S.schema) S
 
 abbrev pub fault_of : ScriptFault → FirstFault
 fault_of f = record { line = f.line; fault = shown f.fault }

@@ -1,6 +1,5 @@
 pub mod ShownFaults
-pub mod Requests
-pub mod ValidRequests
+pub mod BuiltRequests
 pub mod Built
 pub mod View
 pub mod Left
@@ -11,4 +10,5 @@ pub mod Commits
 pub mod Sessions
 pub mod Counts
 pub mod ReadSoFar
+pub mod AskedRequests
 pub mod ReadView

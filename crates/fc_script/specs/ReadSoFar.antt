@@ -5,6 +5,7 @@ use Rattle.fc_spec.specs.documents.Val.{Text}
 use Rattle.fc_spec.specs.documents.Schema.{Schema}
 use Rattle.fc_spec.specs.requests.Request.{Request}
 use Rattle.fc_spec.specs.requests.RequestFault.{RequestFault}
+use Rattle.fc_spec.specs.requests.RequestReading.{request_of}
 use Rattle.fc_spec.specs.scripts.Script.{Line, add, commit, sync, asks}
 use Rattle.fc_spec.specs.scripts.ScriptFault.{no_schema, too_long}
 use Rattle.fc_spec.specs.scripts.ScriptReading.{Numbered, numbered_lines, check_last, schema_on, script_limit, value_on}
@@ -12,7 +13,7 @@ use Rattle.fc_spec.specs.scripts.LineReading.{line_said}
 use Rattle.fc_spec.specs.scripts.ScriptTotals.{Limits}
 use Rattle.fc_spec.specs.words.Walks.{◌>>=◌, unless, with_fault}
 use Rattle.fc_script.specs.ShownFaults.{ShownFault, not_built, shown, FirstFault}
-use Rattle.fc_script.specs.Requests.{request_of}
+use Rattle.fc_script.specs.BuiltRequests.{is_answered}
 use Rattle.fc_script.specs.Built.{AskedScript}
 
 abbrev pub AskedLine : Type 0
@@ -24,14 +25,14 @@ pub record ReadSoFar : Type 0 where
   pub schema : Schema
   pub lines : List AskedLine
 
--- a line with its request read, where that is built
+-- a line with its request or the request's fault, where it is answered
 abbrev pub asked_line : Schema → Line Data → Result AskedLine ShownFault
 asked_line s (add shard b) = Ok (add shard b)
 asked_line s (commit shard) = Ok (commit shard)
 asked_line s sync = Ok sync
 asked_line s (asks session d) = do
-  r ← request_of s d
-  Ok (asks session (Ok r))
+  _ ← unless (is_answered (request_of s d)) not_built
+  Ok (asks session (request_of s d))
 
 -- with a line behind the others, where what it counts is within its limit
 abbrev pub with_asked : ReadSoFar → AskedLine → Result ReadSoFar ShownFault

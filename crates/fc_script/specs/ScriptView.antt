@@ -1,17 +1,24 @@
 -- What the types of a script that is read stand for in the definitions.
-use Rattle.std.specs.Prelude.{◌≡◌, suc, List, map, not, Ok}
+use Rattle.std.specs.Prelude.{◌≡◌, suc, List, map, not, Result}
 use Rattle.std.specs.List.{filter, enumerate_from}
+use Rattle.std.specs.Result.{result_map_both}
 use Rattle.serde_json.specs.Data.{Data}
 use Rattle.serde_json.specs.View.{view}
+use Rattle.fc_spec.specs.requests.Request as definition
+use Rattle.fc_spec.specs.requests.RequestFault as definition_fault
 use Rattle.fc_spec.specs.scripts.ScriptFault as fault
 use Rattle.fc_spec.specs.scripts.ScriptReading.{Numbered, is_silent}
 use Rattle.fc_spec.specs.scripts.Script.{Line, add, commit, sync, asks}
 use Rattle.fc_docs.specs.View.{block_view, fault_view}
+use Rattle.fc_request.specs.FaultView.{request_fault_view}
+use Rattle.fc_request.specs.RequestView.{request_view}
+use Rattle.fc_request.specs.declared.fault.RequestFault.{RequestFault}
+use Rattle.fc_request.specs.declared.request.Request.{Request}
 use Rattle.fc_script.specs.Left.{LinesLeft}
 use Rattle.fc_script.specs.Built.{AskedScript}
 use Rattle.fc_script.specs.ReadSoFar.{AskedLine}
 use Rattle.fc_script.specs.ShownFaults.{shown}
-use Rattle.fc_script.specs.View.{shown_view, request_view}
+use Rattle.fc_script.specs.View.{shown_view}
 use Rattle.fc_script.specs.declared.fault.ShownFault.{ShownFault}
 use Rattle.fc_base.specs.declared.error.Refusal.{Refusal}
 use Rattle.fc_base.specs.declared.error.Refusal.TheVariants as refusal
@@ -50,12 +57,16 @@ said_view (said.Commit shard) = commit shard
 said_view said.Sync = sync
 said_view (said.Search session request) = asks session.now (view request.now)
 
+-- a request, or its fault
+abbrev pub asked_view : Result Request RequestFault → Result definition.Request definition_fault.RequestFault
+asked_view asked = result_map_both request_view request_fault_view asked
+
 -- with its request read
 abbrev pub line_view : code.Line → AskedLine
 line_view (line.Add shard block) = add shard (block_view block)
 line_view (line.Commit shard) = commit shard
 line_view line.Sync = sync
-line_view (line.Search session request) = asks session (Ok (request_view request.value))
+line_view (line.Search session request) = asks session (asked_view request.value)
 
 -- the lines that are left and say something, each with its number
 abbrev pub lines_left : LinesLeft → List Numbered

@@ -1,22 +1,15 @@
 -- What the types of this crate stand for in the definitions.
-use Rattle.std.specs.Prelude.{ℕ, codes, map, Option, option_map}
+use Rattle.std.specs.Prelude.{ℕ, codes}
 use Rattle.fc_base.specs.declared.error.Refusal.{Refusal}
 use Rattle.fc_base.specs.declared.error.Refusal.TheVariants as refusal
 use Rattle.fc_spec.specs.documents.Val.{Text}
 use Rattle.fc_spec.specs.scripts.ScriptFault.{not_json, too_long, line_fault_name, line_fault_number}
-use Rattle.fc_spec.specs.requests.Request as definition
 use Rattle.fc_spec.specs.scripts.ScriptTotals as totals
-use Rattle.fc_query.specs.FilterView.{filter_view}
-use Rattle.fc_query.specs.QueryView.{query_view}
-use Rattle.fc_script.specs.Requests as plain
-use Rattle.fc_script.specs.Requests.{built_request, nodes_of}
 use Rattle.fc_script.specs.ShownFaults as shown
 use Rattle.fc_script.specs.declared.fault.ShownFault.{ShownFault}
 use Rattle.fc_script.specs.declared.fault.ShownFault.TheVariants.{NotBuilt, NotJson, TooLong}
 use Rattle.fc_script.specs.declared.fault.FirstFault.{FirstFault}
 use Rattle.fc_script.specs.declared.limits.Limits.{Limits}
-use Rattle.fc_script.specs.declared.request.facet.Facet.{Facet}
-use Rattle.fc_script.specs.declared.request.Request.{Request}
 
 abbrev pub shown_view : ShownFault → shown.ShownFault
 shown_view NotBuilt = shown.not_built
@@ -42,13 +35,3 @@ refusal_at n (refusal.Fault fault) = refusal.Fault (record { line = n; fault = f
 
 abbrev pub limits_view : Limits → totals.Limits
 limits_view m = record { documents = m.documents; values = m.values }
-
-abbrev pub facet_view : Facet → plain.Facet
-facet_view f = (f.name, f.field.0)
-
--- the nodes of no facet or of one
-abbrev pub facets_view : Option Facet → definition.Nodes
-facets_view facet = nodes_of (option_map facet_view facet)
-
-abbrev pub request_view : Request → definition.Request
-request_view r = built_request (query_view r.query) (map filter_view r.filters.items) (option_map facet_view r.facet)

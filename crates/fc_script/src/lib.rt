@@ -8,7 +8,6 @@ mod limits;
 mod line;
 mod lines;
 mod read;
-mod request;
 mod script_reader;
 
 pub use fault::{FirstFault, ShownFault};
@@ -16,4 +15,3 @@ pub use first_fault::first_fault_line;
 pub use limits::{Limits, SCRIPT_LIMIT, SCRIPT_LIMITS};
 pub use line::Line;
 pub use read::{Script, read_script};
-pub use request::{Facet, Request};

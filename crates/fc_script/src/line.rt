@@ -1,5 +1,6 @@
 // One line after the schema: what it says, the request that it asks, and why it may be refused.
 mod asked;
+mod built;
 mod fault;
 mod said;
 

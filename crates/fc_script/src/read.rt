@@ -6,7 +6,7 @@ ghost use Rattle.fc_spec.specs.scripts.ValidScripts.{IsWithin};
 ghost use Rattle.fc_base.specs.Answers.{Answers};
 ghost use Rattle.fc_script.specs.Built.{outcome_within};
 ghost use Rattle.fc_script.specs.Counts.{IsLineOf};
-ghost use Rattle.fc_script.specs.ValidRequests.{IsAskedOf};
+ghost use Rattle.fc_script.specs.AskedRequests.{IsAskedOf};
 ghost use Rattle.fc_script.specs.ReadSoFar.{at_line as at_line_defined, one_shard as of_one_shard, read_from, read_in, schema_read, with_rest};
 ghost use Rattle.fc_script.specs.ReadView.{reader_view, IsRead};
 ghost use Rattle.fc_script.specs.ScriptView.{line_fault_view, lines_left, script_view};
@@ -91,7 +91,6 @@ fn read_rest(
     ensures within { IfOk result (λ script. IsWithin (reader_view reading).limits (script_view script)) }
     ensures schema { IfOk result (λ script. script.schema ≡ (reader_view reading).schema) }
     ensures valid { IfOk result (λ script. All (IsLineOf script.schema) (script_view script).lines) }
-    ensures asked { IfOk result (λ script. All (IsAskedOf script.schema) script.lines.items) }
 {
     while let Some(text) = next_said(&mut lines) {
         reading = reading.read(alloc, lines.number(), text)?;
@@ -110,7 +109,6 @@ fn read_lines(
     ensures within { IfOk result (λ script. IsWithin (limits_view limits) (script_view script)) }
     ensures one { IfOk result (λ script. script.schema.shards ≡ 1) }
     ensures valid { IfOk result (λ script. All (IsLineOf script.schema) (script_view script).lines) }
-    ensures asked { IfOk result (λ script. All (IsAskedOf script.schema) script.lines.items) }
 {
     let Some(text) = next_said(&mut lines) else {
         return Err(Refusal::Fault(FirstFault {
@@ -128,7 +126,6 @@ fn read_in_lines(alloc: Global, limits: Limits, bytes: &[u8]) -> Result<Script, 
     ensures within { IfOk result (λ script. IsWithin (limits_view limits) (script_view script)) }
     ensures one { IfOk result (λ script. script.schema.shards ≡ 1) }
     ensures valid { IfOk result (λ script. All (IsLineOf script.schema) (script_view script).lines) }
-    ensures asked { IfOk result (λ script. All (IsAskedOf script.schema) script.lines.items) }
 {
     if bytes.len() > SCRIPT_LIMIT {
         return Err(Refusal::Fault(FirstFault {
@@ -149,7 +146,7 @@ pub fn read_script(
     ensures within { IfOk result (λ script. IsWithin (limits_view limits) (script_view script)) }
     ensures one { IfOk result (λ script. script.schema.shards ≡ 1) }
     ensures valid { IfOk result (λ script. All (IsLineOf script.schema) (script_view script).lines) }
-    ensures asked { IfOk result (λ script. All (IsAskedOf script.schema) script.lines.items) }
+    ensures asked { IfOk result (λ script. All (IsAskedOf script.schema) (script_view script).lines) }
 {
     read_in_lines(alloc, limits, bytes)
 }

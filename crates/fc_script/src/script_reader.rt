@@ -3,7 +3,6 @@ ghost use Rattle.std.specs.Prelude.{◌≡◌, [], map, All, IfOk};
 ghost use Rattle.fc_spec.specs.scripts.ValidScripts.{IsWithin};
 ghost use Rattle.fc_base.specs.Answers.{Answers};
 ghost use Rattle.fc_script.specs.Counts.{AreCounts, IsLineOf};
-ghost use Rattle.fc_script.specs.ValidRequests.{IsAskedOf};
 ghost use Rattle.fc_script.specs.ReadSoFar.{with_asked, with_numbered as with_numbered_line, with_text as with_text_line};
 ghost use Rattle.fc_script.specs.ScriptView.{line_view};
 ghost use Rattle.fc_script.specs.View.{fault_view, limits_view, shown_view};
@@ -49,8 +48,7 @@ impl ScriptReader {
 
     // The script so far, with a line behind the others.
     fn with_line(self, alloc: Global, line: Line) -> Result<ScriptReader, Refusal<ShownFault>>
-        requires valid { IsLineOf self.schema (line_view line) }
-        requires asked { IsAskedOf self.schema line }
+        requires { IsLineOf self.schema (line_view line) }
         ensures answer { Answers reader_view shown_view result (with_asked (reader_view self) (line_view line)) }
         ensures limits { IfOk result (λ r. (reader_view r).limits ≡ (reader_view self).limits) }
         ensures schema { IfOk result (λ r. (reader_view r).schema ≡ (reader_view self).schema) }
@@ -110,7 +108,6 @@ impl ScriptReader {
         ensures lines { map line_view result.1.items ≡ (reader_view self).lines }
         ensures within { IsWithin (reader_view self).limits (record { schema = result.0; lines = map line_view result.1.items }) }
         ensures valid { All (IsLineOf result.0) (map line_view result.1.items) }
-        ensures asked { All (IsAskedOf result.0) result.1.items }
     {
         let ScriptReader { schema, lines, .. } = self;
         (schema, lines)

@@ -95,7 +95,7 @@ fn long_scripts(rt: HostRuntime) -> Result<(), Fail> {
     Ok(())
 }
 
-// Each script, and what its run prints; a run that is refused prints the one line of its fault.
+// Each script, and what its run prints; a run that is refused prints the one line of its fault, which names a line.
 const RUNS: &[(&str, &str)] = &[
     (
         r##"{"schema":{"shards":1,"fields":{"cat":"string"}}}
@@ -236,11 +236,33 @@ const RUNS: &[(&str, &str)] = &[
     (
         r##"{"schema":{"shards":1,"fields":{"cat":"string"}}}
 {"search":{"request":{},"session":"a"}}
-{"search":{"request":{"facet":{"c":{"type":"terms","field":"cat","limit":-1,"sort":"index"}}},"session":"b"}}
+{"search":{"request":{"facet":{"c":{"type":"terms","field":"dog","limit":-1,"sort":"index"}}},"session":"b"}}
 
-{"search":{"request":{"facet":{"c":{"type":"terms","field":"dog","limit":-1,"sort":"index"}}},"session":"a"}}
+{"search":{"request":{"facet":{"c":{"type":"terms","field":"cat","limit":10,"sort":"index"}}},"session":"a"}}
 "##,
         r##"{"error":"not-built","line":5,"number":0}
+"##,
+    ),
+    (
+        r##"{"schema":{"shards":1,"fields":{"cat":"string"}}}
+{"add":{"doc":{"id":"1","cat":"b"}}}
+{"add":{"doc":{"id":"2","cat":"a"}}}
+{"commit":{}}
+{"sync":{}}
+{"search":{"request":{"facet":{"x":"sum(cat)"}},"session":"a"}}
+{"search":{"request":{"facet":{"x":{"type":"terms","field":"cat","sort":"price desc"}}},"session":"a"}}
+{"search":{"request":{"facet":{"a":{"type":"terms","field":"cat","facet":{"a":{"type":"terms","field":"cat","facet":{"a":{"type":"terms","field":"cat","facet":{"a":{"type":"terms","field":"cat","facet":{"a":{"type":"terms","field":"cat","facet":{"a":{"type":"terms","field":"cat","facet":{"a":{"type":"terms","field":"cat","facet":{"a":{"type":"terms","field":"cat","facet":{"a":{"type":"terms","field":"cat"}}}}}}}}}}}}}}}}}}},"session":"a"}}
+{"search":{"request":{"facet":{"count":"missing(cat)"}},"session":"a"}}
+{"commit":{}}
+{"search":{"request":{"query":"cat:a"},"session":"a"}}
+{"search":{"request":[],"session":"b"}}
+"##,
+        r##"{"error":"wrong-field-type","facet":["x"],"number":13,"session":"a"}
+{"error":"unknown-sort","facet":["x"],"number":11,"session":"a"}
+{"error":"too-large","facet":["a","a","a","a","a","a","a","a","a"],"number":16,"session":"a"}
+{"error":"reserved-name","facet":["count"],"number":14,"session":"a"}
+{"facets":{"count":1},"generations":[2],"session":"a"}
+{"error":"not-an-object","facet":[],"number":1,"session":"b"}
 "##,
     ),
     (
@@ -264,7 +286,7 @@ const RUNS: &[(&str, &str)] = &[
 fn runs(rt: HostRuntime) -> Result<(), Fail> {
     for (script, wanted) in RUNS {
         let (status, written) = outcome(rt.alloc(), script.as_bytes())?;
-        let ends = if wanted.starts_with("{\"error") {
+        let ends = if wanted.find("\"line\":").is_some() {
             Status::Script
         } else {
             Status::Done
@@ -277,71 +299,204 @@ fn runs(rt: HostRuntime) -> Result<(), Fail> {
     Ok(())
 }
 
-// Requests, each behind whether it is built.
-const REQUESTS: &str = r##"yes {}
-yes {"query":"*:*","filter":[],"limit":0,"facet":{}}
-yes {"facet":{"":{"type":"terms","field":"n","limit":-1,"sort":"index"}}}
-yes {"filter":"{!tag=A}cat:a"}
-yes {"filter":{"#A,B":"cat:a"}}
-yes {"query":7,"query":"cat:a"}
-no []
-no "cat:a"
-no null
-no {"sort":"index"}
-no {"query":"*:*","offset":0}
-no {"query":7}
-no {"query":null}
-no {"query":"cat"}
-no {"query":"dog:a"}
-no {"query":"n:a"}
-no {"query":"cat:a AND cat:b OR cat:c"}
-no {"query":"{!tag=A}cat:a"}
-no {"filter":7}
-no {"filter":null}
-no {"filter":{"A":"cat:a"}}
-no {"filter":{"#A":"cat:a","#B":"cat:b"}}
-no {"filter":["cat:a",7]}
-no {"filter":["cat:a",["cat:a"]]}
-no {"filter":["cat:a","n:a"]}
-no {"filter":"{!tag=}cat:a"}
-no {"limit":1}
-no {"limit":-1}
-no {"limit":0.0}
-no {"limit":-0}
-no {"limit":"0"}
-no {"limit":null}
-no {"facet":null}
-no {"facet":[]}
-no {"facet":{"a":{"type":"terms","field":"cat","limit":-1,"sort":"index"}},"facet":7}
-no {"facet":{"a":{"type":"terms","field":"dog","limit":-1,"sort":"index"}}}
-no {"facet":{"count":{"type":"terms","field":"cat","limit":-1,"sort":"index"}}}
-no {"facet":{"val":{"type":"terms","field":"cat","limit":-1,"sort":"index"}}}
-no {"facet":{"b":{},"a":{"type":"terms","field":"cat","limit":-1,"sort":"index"}}}
-no {"facet":{"a":"sum(n)"}}
-no {"facet":{"a":{}}}
-no {"facet":{"a":{"type":"terms","field":"cat","sort":"index"}}}
-no {"facet":{"a":{"type":"terms","field":"cat","limit":-1}}}
-no {"facet":{"a":{"type":"terms","field":"cat","limit":10,"sort":"index"}}}
-no {"facet":{"a":{"type":"terms","field":"cat","limit":-1.0,"sort":"index"}}}
-no {"facet":{"a":{"type":"terms","field":"cat","limit":-1,"sort":"index asc"}}}
-no {"facet":{"a":{"type":"terms","field":"cat","limit":-1,"sort":"count"}}}
-no {"facet":{"a":{"type":"terms","field":["cat"],"limit":-1,"sort":"index"}}}
-no {"facet":{"a":{"type":"query","field":"cat","limit":-1,"sort":"index"}}}
-no {"facet":{"a":{"type":"terms","field":"cat","limit":-1,"sort":"index","mincount":1}}}"##;
+// Requests over no documents, and what each is answered with: the reply, that it is not built, or its fault.
+const REQUESTS: &[(&str, &str)] = &[
+    (r##"{}"##, r##"reply"##),
+    (
+        r##"{"query":"*:*","filter":[],"limit":0,"facet":{}}"##,
+        r##"reply"##,
+    ),
+    (
+        r##"{"facet":{"":{"type":"terms","field":"n","limit":-1,"sort":"index"}}}"##,
+        r##"reply"##,
+    ),
+    (r##"{"filter":"{!tag=A}cat:a"}"##, r##"reply"##),
+    (r##"{"filter":{"#A,B":"cat:a"}}"##, r##"reply"##),
+    (r##"{"query":7,"query":"cat:a"}"##, r##"reply"##),
+    (r##"[]"##, r##"not-an-object","facet":[],"number":1"##),
+    (r##""cat:a""##, r##"not-an-object","facet":[],"number":1"##),
+    (r##"null"##, r##"not-an-object","facet":[],"number":1"##),
+    (
+        r##"{"sort":"index"}"##,
+        r##"unknown-key","facet":[],"number":2"##,
+    ),
+    (
+        r##"{"query":7,"offset":0}"##,
+        r##"unknown-key","facet":[],"number":2"##,
+    ),
+    (
+        r##"{"query":7}"##,
+        r##"bad-parameter","facet":[],"number":10"##,
+    ),
+    (
+        r##"{"query":"cat"}"##,
+        r##"query-syntax","facet":[],"number":3"##,
+    ),
+    (
+        r##"{"query":"dog:a"}"##,
+        r##"unknown-field","facet":[],"number":5"##,
+    ),
+    (
+        r##"{"query":"n:a"}"##,
+        r##"bad-value","facet":[],"number":6"##,
+    ),
+    (
+        r##"{"query":"cat:a AND cat:b OR cat:c"}"##,
+        r##"mixed-operators","facet":[],"number":4"##,
+    ),
+    (
+        r##"{"query":"{!tag=A}cat:a"}"##,
+        r##"query-syntax","facet":[],"number":3"##,
+    ),
+    (
+        r##"{"filter":{"A":"cat:a"}}"##,
+        r##"bad-parameter","facet":[],"number":10"##,
+    ),
+    (
+        r##"{"filter":["cat:a",["cat:a"]]}"##,
+        r##"bad-parameter","facet":[],"number":10"##,
+    ),
+    (
+        r##"{"filter":["cat:a","n:a"]}"##,
+        r##"bad-value","facet":[],"number":6"##,
+    ),
+    (
+        r##"{"filter":"{!tag=}cat:a"}"##,
+        r##"query-syntax","facet":[],"number":3"##,
+    ),
+    (
+        r##"{"limit":1}"##,
+        r##"bad-parameter","facet":[],"number":10"##,
+    ),
+    (
+        r##"{"limit":-0}"##,
+        r##"bad-parameter","facet":[],"number":10"##,
+    ),
+    (
+        r##"{"limit":null,"facet":7}"##,
+        r##"bad-parameter","facet":[],"number":10"##,
+    ),
+    (
+        r##"{"facet":null}"##,
+        r##"not-an-object","facet":[],"number":1"##,
+    ),
+    (
+        r##"{"facet":{"a":{"type":"terms","field":"cat","limit":-1,"sort":"index"}},"facet":7}"##,
+        r##"not-an-object","facet":[],"number":1"##,
+    ),
+    (
+        r##"{"facet":{"a":{"type":"terms","field":"dog","limit":-1,"sort":"index"}}}"##,
+        r##"unknown-field","facet":["a"],"number":5"##,
+    ),
+    (
+        r##"{"facet":{"val":{"type":"terms","field":"cat","limit":-1,"sort":"index"}}}"##,
+        r##"reserved-name","facet":["val"],"number":14"##,
+    ),
+    (
+        r##"{"facet":{"b":{},"a":{"type":"terms","field":"cat","limit":-1,"sort":"index"}}}"##,
+        r##"missing-parameter","facet":["b"],"number":9"##,
+    ),
+    (
+        r##"{"facet":{"a":{"type":"terms","field":["cat"],"limit":-1,"sort":"index"}}}"##,
+        r##"bad-parameter","facet":["a"],"number":10"##,
+    ),
+    (
+        r##"{"facet":{"a":{"type":"terms","field":"cat","limit":-1.0,"sort":"index"}}}"##,
+        r##"bad-parameter","facet":["a"],"number":10"##,
+    ),
+    (
+        r##"{"facet":{"a":{"type":"query","field":"cat","limit":-1,"sort":"index"}}}"##,
+        r##"unknown-key","facet":["a"],"number":2"##,
+    ),
+    (
+        r##"{"facet":{"\"":{"type":"query","q":"*:*","facet":{"é":7}}}}"##,
+        r##"bad-command","facet":["\"","é"],"number":7"##,
+    ),
+    (r##"{"facet":{"a":"sum(n)"}}"##, r##"not-built"##),
+    (
+        r##"{"facet":{"a":{"type":"terms","field":"cat","sort":"index"}}}"##,
+        r##"not-built"##,
+    ),
+    (
+        r##"{"facet":{"a":{"type":"terms","field":"cat","limit":-1}}}"##,
+        r##"not-built"##,
+    ),
+    (
+        r##"{"facet":{"a":{"type":"terms","field":"cat","limit":-1,"sort":"index desc"}}}"##,
+        r##"not-built"##,
+    ),
+    (
+        r##"{"facet":{"a":{"type":"terms","field":"cat","limit":-1,"sort":"index","mincount":2}}}"##,
+        r##"not-built"##,
+    ),
+    (
+        r##"{"facet":{"a":{"type":"terms","field":"cat","limit":-1,"sort":"index","missing":true}}}"##,
+        r##"not-built"##,
+    ),
+    (
+        r##"{"facet":{"a":{"type":"terms","field":"cat","limit":-1,"sort":"index","prefix":""}}}"##,
+        r##"not-built"##,
+    ),
+    (
+        r##"{"facet":{"a":{"type":"terms","field":"cat","limit":-1,"sort":"index","refine":true}}}"##,
+        r##"not-built"##,
+    ),
+    (
+        r##"{"facet":{"a":{"type":"terms","field":"cat","limit":-1,"sort":"index","domain":{"filter":"cat:a"}}}}"##,
+        r##"not-built"##,
+    ),
+    (
+        r##"{"facet":{"a":{"type":"terms","field":"cat","limit":-1,"sort":"index","facet":{"b":"countvals(cat)"}}}}"##,
+        r##"not-built"##,
+    ),
+    (
+        r##"{"facet":{"a":{"type":"terms","field":"cat","limit":-1,"sort":"index"},"b":{"type":"terms","field":"cat","limit":-1,"sort":"index"}}}"##,
+        r##"not-built"##,
+    ),
+    (
+        r##"{"facet":{"a":{"type":"query","q":"*:*"}}}"##,
+        r##"not-built"##,
+    ),
+    (
+        r##"{"facet":{"a":{"type":"terms","field":"cat","limit":-1,"sort":"index asc","mincount":1,"overrequest":5,"domain":{},"facet":{}}}}"##,
+        r##"reply"##,
+    ),
+];
+
+// How a run of one search ends that is answered so, and what it writes.
+fn answer_of(alloc: Global, wanted: &str) -> Result<(Status, String), Fail> {
+    match wanted {
+        "reply" => Ok((
+            Status::Done,
+            String::from_str(
+                alloc,
+                "{\"facets\":{\"count\":0},\"generations\":[0],\"session\":\"main\"}\n",
+            )?,
+        )),
+        "not-built" => Ok((
+            Status::Script,
+            String::from_str(alloc, "{\"error\":\"not-built\",\"line\":2,\"number\":0}\n")?,
+        )),
+        fault => Ok((
+            Status::Done,
+            format!(in alloc; "{{\"error\":\"{fault},\"session\":\"main\"}}\n")?,
+        )),
+    }
+}
 
 #[test]
 fn requests(rt: HostRuntime) -> Result<(), Fail> {
     let alloc = rt.alloc();
-    for row in REQUESTS.split('\n') {
-        let (answer, request) = row.split_once(' ').unwrap_or((row, ""));
+    for (request, wanted) in REQUESTS {
         let script = format!(in alloc;
             "{{\"schema\":{{\"shards\":1,\"fields\":{{\"cat\":\"string\",\"n\":\"plong\"}}}}}}\n{{\"search\":{{\"request\":{request}}}}}"
         )?;
         let (status, written) = outcome(alloc, script.as_bytes())?;
-        let shown = status == Status::Script
-            && written.as_str() == "{\"error\":\"not-built\",\"line\":2,\"number\":0}\n";
-        let taken = status == Status::Done;
-        assert!(rt; if answer == "yes" { taken } else { shown }, "{row}");
+        let (ends, line) = answer_of(alloc, wanted)?;
+        assert!(rt;
+            status == ends && written.as_str() == line.as_str(),
+            "{written} at {request}"
+        );
     }
     Ok(())
 }

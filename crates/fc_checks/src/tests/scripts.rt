@@ -70,7 +70,9 @@ ok 2 ~S~{"add":{"doc":{"id":"7","ns":[5,5,"5",-5]}}}~{"add":{"doc":{"id":"8","ns
 not-built 2 ~S~{"commit":{"shard":1}}
 ok 1 ~S~{"commit":{"shard":5,"shard":0}}
 ok 3 ~S~{"search":{"request":{}}}~ ~{"search":{"request":{},"session":"main"}}~{"search":{"session":"b","request":{}}}
-not-built 3 ~S~{"search":{"request":{}}}~{"search":{"request":7}}~{
+not-built 3 ~S~{"search":{"request":{}}}~{"search":{"request":{"facet":{"s":"countvals(id)"}}}}~{
+ok 2 ~S~{"search":{"request":7}}~{"search":{"request":{"query":"cat:"}}}
+not-json 3 ~S~{"search":{"request":7}}~{
 not-built 3 ~S~{"search":{"request":{}}}~{"sync":[]}~{"search":{"request":7}}
 ok 4 ~~^~S~{"add":{"doc":{"id":"7"}}}~{"commit":{}}~{"sync":{}}~{"search":{"request":{}}}~
 not-json 3 ~S~{"sync":{}}~{"sync":
@@ -171,7 +173,7 @@ fn scripts(rt: HostRuntime) -> Result<(), Fail> {
             count = count.wrapping_add(1);
         }
     }
-    assert_eq!(rt; count, 83);
+    assert_eq!(rt; count, 85);
     Ok(())
 }
 

@@ -16,8 +16,7 @@ use Rattle.fc_spec.proofs.documents.BlockTotals.{documents_in-append, document_t
 use Rattle.fc_segment.specs.Segmented.{Segmented}
 use Rattle.fc_run.specs.Fitting.{AreDifferentIn}
 use Rattle.fc_run.specs.Found.{asked_values, Finds}
-use Rattle.fc_run.specs.PlainReply.{AreDifferent, asked_counts, root_documents}
-use Rattle.fc_script.specs.Requests.{Facet}
+use Rattle.fc_run.specs.PlainReply.{ValueFacet, AreDifferent, asked_counts, root_documents}
 use Rattle.fc_run.specs.Tally.{term_cmp, tally_view, IsCounted, HasRoom}
 use Rattle.fc_run.specs.declared.search.found.Found.{Found}
 use Rattle.fc_run.proofs.tallies.TallyCounts.{HasRoom-start, tally_view-counted}
@@ -28,7 +27,7 @@ use Rattle.fc_run.proofs.tallies.TallySteps.{Counts-append, Counts-none, HasRoom
 root_documents-append : (r : Request) (bs cs : List Block) → root_documents r (bs ++ cs) ≡ root_documents r bs ++ root_documents r cs
 root_documents-append r bs cs = ap (filter (meets_base r [])) (documents_in-append bs cs) ∙ filter-append (meets_base r []) (documents_in bs) (documents_in cs)
 
-asked_values-append : (facet : Option Facet) (ds es : List Document) → asked_values facet (ds ++ es) ≡ asked_values facet ds ++ asked_values facet es
+asked_values-append : (facet : Option ValueFacet) (ds es : List Document) → asked_values facet (ds ++ es) ≡ asked_values facet ds ++ asked_values facet es
 asked_values-append None ds es = refl
 asked_values-append (Some f) ds es = flat_map-append (λ d. values_of d f.1) ds es
 
@@ -45,16 +44,16 @@ root_different r bs h field = All-filter (meets_base r []) (Differ field) (docum
 -- ---- the search
 
 -- what is found in the blocks that are done, and what is known for those that are left
-pub record IsSearched (r : Request) (facet : Option Facet) (start now : Found) (done left : List Block) : Type 0 where
+pub record IsSearched (r : Request) (facet : Option ValueFacet) (start now : Found) (done left : List Block) : Type 0 where
   pub finds : Finds start now facet (root_documents r done)
   pub few : now.count + document_total left ≤ 1_048_576
   pub room : HasRoom now.tally (asked_values facet (root_documents r left))
 
-room_at_start : (facet : Option Facet) (ds : List Document) (a : Found) → a.tally.entries ≡ [] → ((field : ℕ) → All (Differ field) ds) → length ds < 2 ^ 64 → HasRoom a.tally (asked_values facet ds)
+room_at_start : (facet : Option ValueFacet) (ds : List Document) (a : Found) → a.tally.entries ≡ [] → ((field : ℕ) → All (Differ field) ds) → length ds < 2 ^ 64 → HasRoom a.tally (asked_values facet ds)
 room_at_start None ds a empty different few = HasRoom-start 0 [] (All-nil (Differ 0)) (omega arith) a.tally empty
 room_at_start (Some f) ds a empty different few = HasRoom-start f.1 ds (different f.1) few a.tally empty
 
-module _ (r : Request) (facet : Option Facet) (start : Found) where
+module _ (r : Request) (facet : Option ValueFacet) (start : Found) where
   pub searched_none : start.count ≡ 0 → start.tally.entries ≡ [] → (all : List Block) → AreDifferentIn all → document_total all ≤ 1_048_576 → IsSearched r facet start start [] all
   searched_none none empty all different few = record {
     finds = record { count = omega arith; tally = subst (IsCounted start.tally start.tally) (nothing facet) (Counts-none start.tally) };
@@ -62,7 +61,7 @@ module _ (r : Request) (facet : Option Facet) (start : Found) where
     room = room_at_start facet (root_documents r all) start empty (root_different r all different) (omega (arith, root_total r all));
   }
     where
-      nothing : (f : Option Facet) → [] ≡ asked_values f []
+      nothing : (f : Option ValueFacet) → [] ≡ asked_values f []
       nothing None = refl
       nothing (Some f) = refl
 
@@ -91,7 +90,7 @@ module _ (r : Request) (facet : Option Facet) (start : Found) where
     }
 
 -- the values of an empty tally in which those that are asked for are counted
-pub counts_found : (facet : Option Facet) (ds : List Document) → ((field : ℕ) → All (Differ field) ds) → (a b : Found) → a.tally.entries ≡ [] → IsOrdered term_cmp a.tally
+pub counts_found : (facet : Option ValueFacet) (ds : List Document) → ((field : ℕ) → All (Differ field) ds) → (a b : Found) → a.tally.entries ≡ [] → IsOrdered term_cmp a.tally
     → Finds a b facet ds → tally_view b.tally ≡ asked_counts facet ds
 counts_found None ds different a b empty order found = tally_view-counted 0 [] (All-nil (Differ 0)) a.tally b.tally empty order found.tally
 counts_found (Some f) ds different a b empty order found = tally_view-counted f.1 ds (different f.1) a.tally b.tally empty order found.tally
@@ -114,7 +113,7 @@ module _ (segments : List Segmented) (i : ℕ) (segment : Segmented) (within : i
       ∙ flat_map-append (λ bs. bs) (map (λ s. s.blocks) (take i segments)) ((get_or segments i segment).blocks ∷ [])
       ∙ ap (λ bs. blocks_of (take i segments) ++ bs) (append-nil (get_or segments i segment).blocks ∙ ap (λ s. s.blocks) (sym is))
 
-  module _ (r : Request) (facet : Option Facet) (start now : Found) (searched : IsSearched r facet start now (blocks_of (take i segments)) (blocks_of (drop i segments))) where
+  module _ (r : Request) (facet : Option ValueFacet) (start now : Found) (searched : IsSearched r facet start now (blocks_of (take i segments)) (blocks_of (drop i segments))) where
     pub segment_next : IsSearched r facet start now (blocks_of (take i segments)) (segment.blocks ++ blocks_of (drop (i + 1) segments))
     segment_next = subst (IsSearched r facet start now (blocks_of (take i segments))) blocks_left searched
 

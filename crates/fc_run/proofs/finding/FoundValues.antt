@@ -12,8 +12,8 @@ use Rattle.fc_spec.specs.documents.Totals.{documents_in}
 use Rattle.fc_run.specs.Found.{asked_values}
 use Rattle.fc_run.specs.PlainReply.{root_documents, values_at}
 use Rattle.fc_run.specs.Tally.{picked_values}
-use Rattle.fc_script.specs.View.{facet_view}
-use Rattle.fc_script.specs.declared.request.facet.Facet.{Facet}
+use Rattle.fc_run.specs.FacetView.{value_facet_view}
+use Rattle.fc_run.specs.declared.search.facet.ValueFacet.{ValueFacet}
 
 -- what a set picks out of a column are the values of the documents that it picks
 picked_values-column : (field : ℕ) (docs : List Bool) (ds : List Document) → picked_values docs (column_of field ds) ≡ values_at field (items_where_true docs ds)
@@ -23,11 +23,11 @@ picked_values-column field (true ∷ docs) (d ∷ ds) = ap (λ vs. values_of d f
 picked_values-column field (false ∷ docs) (d ∷ ds) = picked_values-column field docs ds
 
 -- those are the ones that the facet asks for
-pub picked_are_asked : (facet : Option Facet) (f : Facet) → facet ≡ Some f → (docs : List Bool) (ds : List Document) (column : List (List Val)) → column ≡ column_of f.field.0 ds
-    → picked_values docs column ≡ asked_values (option_map facet_view facet) (items_where_true docs ds)
+pub picked_are_asked : (facet : Option ValueFacet) (f : ValueFacet) → facet ≡ Some f → (docs : List Bool) (ds : List Document) (column : List (List Val)) → column ≡ column_of f.field.0 ds
+    → picked_values docs column ≡ asked_values (option_map value_facet_view facet) (items_where_true docs ds)
 picked_are_asked facet f is docs ds column values =
     ap (picked_values docs) values ∙ picked_values-column f.field.0 docs ds
-    ∙ ap (λ o. asked_values (option_map facet_view o) (items_where_true docs ds)) (sym is)
+    ∙ ap (λ o. asked_values (option_map value_facet_view o) (items_where_true docs ds)) (sym is)
 
 -- a set that a test makes picks those that pass
 picked_by : {X : Type 0} (test : X → Bool) (xs : List X) → items_where_true (map test xs) xs ≡ filter test xs

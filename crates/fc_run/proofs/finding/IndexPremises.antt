@@ -1,5 +1,5 @@
 -- What a search asks of an index, and what a commit asks of it.
-use Rattle.std.proofs.Common.{◌≡◌, ◌+◌, ◌<◌, ◌≤◌, List, [], ◌∷◌, ◌++◌, length, All, Option, None, Some, IfSome, sym, ap, subst, arith}
+use Rattle.std.proofs.Common.{◌≡◌, ◌<◌, ◌≤◌, List, [], ◌∷◌, ◌++◌, length, map, true, All, IfSome, Result, Ok, Err, IfOk, sym, ap, subst, arith}
 use Rattle.std.proofs.lemmas.List.{length-map}
 use Rattle.std.proofs.lemmas.List.Elements.{All-cons, All-nil, All-head, All-tail, All-weaker}
 use Rattle.fc_spec.specs.documents.Document.{Block}
@@ -7,16 +7,23 @@ use Rattle.fc_spec.specs.documents.Schema.{Schema, holds_texts, texts_held}
 use Rattle.fc_spec.specs.words.Lists.{joined}
 use Rattle.fc_spec.specs.documents.Totals.{document_total}
 use Rattle.fc_spec.specs.documents.ValidBlocks.{IsBlockOf}
-use Rattle.fc_spec.specs.queries.ValidQueries.{IsValidQuery}
+use Rattle.fc_spec.specs.documents.Val.{Text}
+use Rattle.fc_spec.specs.requests.Request.{Kind, terms, range, query, Nodes, no_nodes, statistic, facet}
+use Rattle.fc_spec.specs.requests.ValidRequests.{IsValidFilter, IsValidKind, AreValidNodes, IsValidRequest}
+use Rattle.fc_spec.specs.scripts.Script.{asks}
 use Rattle.fc_spec.proofs.documents.BlockTotals.{document_total-append}
+use Rattle.fc_query.specs.FilterView.{filter_view}
 use Rattle.fc_query.specs.QueryView.{query_view}
 use Rattle.fc_domain.specs.FieldsFit.{FitsFields}
 use Rattle.fc_domain.proofs.SchemaFits.{fields_fit}
-use Rattle.fc_run.specs.Fitting.{AreDifferentIn, Fits}
-use Rattle.fc_script.specs.ValidRequests.{IsValidRequest}
+use Rattle.fc_run.specs.Fitting.{AreDifferentIn, Fits, IsSearchable}
+use Rattle.fc_run.specs.PlainReply.{facet_named, asked_facet}
+use Rattle.fc_script.specs.AskedRequests.{IsAskedOf}
+use Rattle.fc_script.specs.ScriptView.{asked_view}
 use Rattle.fc_run.specs.Running.{blocks_in, shard_view, HasKinds, IsIndexOf}
-use Rattle.fc_script.specs.declared.request.facet.Facet.{Facet}
-use Rattle.fc_script.specs.declared.request.Request.{Request}
+use Rattle.fc_request.specs.RequestView.{request_view}
+use Rattle.fc_request.specs.declared.fault.RequestFault.{RequestFault}
+use Rattle.fc_request.specs.declared.request.Request.{Request}
 use Rattle.fc_run.specs.declared.shard.Shard.{Shard}
 use Rattle.fc_run.proofs.finding.GoodBlocks.{blocks_different}
 
@@ -29,6 +36,11 @@ All-front P (x ∷ xs) ys all = All-cons P x xs (All-head P x (xs ++ ys) all) (A
 All-end : {X : Type 0} (P : X → Type 0) (xs ys : List X) → All P (xs ++ ys) → All P ys
 All-end P [] ys all = all
 All-end P (x ∷ xs) ys all = All-end P xs ys (All-tail P x (xs ++ ys) all)
+
+-- of what a function makes of them
+All-unmap : {X Y : Type 0} (P : Y → Type 0) (f : X → Y) (xs : List X) → All P (map f xs) → All (λ x. P (f x)) xs
+All-unmap P f [] all = All-nil (λ x. P (f x))
+All-unmap P f (x ∷ xs) all = All-cons (λ x. P (f x)) x xs (All-head P (f x) (map f xs) all) (All-unmap P f xs (All-tail P (f x) (map f xs) all))
 
 -- ---- a commit
 
@@ -52,20 +64,32 @@ committed_few s shard index =
     let few = index.few in
     omega arith
 
-facet_fits : (s : Schema) (facet : Option Facet) → IfSome facet (λ f. f.field.0 < length s.fields) → IfSome facet (λ f. f.field.0 < length (texts_held s.fields))
-facet_fits s None below = tt
-facet_fits s (Some f) below = omega (arith, length-map s.fields (λ f. holds_texts f.kind), below)
+-- the facet's field is there
+facet_fits : (s : Schema) (ns : Nodes) → AreValidNodes s true ns → IfSome (asked_facet ns) (λ f. f.1 < length (texts_held s.fields))
+facet_fits s no_nodes valid = tt
+facet_fits s (statistic name st rest) valid = tt
+facet_fits s (facet f inner rest) valid = go f.kind valid.1
+  where
+    go : (kind : Kind) → IsValidKind s inner kind → IfSome (facet_named f.name kind) (λ f. f.1 < length (texts_held s.fields))
+    go (terms t) is = omega (arith, length-map s.fields (λ f. holds_texts f.kind), is.field)
+    go (range g) is = tt
+    go (query q) is = tt
 
-request_fits : (s : Schema) (r : Request) → IsValidRequest s r → Fits (texts_held s.fields) r
+request_fits : (s : Schema) (r : Request) → IsValidRequest s (request_view r) → Fits (texts_held s.fields) r
 request_fits s r valid = record {
   query = fields_fit s (query_view r.query) valid.query.fits;
-  filters = All-weaker (λ f. IsValidQuery s (query_view f.query)) (λ f. FitsFields (texts_held s.fields) (query_view f.query)) (λ f good. fields_fit s (query_view f.query) good.fits) r.filters.items valid.filters;
-  facet = facet_fits s r.facet valid.facet;
+  filters = All-unmap (λ f. FitsFields (texts_held s.fields) f.query) filter_view r.filters.items (All-weaker (IsValidFilter s) (λ f. FitsFields (texts_held s.fields) f.query) (λ f good. fields_fit s f.query good.query.fits) (map filter_view r.filters.items) valid.filters);
+  facet = facet_fits s (request_view r).nodes valid.nodes;
 }
 
-pub segments_fit : (s : Schema) (shard : Shard) (r : Request) → HasKinds s shard → IsValidRequest s r → All (λ segment. Fits segment.texts r) shard.segments.items
+segments_fit : (s : Schema) (shard : Shard) (r : Request) → HasKinds s shard → IsValidRequest s (request_view r) → All (λ segment. Fits segment.texts r) shard.segments.items
 segments_fit s shard r kinds valid =
     All-weaker (λ segment. segment.texts ≡ texts_held s.fields) (λ segment. Fits segment.texts r) (λ segment is. subst (λ texts. Fits texts r) (sym is) (request_fits s r valid)) shard.segments.items kinds
+
+-- what a search of the script asks, where that has no fault
+pub asked_searchable : (s : Schema) (shard : Shard) (session : Text) (asked : Result Request RequestFault) → HasKinds s shard → IsAskedOf s (asks session (asked_view asked)) → IfOk asked (IsSearchable shard.segments.items)
+asked_searchable s shard session (Ok r) kinds is = record { built = is.built; fits = segments_fit s shard r kinds is.valid }
+asked_searchable s shard session (Err f) kinds is = tt
 
 -- ---- an index behind some lines
 

@@ -16,8 +16,8 @@ use Rattle.fc_spec.proofs.words.MappedLists.{map-same}
 use Rattle.fc_query.specs.FilterView.{filter_view}
 use Rattle.fc_query.specs.QueryView.{query_view}
 use Rattle.fc_query.specs.declared.filter.Filter.{Filter}
-use Rattle.fc_script.specs.View.{request_view}
-use Rattle.fc_script.specs.declared.request.Request.{Request}
+use Rattle.fc_request.specs.RequestView.{request_view}
+use Rattle.fc_request.specs.declared.request.Request.{Request}
 
 -- the document matches the query and each of these filters
 abbrev pub meets_first : definition.Query → List Filter → Document → Bool

@@ -23,7 +23,7 @@ use Rattle.fc_spec.specs.requests.Ranks.{Entry, is_ahead, page}
 use Rattle.fc_spec.specs.replies.Values.{value_places, values_in, entries_in}
 use Rattle.fc_spec.specs.replies.Printed.{terms_keys}
 use Rattle.fc_spec.specs.laws.SortingLaw.{IsSortOf, PagesAreCuts}
-use Rattle.fc_script.specs.Requests.{every_value}
+use Rattle.fc_run.proofs.replies.BuiltNodes.{every_value}
 use Rattle.fc_spec.proofs.documents.Ascending.{has_val-distinct, distinct_ascends}
 use Rattle.fc_spec.proofs.requests.FoundValues.{not-is_empty-filter}
 use Rattle.fc_spec.proofs.words.Members.{filter_every}

@@ -1,5 +1,5 @@
 -- The distributed reply to a request that is built, over one shard, is made by counting documents.
-use Rattle.std.specs.Prelude.{◌≡◌, ℕ, List, [], ◌∷◌, length, map, Bool, true, false, cond, ◌==◌, None, Some}
+use Rattle.std.specs.Prelude.{◌≡◌, ℕ, List, [], ◌∷◌, length, map, Bool, true, false, cond, ◌==◌, Option, None, Some}
 use Rattle.std.specs.List.{filter}
 use Rattle.std.proofs.Common.{refl, sym, ◌∙◌, ap}
 use Rattle.std.proofs.Math.Bool.{and-true}
@@ -10,18 +10,19 @@ use Rattle.fc_spec.specs.documents.Val.{Text, Val, has_val, distinct}
 use Rattle.fc_spec.specs.documents.Document.{Block, values_of}
 use Rattle.fc_spec.specs.requests.Base.{meets_base, root_domain}
 use Rattle.fc_spec.specs.documents.World.{World, Place, places}
-use Rattle.fc_spec.specs.requests.Request.{Terms, terms, Request}
+use Rattle.fc_spec.specs.queries.Query.{Query}
+use Rattle.fc_spec.specs.requests.Request.{Filter, Terms, terms, Request}
 use Rattle.fc_spec.specs.requests.Buckets.{Key, value, in_bucket, bucket_places}
 use Rattle.fc_spec.specs.requests.Statistics.{pair_values}
 use Rattle.fc_spec.specs.replies.Reply.{listed, bucket, Facets, no_facets, many, Row, part, row_of}
+use Rattle.fc_spec.specs.replies.Distributed.{distributed}
 use Rattle.fc_spec.specs.replies.Exact.{exact_facets}
 use Rattle.fc_spec.specs.replies.Values.{value_places, entries_in}
 use Rattle.fc_spec.specs.replies.Printed.{terms_keys}
 use Rattle.fc_spec.specs.laws.SortingLaw.{PagesAreCuts}
 use Rattle.fc_spec.specs.laws.WithoutLimits.{IsExactWithoutLimits}
-use Rattle.fc_script.specs.Requests.{every_value, one_facet}
-use Rattle.fc_run.specs.PlainReply.{root_documents, documents_with, value_counts, counted_row, counted_reply, IsPlainOnOneShard}
-use Rattle.fc_script.specs.Requests.{built_request}
+use Rattle.fc_run.specs.PlainReply.{ValueFacet, asked_facet, root_documents, documents_with, value_counts, counted_row, counted_reply, IsPlainOnOneShard}
+use Rattle.fc_run.proofs.replies.BuiltNodes.{every_value, one_facet, nodes_of, built_nodes}
 use Rattle.fc_run.proofs.replies.PlainPlaces.{flat_map-documents_at, documents_at-filter}
 use Rattle.fc_run.proofs.replies.PlainKeys.{terms_keys_are}
 use Rattle.fc_spec.proofs.words.Counting.{filter-all}
@@ -70,14 +71,19 @@ either_way : {X : Type 0} (b : Bool) (x : X) → x ≡ cond b x x
 either_way true x = refl
 either_way false x = refl
 
-pub plain_from_laws : IsExactWithoutLimits → PagesAreCuts → IsPlainOnOneShard
-plain_from_laws exact_is pages q filters None blocks =
+-- a request of this query and these filters, with no facet or one
+abbrev built_request : Query → List Filter → Option ValueFacet → Request
+built_request q filters f = record { query = q; filters = filters; nodes = nodes_of f }
+
+plain_of_form : IsExactWithoutLimits → PagesAreCuts → (q : Query) (filters : List Filter) (facet : Option ValueFacet) (blocks : List Block)
+    → distributed (built_request q filters facet) (blocks ∷ []) ≡ counted_reply facet (root_documents (built_request q filters facet) blocks)
+plain_of_form exact_is pages q filters None blocks =
     let r = built_request q filters None in
     let Q : List Place = root_domain r (blocks ∷ []) in
     exact_is r (blocks ∷ []) refl refl
     ∙ ap (λ n. bucket None n no_facets) (sym (length-map Q (λ p. p.document)) ∙ ap length (documents_at-root r blocks))
     ∙ ap (bucket None (length (root_documents r blocks))) (either_way (length (root_documents r blocks) == 0) no_facets)
-plain_from_laws exact_is pages q filters (Some f) blocks =
+plain_of_form exact_is pages q filters (Some f) blocks =
     exact_is r W refl refl
     ∙ ap (bucket None (length Q)) (facets_are pages r W f.0 f.1 Q)
     ∙ ap (λ n. bucket None n (cond (n == 0) no_facets (many f.0 (counted_row (value_counts f.1 (documents_at Q))) no_facets))) (sym (length-map Q (λ p. p.document)))
@@ -91,3 +97,7 @@ plain_from_laws exact_is pages q filters (Some f) blocks =
 
     Q : List Place
     Q = root_domain r W
+
+pub plain_from_laws : IsExactWithoutLimits → PagesAreCuts → IsPlainOnOneShard
+plain_from_laws exact_is pages r blocks built =
+    ap (λ ns. distributed (record { query = r.query; filters = r.filters; nodes = ns }) (blocks ∷ [])) (built_nodes r.nodes built) ∙ plain_of_form exact_is pages r.query r.filters (asked_facet r.nodes) blocks

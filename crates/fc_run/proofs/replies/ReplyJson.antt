@@ -11,20 +11,20 @@ use Rattle.fc_spec.specs.replies.Reply.{bucket, no_facets, many}
 use Rattle.fc_spec.specs.replies.Json.{natural_data, bucket_data, listed_items, put_row}
 use Rattle.fc_run.specs.PlainReply.{counted_row, reply_with}
 use Rattle.fc_run.specs.Term.{term_view}
-use Rattle.fc_script.specs.View.{facet_view}
-use Rattle.fc_script.specs.declared.request.facet.Facet.{Facet}
+use Rattle.fc_run.specs.FacetView.{value_facet_view}
+use Rattle.fc_run.specs.declared.search.facet.ValueFacet.{ValueFacet}
 use Rattle.fc_run.specs.declared.search.term.Term.{Term}
 
 -- the bucket of an entry
 abbrev pub entry_data : Term × ℕ → Data
 entry_data e = bucket_data (bucket (Some (term_view e.0)) e.1 no_facets)
 
--- one more bucket at the end
-pub push_bucket : (all : List Data) (done : List Value) (left later : List (Term × ℕ)) (e : Term × ℕ) (v : Value)
-    → map view done ++ map entry_data left ≡ all → left ≡ e ∷ later → view v ≡ entry_data e → map view (done ++ v ∷ []) ++ map entry_data later ≡ all
-push_bucket all done left later e v so_far next is =
-    ap (λ l. l ++ map entry_data later) (map-append view done (v ∷ []) ∙ ap (λ d. map view done ++ d ∷ []) is)
-    ∙ append_assoc (map view done) (entry_data e ∷ []) (map entry_data later) ∙ ap (λ l. map view done ++ map entry_data l) (sym next) ∙ so_far
+-- one more item at the end
+pub push_item : {X : Type 0} (see : X → Data) (all : List Data) (done : List Value) (left later : List X) (x : X) (v : Value)
+    → map view done ++ map see left ≡ all → left ≡ x ∷ later → view v ≡ see x → map view (done ++ v ∷ []) ++ map see later ≡ all
+push_item see all done left later x v so_far next is =
+    ap (λ l. l ++ map see later) (map-append view done (v ∷ []) ∙ ap (λ d. map view done ++ d ∷ []) is)
+    ∙ append_assoc (map view done) (see x ∷ []) (map see later) ∙ ap (λ l. map view done ++ map see l) (sym next) ∙ so_far
 
 -- the buckets of all entries are those of the row
 pub listed_items-counted_row : (es : List (Term × ℕ)) → listed_items (counted_row (map (λ e. (term_view e.0, e.1)) es)) ≡ items_of (map entry_data es)
@@ -37,12 +37,12 @@ put_row-counted_row [] ms = refl
 put_row-counted_row (e ∷ es) ms = put_row-counted_row es ms
 
 -- where there are documents and a facet, the reply is the bucket of all with that facet
-pub faceted_reply : (facet : Option Facet) (f : Facet) → facet ≡ Some f → (name : Text) → name ≡ f.name → (count : ℕ) (counts : List (Val × ℕ)) (buckets : Data) → 0 < count
+pub faceted_reply : (facet : Option ValueFacet) (f : ValueFacet) → facet ≡ Some f → (name : Text) → name ≡ f.name.now → (count : ℕ) (counts : List (Val × ℕ)) (buckets : Data) → 0 < count
     → buckets ≡ array (listed_items (counted_row counts))
-    → object (put name (object (member (codes "buckets") buckets no_members)) (member (codes "count") (natural_data count) no_members)) ≡ bucket_data (reply_with count (option_map facet_view facet) counts)
+    → object (put name (object (member (codes "buckets") buckets no_members)) (member (codes "count") (natural_data count) no_members)) ≡ bucket_data (reply_with count (option_map value_facet_view facet) counts)
 faceted_reply facet f is name named count counts buckets some are =
     let list = member (codes "buckets") (array (listed_items (counted_row counts))) no_members in
     (λ i. object (put (named i) (object (member (codes "buckets") (are i) no_members)) (member (codes "count") (natural_data count) no_members)))
-    ∙ ap (λ ms. object (put f.name (object ms) (member (codes "count") (natural_data count) no_members))) (sym (put_row-counted_row counts list))
-    ∙ ap (λ b. bucket_data (bucket None count (cond b no_facets (many f.name (counted_row counts) no_facets)))) (sym (ne_eqb count 0 (λ none. omega arith)))
-    ∙ ap (λ o. bucket_data (reply_with count (option_map facet_view o) counts)) (sym is)
+    ∙ ap (λ ms. object (put f.name.now (object ms) (member (codes "count") (natural_data count) no_members))) (sym (put_row-counted_row counts list))
+    ∙ ap (λ b. bucket_data (bucket None count (cond b no_facets (many f.name.now (counted_row counts) no_facets)))) (sym (ne_eqb count 0 (λ none. omega arith)))
+    ∙ ap (λ o. bucket_data (reply_with count (option_map value_facet_view o) counts)) (sym is)

@@ -13,6 +13,7 @@ use Rattle.fc_spec.specs.documents.Totals.{document_total, value_count}
 use Rattle.fc_spec.specs.scripts.ValidScripts.{IsWithin}
 use Rattle.fc_spec.specs.words.Walks.{◌>>=◌, unless}
 use Rattle.fc_base.specs.declared.error.WantMemory.{WantMemory}
+use Rattle.fc_script.specs.AskedRequests.{IsAskedOf}
 use Rattle.fc_script.specs.Counts.{IsLineOf}
 use Rattle.fc_run.specs.Outcome.{by_single_index, ArePrinted}
 use Rattle.fc_run.specs.Running.{nothing, lines_text}
@@ -21,17 +22,17 @@ use Rattle.fc_script.specs.declared.read.Script.{Script}
 use Rattle.fc_run.proofs.scripts.ScriptOrder.{all_lines}
 use Rattle.fc_run.proofs.scripts.RunningText.{same_lines}
 
-printed : IsSingleWithoutLimits → AreRefinedPathsExact → (S : Script) → S.schema.shards ≡ 1 → All (IsLineOf S.schema) (script_view S).lines → ArePrinted (script_view S) (lines_text distributed nothing (script_view S).lines)
-printed single exact S one valid = record {
+printed : IsSingleWithoutLimits → AreRefinedPathsExact → (S : Script) → S.schema.shards ≡ 1 → All (IsLineOf S.schema) (script_view S).lines → All (IsAskedOf S.schema) (script_view S).lines → ArePrinted (script_view S) (lines_text distributed nothing (script_view S).lines)
+printed single exact S one valid asked = record {
   output = all_lines distributed (script_view S) one valid;
-  single_index = subst (IsOutputBy by_single_index (script_view S)) (sym (same_lines single S.lines.items nothing)) (all_lines by_single_index (script_view S) one valid);
+  single_index = subst (IsOutputBy by_single_index (script_view S)) (sym (same_lines single S.schema (script_view S).lines nothing asked)) (all_lines by_single_index (script_view S) one valid);
   counts = (distributed, λ r W outermost. (exact r W outermost).1, all_lines distributed (script_view S) one valid);
 }
 
-pub all_printed : IsSingleWithoutLimits → AreRefinedPathsExact → (S : Script) (answer : Result (Vec ℕ Global) WantMemory) → S.schema.shards ≡ 1 → All (IsLineOf S.schema) (script_view S).lines
+pub all_printed : IsSingleWithoutLimits → AreRefinedPathsExact → (S : Script) (answer : Result (Vec ℕ Global) WantMemory) → S.schema.shards ≡ 1 → All (IsLineOf S.schema) (script_view S).lines → All (IsAskedOf S.schema) (script_view S).lines
     → IfOk answer (λ text. text.items ≡ lines_text distributed nothing (script_view S).lines) → IfOk answer (λ text. ArePrinted (script_view S) text.items)
-all_printed single exact S (Ok text) one valid is = subst (ArePrinted (script_view S)) (sym is) (printed single exact S one valid)
-all_printed single exact S (Err e) one valid is = tt
+all_printed single exact S (Ok text) one valid asked is = subst (ArePrinted (script_view S)) (sym is) (printed single exact S one valid asked)
+all_printed single exact S (Err e) one valid asked is = tt
 
 last_passes : {E : Type 0} (a b c : Bool) (e f g : E) → (unless a e >>= λ u. (unless b f >>= λ v. unless c g)) ≡ Ok tt → c ≡ true
 last_passes true true true e f g passed = refl

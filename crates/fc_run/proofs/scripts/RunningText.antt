@@ -1,25 +1,23 @@
 -- Running lines one after another: what is written, and the blocks that are indexed.
-use Rattle.std.proofs.Common.{◌≡◌, List, [], ◌∷◌, ◌++◌, length, map, true, Option, option_map, None, Some, refl, sym, ◌∙◌, ap, append_assoc, append-nil}
+use Rattle.std.proofs.Common.{◌≡◌, List, [], ◌∷◌, ◌++◌, length, All, Ok, Err, refl, sym, ◌∙◌, ap, append_assoc, append-nil}
 use Rattle.std.specs.List.{filter_map}
 use Rattle.std.proofs.lemmas.List.Concat.{flat_map-append}
+use Rattle.std.proofs.lemmas.List.Elements.{All-head, All-tail}
 use Rattle.fc_spec.specs.documents.Val.{Text}
 use Rattle.fc_spec.specs.documents.Document.{Block, Batch}
+use Rattle.fc_spec.specs.documents.Schema.{Schema}
+use Rattle.fc_spec.specs.requests.Request.{Request}
 use Rattle.fc_spec.specs.replies.Distributed.{distributed}
 use Rattle.fc_spec.specs.words.Lists.{joined}
 use Rattle.fc_spec.specs.scripts.Lines.{reply_line}
 use Rattle.fc_spec.specs.scripts.Script.{add, commit, sync, asks}
 use Rattle.fc_spec.specs.scripts.ScriptTotals.{added}
-use Rattle.fc_spec.specs.requests.Shape.{no_limits, outermost_exclusions}
 use Rattle.fc_spec.specs.laws.WithoutLimits.{IsSingleWithoutLimits}
 use Rattle.fc_run.specs.Outcome.{by_single_index}
-use Rattle.fc_script.specs.Requests.{Facet, nodes_of}
+use Rattle.fc_script.specs.AskedRequests.{IsAnswerable, IsAskedOf}
 use Rattle.fc_script.specs.ReadSoFar.{AskedLine}
+use Rattle.fc_run.proofs.replies.BuiltNodes.{no_limits_built, no_exclusions_built}
 use Rattle.fc_run.specs.Running.{Indexed, indexed_after, blocks_in, line_text, lines_text}
-use Rattle.fc_script.specs.ScriptView.{line_view}
-use Rattle.fc_script.specs.View.{facet_view, request_view}
-use Rattle.fc_script.specs.declared.request.Request.{Request}
-use Rattle.fc_script.specs.declared.line.asked.Line.{Line}
-use Rattle.fc_script.specs.declared.line.asked.Line.TheVariants as line
 
 -- ---- blocks
 
@@ -45,20 +43,16 @@ text_left i j l ls t u all after written is = (λ k. written k ++ lines_text dis
 -- ---- the single index
 
 -- a request that is built has no limits
-no_limits_in : (f : Option Facet) → no_limits (nodes_of f) ≡ true
-no_limits_in None = refl
-no_limits_in (Some f) = refl
+same_reply : IsSingleWithoutLimits → (s : Schema) (r : Request) (blocks : List Block) → IsAnswerable s r → distributed r (blocks ∷ []) ≡ by_single_index r (blocks ∷ [])
+same_reply single s r blocks is = single r (blocks ∷ []) (no_limits_built r.nodes is.built) (no_exclusions_built r.nodes is.built)
 
-no_exclusions_in : (f : Option Facet) → outermost_exclusions (nodes_of f) ≡ true
-no_exclusions_in None = refl
-no_exclusions_in (Some f) = refl
+same_line : IsSingleWithoutLimits → (s : Schema) (i : Indexed) (l : AskedLine) → IsAskedOf s l → line_text distributed i l ≡ line_text by_single_index i l
+same_line single s i (asks session (Ok r)) is = ap (λ b. reply_line b (length i.committed ∷ []) session) (same_reply single s r (joined i.committed) is)
+same_line single s i (asks session (Err f)) is = refl
+same_line single s i (add shard block) is = refl
+same_line single s i (commit shard) is = refl
+same_line single s i sync is = refl
 
-same_reply : IsSingleWithoutLimits → (r : Request) (blocks : List Block) → distributed (request_view r) (blocks ∷ []) ≡ by_single_index (request_view r) (blocks ∷ [])
-same_reply single r blocks = single (request_view r) (blocks ∷ []) (no_limits_in (option_map facet_view r.facet)) (no_exclusions_in (option_map facet_view r.facet))
-
-pub same_lines : IsSingleWithoutLimits → (ls : List Line) (i : Indexed) → lines_text distributed i (map line_view ls) ≡ lines_text by_single_index i (map line_view ls)
-same_lines single [] i = refl
-same_lines single (line.Add shard block ∷ ls) i = same_lines single ls (indexed_after i (line_view (line.Add shard block)))
-same_lines single (line.Commit shard ∷ ls) i = same_lines single ls (indexed_after i (line_view (line.Commit shard)))
-same_lines single (line.Sync ∷ ls) i = same_lines single ls i
-same_lines single (line.Search session r ∷ ls) i = λ j. reply_line (same_reply single r.value (joined i.committed) j) (length i.committed ∷ []) session ++ same_lines single ls i j
+pub same_lines : IsSingleWithoutLimits → (s : Schema) (ls : List AskedLine) (i : Indexed) → All (IsAskedOf s) ls → lines_text distributed i ls ≡ lines_text by_single_index i ls
+same_lines single s [] i asked = refl
+same_lines single s (l ∷ ls) i asked = λ j. same_line single s i l (All-head (IsAskedOf s) l ls asked) j ++ same_lines single s ls (indexed_after i l) (All-tail (IsAskedOf s) l ls asked) j

@@ -3,12 +3,12 @@ ghost use Rattle.std.specs.Prelude.{◌≡◌, [], map, IfOk};
 ghost use Rattle.fc_spec.specs.requests.Base.{meets_base};
 ghost use Rattle.fc_spec.specs.documents.Totals.{documents_in};
 ghost use Rattle.fc_run.specs.Fitting.{Fits};
-ghost use Rattle.fc_script.specs.View.{request_view};
+ghost use Rattle.fc_request.specs.RequestView.{request_view};
 
 use fc_base::WantMemory;
 use fc_docset::DocSet;
 use fc_domain::matches;
-use fc_script::Request;
+use fc_request::Request;
 use fc_segment::Segment;
 use std::alloc::Global;
 

@@ -5,16 +5,18 @@ ghost use Rattle.fc_spec.specs.words.Lists.{joined};
 ghost use Rattle.fc_spec.specs.documents.Totals.{document_total, documents_in};
 ghost use Rattle.fc_run.specs.Fitting.{AreDifferentIn, Fits};
 ghost use Rattle.fc_run.specs.Found.{asked_values, Finds};
-ghost use Rattle.fc_run.specs.PlainReply.{asked_counts, root_documents};
+ghost use Rattle.fc_run.specs.FacetView.{value_facet_view};
+ghost use Rattle.fc_run.specs.PlainReply.{asked_counts, asked_facet, root_documents};
 ghost use Rattle.fc_run.specs.Tally.{IsCounted, HasRoom, tally_view};
-ghost use Rattle.fc_script.specs.View.{facet_view, request_view};
+ghost use Rattle.fc_request.specs.RequestView.{request_view};
 
 use super::columns::tally_column;
 use super::domain::root_domain;
+use super::facet::{ValueFacet, asked_facet};
 use super::tally::Tally;
 use fc_base::WantMemory;
 use fc_docset::DocSet;
-use fc_script::{Facet, Request};
+use fc_request::Request;
 use fc_segment::Segment;
 use std::alloc::Global;
 use std::collections::BTreeMap;
@@ -23,15 +25,15 @@ use std::collections::BTreeMap;
 fn tally_facet<'a>(
     alloc: Global,
     segment: &'a Segment,
-    facet: &Option<Facet>,
+    facet: &Option<ValueFacet<'_>>,
     docs: &DocSet,
     tally: &mut Tally<'a>,
 ) -> Result<(), WantMemory>
-    requires field { IfSome facet.now (λ f. f.field.0 < length segment.now.texts) }
+    requires field { IfSome (option_map value_facet_view facet.now) (λ f. f.1 < length segment.now.texts) }
     requires length { length docs.now ≡ document_total segment.now.blocks }
-    requires room { HasRoom tally.old (asked_values (option_map facet_view facet.now)
+    requires room { HasRoom tally.old (asked_values (option_map value_facet_view facet.now)
         (items_where_true docs.now (documents_in segment.now.blocks))) }
-    ensures { OnOk result (IsCounted tally.old tally.new (asked_values (option_map facet_view facet.now)
+    ensures { OnOk result (IsCounted tally.old tally.new (asked_values (option_map value_facet_view facet.now)
         (items_where_true docs.now (documents_in segment.now.blocks)))) }
 {
     if let Some(facet) = facet {
@@ -58,14 +60,14 @@ impl<'a> Found<'a> {
     ) -> Result<Found<'a>, WantMemory>
         requires fits { Fits segment.now.texts request.now }
         requires few { self.count + document_total segment.now.blocks < 2 ^ 64 }
-        requires room { HasRoom self.tally (asked_values (option_map facet_view request.now.facet)
+        requires room { HasRoom self.tally (asked_values (asked_facet (request_view request.now).nodes)
             (root_documents (request_view request.now) segment.now.blocks)) }
-        ensures { IfOk result (λ found. Finds self.entry found (option_map facet_view request.now.facet)
+        ensures { IfOk result (λ found. Finds self.entry found (asked_facet (request_view request.now).nodes)
             (root_documents (request_view request.now) segment.now.blocks)) }
     {
         let Found { count, mut tally } = self;
         let docs = root_domain(alloc, segment, request)?;
-        tally_facet(alloc, segment, &request.facet, &docs, &mut tally)?;
+        tally_facet(alloc, segment, &asked_facet(request), &docs, &mut tally)?;
         Ok(Found {
             count: count + u64::from(docs.count()),
             tally,
@@ -86,7 +88,7 @@ pub(crate) fn find<'a>(
     ensures count { IfOk result (λ found. found.count ≡ length (root_documents (request_view request.now)
         (joined (map (λ segment. segment.blocks) segments.now)))) }
     ensures tally { IfOk result (λ found. tally_view found.tally ≡ asked_counts
-        (option_map facet_view request.now.facet) (root_documents (request_view request.now)
+        (asked_facet (request_view request.now).nodes) (root_documents (request_view request.now)
         (joined (map (λ segment. segment.blocks) segments.now)))) }
 {
     let mut found = Found {

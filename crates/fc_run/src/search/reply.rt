@@ -1,5 +1,5 @@
 // The reply line of a search over the segments of one shard.
-ghost use Rattle.std.specs.Prelude.{◌≡◌, ◌≤◌, [], ◌∷◌, length, map, codes, All, Some, option_map, IfOk};
+ghost use Rattle.std.specs.Prelude.{◌≡◌, ◌≤◌, [], ◌∷◌, length, map, codes, Some, option_map, IfOk};
 ghost use Rattle.serde_json.specs.Data.{string, array, object, member, no_members, put};
 ghost use Rattle.serde_json.specs.View.{view};
 ghost use Rattle.fc_spec.specs.words.Lists.{joined};
@@ -8,18 +8,20 @@ ghost use Rattle.fc_spec.specs.replies.Reply.{bucket, no_facets};
 ghost use Rattle.fc_spec.specs.replies.Json.{natural_data, val_data, bucket_data, listed_items};
 ghost use Rattle.fc_spec.specs.scripts.Lines.{numbers_data, reply_line};
 ghost use Rattle.fc_spec.specs.replies.Distributed.{distributed};
-ghost use Rattle.fc_run.specs.Fitting.{AreDifferentIn, Fits};
+ghost use Rattle.fc_run.specs.FacetView.{value_facet_view};
+ghost use Rattle.fc_run.specs.Fitting.{AreDifferentIn, IsSearchable};
 ghost use Rattle.fc_run.specs.PlainReply.{counted_row, reply_with, IsPlainOnOneShard};
 ghost use Rattle.fc_run.specs.Tally.{tally_view};
 ghost use Rattle.fc_run.specs.Term.{term_view};
-ghost use Rattle.fc_script.specs.View.{facet_view, request_view};
+ghost use Rattle.fc_request.specs.RequestView.{request_view};
 
+use super::facet::{ValueFacet, asked_facet};
 use super::found::find;
 use super::tally::Tally;
 use super::term::Term;
 use fc_base::json::text_line;
 use fc_base::{Name, WantMemory};
-use fc_script::{Facet, Request};
+use fc_request::Request;
 use fc_segment::Segment;
 use fc_spec::{ranks_are_sorting, without_limits};
 use serde_json::{Value, json};
@@ -77,11 +79,11 @@ fn faceted_json(alloc: Global, count: u64, name: &str, buckets: Value) -> Result
 fn reply_json(
     alloc: Global,
     count: u64,
-    facet: &Option<Facet>,
+    facet: &Option<ValueFacet<'_>>,
     tally: &Tally<'_>,
 ) -> Result<Value, WantMemory>
     ensures { IfOk result (λ json. view json
-        ≡ bucket_data (reply_with count (option_map facet_view facet.now) (tally_view tally.now))) }
+        ≡ bucket_data (reply_with count (option_map value_facet_view facet.now) (tally_view tally.now))) }
 {
     match facet {
         Some(facet) if count > 0 => {
@@ -113,7 +115,7 @@ pub(crate) fn reply_line(
     request: &Request,
     session: &Name,
 ) -> Result<Vec<u8>, WantMemory>
-    requires fits { All (λ segment. Fits segment.texts request.now) segments.now }
+    requires searchable { IsSearchable segments.now request.now }
     requires different { AreDifferentIn (joined (map (λ segment. segment.blocks) segments.now)) }
     requires few { document_total (joined (map (λ segment. segment.blocks) segments.now)) ≤ 1_048_576 }
     ensures { IfOk result (λ line. line.items ≡ reply_line
@@ -122,7 +124,7 @@ pub(crate) fn reply_line(
 {
     plain_replies();
     let found = find(alloc, segments, request)?;
-    let facets = reply_json(alloc, found.count, &request.facet, &found.tally)?;
+    let facets = reply_json(alloc, found.count, &asked_facet(request), &found.tally)?;
     let line = line_json(alloc, facets, segments.len() as u64, session.text())?;
     text_line(alloc, &line)
 }

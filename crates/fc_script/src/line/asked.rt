@@ -1,19 +1,20 @@
 // Lines whose requests are read.
-ghost use Rattle.std.specs.Prelude.{IfOk};
+ghost use Rattle.std.specs.Prelude.{◌≡◌, IfOk};
 ghost use Rattle.serde_json.specs.View.{view};
+ghost use Rattle.fc_spec.specs.requests.RequestReading.{request_of};
 ghost use Rattle.fc_spec.specs.scripts.Script.{asks};
 ghost use Rattle.fc_base.specs.Answers.{Answers};
 ghost use Rattle.fc_script.specs.Counts.{IsLineOf};
-ghost use Rattle.fc_script.specs.ValidRequests.{IsAskedOf};
 ghost use Rattle.fc_script.specs.ReadSoFar.{asked_line};
-ghost use Rattle.fc_script.specs.ScriptView.{line_view, said_view};
+ghost use Rattle.fc_script.specs.ScriptView.{asked_view, line_view, said_view};
 ghost use Rattle.fc_script.specs.View.{shown_view};
 
+use super::built::is_answered;
 use super::said::Said;
 use crate::fault::ShownFault;
-use crate::request::{Request, read_request};
-use fc_base::{Name, Refusal, Schema};
+use fc_base::{Name, Refusal, Schema, WantMemory};
 use fc_docs::Block;
+use fc_request::{Request, RequestFault};
 use serde_json::Value;
 use std::alloc::Global;
 
@@ -26,8 +27,23 @@ pub enum Line {
     Commit(Option<u32>),
     /// The end of a phase.
     Sync,
-    /// A session's search, and what it asks.
-    Search(Name, Box<Request>),
+    /// A session's search, and what it asks, or the fault of that.
+    Search(Name, Box<Result<Request, RequestFault>>),
+}
+
+// What a search asks, or the fault of that.
+fn asked_of(
+    alloc: Global,
+    schema: &Schema,
+    json: &Value,
+) -> Result<Result<Request, RequestFault>, WantMemory>
+    ensures { IfOk result (λ asked. asked_view asked ≡ request_of schema.now (view json.now)) }
+{
+    match Request::read(alloc, schema, json) {
+        Ok(request) => Ok(Ok(request)),
+        Err(Refusal::Memory) => Err(WantMemory),
+        Err(Refusal::Fault(fault)) => Ok(Err(fault)),
+    }
 }
 
 // A session's search, with its request read.
@@ -40,14 +56,16 @@ fn search_of(
     ensures answer { Answers line_view shown_view result
         (asked_line schema.now (asks session.now (view request.now))) }
     ensures valid { IfOk result (λ line. IsLineOf schema.now (line_view line)) }
-    ensures fits { IfOk result (IsAskedOf schema.now) }
 {
+    let asked = asked_of(alloc, schema, request)?;
+    if !is_answered(&asked) {
+        return Err(Refusal::Fault(ShownFault::NotBuilt));
+    }
     let session = Name::new(alloc, session)?;
-    let request = read_request(alloc, schema, request)?;
-    Ok(Line::Search(session, Box::new(alloc, request)?))
+    Ok(Line::Search(session, Box::new(alloc, asked)?))
 }
 
-/// What a line says, with its request read, where that is built.
+/// What a line says, with its request read, where that is answered.
 pub(crate) fn asked_line(
     alloc: Global,
     schema: &Schema,
@@ -56,7 +74,6 @@ pub(crate) fn asked_line(
     requires { IsLineOf schema.now (said_view said) }
     ensures answer { Answers line_view shown_view result (asked_line schema.now (said_view said.entry)) }
     ensures valid { IfOk result (λ line. IsLineOf schema.now (line_view line)) }
-    ensures fits { IfOk result (IsAskedOf schema.now) }
 {
     match said {
         Said::Add(shard, block) => Ok(Line::Add(shard, block)),

@@ -5,4 +5,4 @@ pub lines_text-requires-clause-few : goal.lines_text-requires-clause-few
 lines_text-requires-clause-few c = few_documents c.args.script c.requires.within
 
 pub returns : goal.returns
-returns c = all_printed c.without_limits.ensures.single_index c.refined_paths_are_exact.ensures c.args.script c.lines_text.result c.requires.one c.requires.valid c.lines_text.ensures
+returns c = all_printed c.without_limits.ensures.single_index c.refined_paths_are_exact.ensures c.args.script c.lines_text.result c.requires.one c.requires.valid c.requires.asked c.lines_text.ensures

@@ -1,9 +1,9 @@
-use Rattle.std.proofs.Common.{◌≡◌, ◌∷◌, map}
+use Rattle.std.proofs.Common.{◌≡◌, ◌∷◌, map, ap}
 use Rattle.std.specs.List.{filter_map}
 use Rattle.std.proofs.lemmas.List.Elements.{All-rest}
 use Rattle.fc_spec.specs.replies.Distributed.{distributed}
 use Rattle.fc_spec.specs.scripts.ScriptTotals.{added}
-use Rattle.fc_script.specs.ValidRequests.{IsAskedOf}
+use Rattle.fc_script.specs.AskedRequests.{IsAskedOf}
 use Rattle.fc_run.specs.Running.{nothing, lines_text, shard_view}
 use Rattle.fc_script.specs.ScriptView.{line_view}
 use Rattle.fc_run.proofs.finding.IndexPremises.{index_now}
@@ -25,5 +25,5 @@ loop-line-preserved c =
       text = text_left before after l ls c.loop-line.running.text.items c.in_ok-running.running.text.items (lines_text distributed nothing (map line_view c.args.lines.items)) c.in_ok-running.ensures.shard c.in_ok-running.ensures.text (rw rest at c.loop-line.invariant.text);
       blocks = blocks_left before after l ls (filter_map added (map line_view c.args.lines.items)) c.in_ok-running.ensures.shard (rw rest at c.loop-line.invariant.blocks);
       kinds = c.in_ok-running.ensures.kinds;
-      asked = All-rest (IsAskedOf c.args.schema.now) c.in-Some.line c.next.new.self.rest.items c.loop-line.line-iterator.rest.items rest c.loop-line.invariant.asked;
+      asked = All-rest (IsAskedOf c.args.schema.now) l ls (map line_view c.loop-line.line-iterator.rest.items) (ap (map line_view) rest) c.loop-line.invariant.asked;
     }

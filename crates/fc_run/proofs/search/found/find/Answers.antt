@@ -1,15 +1,15 @@
-use Rattle.std.proofs.Common.{refl, sym, subst, take_all, option_map}
+use Rattle.std.proofs.Common.{refl, sym, subst, take_all}
 use Rattle.fc_segment.specs.Segmented.{Segmented}
 use Rattle.fc_run.specs.Fitting.{Fits}
 use Rattle.fc_run.specs.Found.{Finds}
-use Rattle.fc_run.specs.PlainReply.{root_documents}
-use Rattle.fc_script.specs.View.{facet_view, request_view}
+use Rattle.fc_run.specs.PlainReply.{asked_facet, root_documents}
+use Rattle.fc_request.specs.RequestView.{request_view}
 use Rattle.fc_run.proofs.finding.FoundSegments.{blocks_of, searched_none, next_few, next_room, segment_next, segment_searched, root_different, counts_found}
 use Rattle.fc_run.proofs.search.found.find.Goals as goal
 
 pub loop-segment-init : goal.loop-segment-init
 loop-segment-init c =
-    searched_none (request_view c.args.request.now) (option_map facet_view c.args.request.now.facet) (record { count = 0; tally = c.new.result }) refl c.new.ensures.empty (blocks_of c.args.segments.now) c.requires.different c.requires.few
+    searched_none (request_view c.args.request.now) (asked_facet (request_view c.args.request.now).nodes) (record { count = 0; tally = c.new.result }) refl c.new.ensures.empty (blocks_of c.args.segments.now) c.requires.different c.requires.few
 
 pub with-requires-clause-fits : goal.with-requires-clause-fits
 with-requires-clause-fits c =
@@ -30,6 +30,6 @@ loop-segment-preserved c =
 pub returns-clause-tally : goal.returns-clause-tally
 returns-clause-tally c =
     let r = request_view c.args.request.now in
-    let finds : Finds (record { count = 0; tally = c.new.result }) c.loop-segment.found (option_map facet_view c.args.request.now.facet) (root_documents r (blocks_of c.args.segments.now)) =
+    let finds : Finds (record { count = 0; tally = c.new.result }) c.loop-segment.found (asked_facet (request_view c.args.request.now).nodes) (root_documents r (blocks_of c.args.segments.now)) =
     rw (take_all c.loop-segment.segment-index c.args.segments.now c.loop-segment-test.false) at c.loop-segment.invariant.finds in
     counts_found _ (root_documents r (blocks_of c.args.segments.now)) (root_different r (blocks_of c.args.segments.now) c.requires.different) (record { count = 0; tally = c.new.result }) c.loop-segment.found c.new.ensures.empty c.new.ensures.ordered finds

@@ -2,14 +2,14 @@ use Rattle.std.proofs.Common.{◌++◌, map, sym, ◌∙◌, ap, append-nil}
 use Rattle.serde_json.specs.Data.{array}
 use Rattle.serde_json.specs.View.{view, items_of}
 use Rattle.serde_json.proofs.Views.{view-Array}
-use Rattle.fc_run.proofs.replies.ReplyJson.{entry_data, push_bucket, listed_items-counted_row}
+use Rattle.fc_run.proofs.replies.ReplyJson.{entry_data, push_item, listed_items-counted_row}
 use Rattle.fc_run.proofs.search.reply.buckets_json.Goals as goal
 
 pub loop-term-init : goal.loop-term-init
 loop-term-init c = rw (c.new-buckets.ensures.items, c.into_iter-term-iterator.ensures.into_iter_gives.0)
 
 pub loop-term-preserved : goal.loop-term-preserved
-loop-term-preserved c = rw c.in_ok-push.ensures.items (push_bucket _ _ _ _ _ _ c.loop-term.invariant c.in-Some.ensures.steps c.in_ok-bucket_json.ensures)
+loop-term-preserved c = rw c.in_ok-push.ensures.items (push_item entry_data _ _ _ _ _ _ c.loop-term.invariant c.in-Some.ensures.steps c.in_ok-bucket_json.ensures)
 
 pub returns : goal.returns
 returns c =

@@ -1,4 +1,4 @@
-use Rattle.std.proofs.Common.{◌≡◌, ◌+◌, ◌<◌, ◌≤◌, ℕ, get_or, length, true, false, Result, Ok, Err, sym, ◌∙◌, ap, subst, arith}
+use Rattle.std.proofs.Common.{◌≡◌, ◌+◌, ◌<◌, ◌≤◌, ℕ, get_or, length, true, false, Result, Err, sym, ◌∙◌, ap, subst, arith}
 use Rattle.std.specs.Prelude.{nat_le, All}
 use Rattle.std.specs.List.{filter_map, list_all, range_with_len}
 use Rattle.std.proofs.lemmas.Bool.Decides.{nat_tests}
@@ -8,8 +8,7 @@ use Rattle.fc_base.specs.Answers.{Answers}
 use Rattle.fc_base.specs.declared.error.Refusal.{Refusal}
 use Rattle.fc_base.specs.declared.error.Refusal.TheVariants as refusal
 use Rattle.fc_spec.specs.scripts.ScriptFault as fault
-use Rattle.fc_script.specs.ScriptView.{line_fault_view}
-use Rattle.fc_script.specs.View.{request_view}
+use Rattle.fc_script.specs.ScriptView.{asked_view, line_fault_view}
 use Rattle.fc_script.specs.declared.counts.Counts.{Counts}
 use Rattle.fc_script.specs.declared.counts.documents.DocumentCounts.{DocumentCounts}
 use Rattle.fc_script.specs.declared.line.fault.LineFault.{LineFault}
@@ -66,7 +65,7 @@ returns-else-syncs-ge-SYNC_LIMIT c = λ limits lines are.
 
 pub returns-then-not-branch : goal.returns-then-not-branch
 returns-then-not-branch c = λ limits lines are.
-    rw c.in-Search.is (search_fits limits c.args.schema.now lines c.args.self are c.in-Search.session (Ok (request_view c.in-Search.field-1.value)) false (sym c.if-not-branch.true ∙ c.in_ok-add_session-in-Search.ensures.few), tt)
+    rw c.in-Search.is (search_fits limits c.args.schema.now lines c.args.self are c.in-Search.session (asked_view c.in-Search.field-1.value) false (sym c.if-not-branch.true ∙ c.in_ok-add_session-in-Search.ensures.few), tt)
 
 pub returns-else-not-branch : goal.returns-else-not-branch
 returns-else-not-branch c = λ limits lines are.
@@ -74,6 +73,6 @@ returns-else-not-branch c = λ limits lines are.
     let few = sym yes ∙ c.in_ok-add_session-in-Search.ensures.few in
     let now = c.in_ok-add_session-in-Search.ensures.sessions yes in
     rw c.in-Search.is (
-      search_fits limits c.args.schema.now lines c.args.self are c.in-Search.session (Ok (request_view c.in-Search.field-1.value)) true few,
-      with_search limits c.args.schema.now lines c.args.self are c.in-Search.session (Ok (request_view c.in-Search.field-1.value)) _ now (rw now (grind (arith, nat_tests))),
+      search_fits limits c.args.schema.now lines c.args.self are c.in-Search.session (asked_view c.in-Search.field-1.value) true few,
+      with_search limits c.args.schema.now lines c.args.self are c.in-Search.session (asked_view c.in-Search.field-1.value) _ now (rw now (grind (arith, nat_tests))),
     )

@@ -3,7 +3,6 @@ use Rattle.std.specs.Prelude.{All}
 use Rattle.std.proofs.lemmas.List.{map-append}
 use Rattle.std.proofs.lemmas.List.Elements.{All-append, All-cons, All-nil}
 use Rattle.fc_script.specs.Counts.{AreCounts, IsLineOf}
-use Rattle.fc_script.specs.ValidRequests.{IsAskedOf}
 use Rattle.fc_script.specs.ScriptView.{line_view}
 use Rattle.fc_script.specs.View.{limits_view}
 use Rattle.fc_script.proofs.PassedFaults.{passed}
@@ -20,9 +19,7 @@ invariant_of-result c =
 pub returns-clause-read : goal.returns-clause-read
 returns-clause-read c = λ read.
     let s = c.args.self.schema in let line = c.args.line in let before = c.args.self.lines.items in
-    let items = c.in_ok-push.ensures.items in
-    let lines : map line_view c.push.new.self.items ≡ map line_view before ++ line_view line ∷ [] = ap (map line_view) items ∙ map-append line_view before _ in
+    let lines : map line_view c.push.new.self.items ≡ map line_view before ++ line_view line ∷ [] = ap (map line_view) c.in_ok-push.ensures.items ∙ map-append line_view before _ in
     record {
-      valid = subst (All (IsLineOf s)) (sym lines) (All-append (IsLineOf s) (map line_view before) (line_view line ∷ []) read.valid (All-cons (IsLineOf s) (line_view line) [] c.requires.valid (All-nil (IsLineOf s))));
-      asked = subst (All (IsAskedOf s)) (sym items) (All-append (IsAskedOf s) before (line ∷ []) read.asked (All-cons (IsAskedOf s) line [] c.requires.asked (All-nil (IsAskedOf s))));
+      valid = subst (All (IsLineOf s)) (sym lines) (All-append (IsLineOf s) (map line_view before) (line_view line ∷ []) read.valid (All-cons (IsLineOf s) (line_view line) [] c.requires (All-nil (IsLineOf s))));
     }
