@@ -4,9 +4,9 @@ use Rattle.std.proofs.lemmas.Bool.{ne_eqb}
 use Rattle.fc_spec.specs.requests.Request.{DomainChange, Kind, terms, Nodes, no_nodes}
 use Rattle.fc_spec.specs.requests.RequestReading.{of_statistic, of_facet, with_node}
 use Rattle.fc_request.specs.NodeView.{Part, node_of, node_step, node_view, nodes_view}
-use Rattle.fc_request.specs.KindView.{domain_view, terms_view}
-use Rattle.fc_request.specs.declared.kind.Kind.TheVariants as kind
-use Rattle.fc_request.specs.declared.kind.Terms.{Terms}
+use Rattle.fc_facet.specs.KindView.{domain_view, terms_view}
+use Rattle.fc_facet.specs.declared.kind.Kind.TheVariants as kind
+use Rattle.fc_facet.specs.declared.kind.Terms.{Terms}
 use Rattle.fc_request.specs.declared.node.Node.{Node}
 use Rattle.fc_request.specs.declared.node.Node.TheViews.{out-Node}
 use Rattle.fc_request.specs.declared.node.Node.TheFolds.{fold_out-Node}

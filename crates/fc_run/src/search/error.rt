@@ -5,7 +5,8 @@ ghost use Rattle.serde_json.specs.View.{view};
 ghost use Rattle.fc_spec.specs.replies.Json.{natural_data};
 ghost use Rattle.fc_spec.specs.requests.RequestFault.{fault_name, fault_number};
 ghost use Rattle.fc_spec.specs.scripts.Lines.{texts_data, error_line as line_of_fault};
-ghost use Rattle.fc_request.specs.FaultView.{fault_view, request_fault_view};
+ghost use Rattle.fc_facet.specs.FaultView.{fault_view};
+ghost use Rattle.fc_request.specs.FaultView.{request_fault_view};
 
 use fc_base::json::text_line;
 use fc_base::{Name, WantMemory};

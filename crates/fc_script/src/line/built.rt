@@ -1,7 +1,7 @@
 // Which requests are answered today.
 ghost use Rattle.std.specs.Prelude.{◌≡◌, [], ◌∷◌};
 ghost use Rattle.fc_spec.specs.requests.Request.{terms as terms_kind};
-ghost use Rattle.fc_request.specs.KindView.{domain_view, sort_view, terms_view};
+ghost use Rattle.fc_facet.specs.KindView.{domain_view, sort_view, terms_view};
 ghost use Rattle.fc_request.specs.NodeView.{nodes_view};
 ghost use Rattle.fc_request.specs.RequestView.{request_view};
 ghost use Rattle.fc_script.specs.BuiltRequests as built;

@@ -1,4 +1,4 @@
-use Rattle.fc_request.specs.FaultView.{fault_view}
+use Rattle.fc_facet.specs.FaultView.{fault_view}
 use Rattle.fc_run.proofs.replies.ErrorJson.{has_float-error_data}
 use Rattle.fc_run.proofs.search.error.error_line.Goals as goal
 

@@ -1,6 +1,6 @@
 use Rattle.std.proofs.Common.{sym, ◌∙◌, ap}
 use Rattle.fc_spec.specs.requests.Request.{terms}
-use Rattle.fc_request.specs.KindView.{domain_view, terms_view}
+use Rattle.fc_facet.specs.KindView.{domain_view, terms_view}
 use Rattle.fc_request.specs.NodeView.{nodes_view}
 use Rattle.fc_request.specs.declared.node.Node.TheViews.{out-Node}
 use Rattle.fc_script.specs.BuiltRequests.{is_built_facet}
