@@ -8,8 +8,8 @@ use fc_base::WantMemory;
 use std::alloc::Global;
 use std::sync::{Arc, Wait};
 
-/// A store that has published `start`, for the generations of the charter behind it: its writer and its
-/// readers, from 1 to 16. It waits for nobody, since nobody reads yet.
+/// A store that has published `start`, for the charter's generations behind it: its writer, and from 1
+/// to 16 readers.
 pub fn open_shard<R: Wait>(
     rt: &R,
     alloc: Global,
