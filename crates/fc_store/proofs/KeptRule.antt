@@ -58,8 +58,7 @@ publishes_kept seat v s t g follows now views keeps at =
     let x = content s in
     let y : Content = (x.0, g) in
     let all : AllTrueOf y views = λ j u there. later_true x g u follows (keeps.1 j u there) in
-    let w : Known = record v { at = g.number } in
-    (
+    let w : Known = record v { at = g.number } in (
       record v { at = (content t).1.number },
       subst (λ (z : Content). KeepsAt z (set views seat (record v { at = z.1.number }))) (sym now) (follows.charted, set_true y views seat w all (newest_true y v (all seat v at))),
       refl,
@@ -75,5 +74,5 @@ pub takes_over_kept : (seat : ℕ) (v : Known) (other : ℕ) (w : Known) → Mer
 takes_over_kept seat v other w s views keeps at apart there =
     let x = content s in
     let fine : IsTrueOf x w =
-        ⊎_elim (λ (t : (other ≡ seat) × (w ≡ w)). absurd (apart t.0)) (λ (t : (other ≢ seat) × (get_elem? views other ≡ some w)). keeps.1 other w t.1) (at_set views seat other w w there) in
+    ⊎_elim (λ (t : (other ≡ seat) × (w ≡ w)). absurd (apart t.0)) (λ (t : (other ≢ seat) × (get_elem? views other ≡ some w)). keeps.1 other w t.1) (at_set views seat other w w there) in
     (keeps.0, set_true x (set views seat w) other nothing (set_true x views seat w keeps.1 fine) (nothing_true x))

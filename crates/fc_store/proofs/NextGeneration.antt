@@ -18,7 +18,7 @@ next_follows x g batch charted there is =
     let one : suc x.1.number ≡ x.1.number + 1 = omega arith in
     let number : g.number ≡ x.1.number + 1 = ap (λ (z : Generated). z.number) is in
     let blocks : g.blocks ≡ chartered x.0 (x.1.number + 1) =
-        ap (λ (z : Generated). z.blocks) is ∙ (ap (λ (z : List Block). z ++ batch) charted.1 ∙ (sym (chartered_suc x.0 x.1.number batch there) ∙ ap (chartered x.0) one)) in
+    ap (λ (z : Generated). z.blocks) is ∙ (ap (λ (z : List Block). z ++ batch) charted.1 ∙ (sym (chartered_suc x.0 x.1.number batch there) ∙ ap (chartered x.0) one)) in
     record {
       schema = ap (λ (z : Generated). z.schema) is;
       charted = (omega (arith, number, slice_get_within x.0 x.1.number batch there), blocks ∙ ap (chartered x.0) (sym number));

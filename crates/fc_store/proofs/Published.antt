@@ -45,8 +45,7 @@ leads_on {A = A} f s t v w before after (Ok u) led some values rule =
     let schema : (content t).1.schema ≡ x.1.schema = ap (λ (z : Content). z.1.schema) now ∙ follows.schema in
     let charter : (content t).0 ≡ x.0 = ap (λ (z : Content). z.0) now in
     let knew : record v { at = (content t).1.number } ≡ known (content t) =
-        ap (λ (z : Known). record z { at = (content t).1.number }) led.knows ∙ (λ i. record { bound = (known x).bound; schema = sym schema i; charter = sym charter i; at = (content t).1.number }) in
-    (
+    ap (λ (z : Known). record z { at = (content t).1.number }) led.knows ∙ (λ i. record { bound = (known x).bound; schema = sym schema i; charter = sym charter i; at = (content t).1.number }) in (
       record {
         knows = rule ∙ knew;
         charted = subst (λ (z : Content). IsChartered z.0 z.1) (sym now) follows.charted;
@@ -70,8 +69,7 @@ pub leads_first : {A U E : Type 0} (f : A → Generated) (s t : Shown) (v w : Kn
     → MatchResult r (λ _. binds v s t w) (λ _. w ≡ v)
     → IfOk r (λ _. IsLed (content t) w (map f after) × (content t ≡ content s))
 leads_first {A = A} f s t v w before after (Ok u) charted none values rule =
-    let now : content t ≡ content s = values.0 ∙ ap (λ (z : List A). applied f (content s) z) none in
-    (
+    let now : content t ≡ content s = values.0 ∙ ap (λ (z : List A). applied f (content s) z) none in (
       record {
         knows = rule ∙ ap known (sym now);
         charted = subst (λ (z : Content). IsChartered z.0 z.1) (sym now) charted;

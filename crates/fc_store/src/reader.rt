@@ -119,12 +119,11 @@ fn take(reader: Seated, least: u64) -> (Seated, (u64, Result<Arc<Generation>, Wa
     requires least { least ≡ (view_of reader.place).at }
     ensures bound { (view_of result.0.place).bound ≡ true }
     ensures number { result.1.0 ≡ (view_of result.0.place).at }
-    ensures taken {
-        let old : Pinning = pinning (view_of reader.place) in
+    ensures taken { let old : Pinning = pinning (view_of reader.place) in
         let new : Pinning = pinning (view_of result.0.place) in
         MatchResult result.1.1
-            (λ generation. PinsGeneration old (arc_value generation) new)
-            (λ _. IsNoLower old new) }
+        (λ generation. PinsGeneration old (arc_value generation) new)
+        (λ _. IsNoLower old new) }
 {
     match reader.enter_as::<Pins>() {
         Ok(reading) => {

@@ -1,8 +1,7 @@
 // What no clause says of stores: that readers see what is published, and that memory is enough.
-ghost use Rattle.std.specs.Prelude.{◌≡◌, ◌≤◌, length, map, All, IfOk};
+ghost use Rattle.std.specs.Prelude.{◌≡◌, ◌≤◌, length, All, IfOk};
 ghost use Rattle.fc_docs.specs.View.{batch_view};
 ghost use Rattle.fc_store.specs.Charters.{IsBatchOf};
-ghost use Rattle.fc_store.specs.Ends.{IsNoLower};
 
 use super::*;
 use fc_base::{Schema, WantMemory};
@@ -12,6 +11,8 @@ use std::alloc::Global;
 use std::process::Abort;
 use std::sync::{Arc, Wait};
 use std::test::Fail;
+use std::thread;
+use std::thread::Threads;
 
 const SCHEMA: &str = r#"{"shards":1,"fields":{"cat":"string"}}"#;
 
@@ -95,8 +96,8 @@ enum Step {
     TellOther,
 }
 
-// What each step answers in turn: the number that is then published or pinned, how many commits were left
-// where there is none, 1 where the note was learnt.
+// What each step answers in turn: the number that is then published or pinned; 1 where a note was told and
+// learnt; 0 where no commit is left.
 const STEPS: [(Step, u64); 13] = [
     (Step::PinOne, 0),
     (Step::Commit, 1),
@@ -161,13 +162,19 @@ fn readers_see_what_is_published(rt: HostRuntime) -> Result<(), Fail> {
     Ok(())
 }
 
-// Over so many empty batches: what is pinned before the commits and behind them, the last generation, and one
-// that was pinned before and is held to the end. The other reader goes early.
-fn ends_of(
-    rt: &(impl Abort + Wait),
-    alloc: Global,
-    count: usize,
-) -> Result<[Option<u64>; 4], Fail>
+// Publishes whatever is left, and answers the number that is then published.
+fn commit_all<R: Wait>(rt: &R, writer: &mut ShardWriter) -> u64 {
+    for _ in 0..writer.commits_left() {
+        if writer.commits_left() > 0 {
+            let _number = writer.commit_next(rt);
+        }
+    }
+    writer.number()
+}
+
+// Over so many empty batches: what is pinned before the commits and behind them, the last generation, and
+// one that was pinned first and is held to the end. The other reader goes early.
+fn ends_of(rt: &(impl Abort + Wait), alloc: Global, count: usize) -> Result<[Option<u64>; 4], Fail>
     requires { count ≤ 4096 }
 {
     let empty = vec![in alloc; BATCHES[1]; count]?;
@@ -179,11 +186,7 @@ fn ends_of(
     let held = one.pin();
     drop(other);
     let first = number_of(one.pin());
-    for _ in 0..count {
-        if writer.commits_left() > 0 {
-            let _number = writer.commit_next(rt);
-        }
-    }
+    commit_all(rt, &mut writer);
     let behind = number_of(one.pin());
     drop(one);
     let last = writer.finish(rt).number();
@@ -200,10 +203,48 @@ fn empty_batches_are_published(rt: HostRuntime) -> Result<(), Fail> {
     Ok(())
 }
 
-fn is_sent<T: Send>(_value: &T) -> bool {
-    true
+// Pins again and again. It answers whether no number was lower than the one before.
+fn pins_rise(reader: &mut ShardReader) -> bool {
+    let mut last = 0;
+    let mut rise = true;
+    for _ in 0..500 {
+        let number = number_of(reader.pin()).unwrap_or(last);
+        rise = rise && last <= number;
+        last = number;
+    }
+    rise
 }
 
-fn are_sent(store: &Opened, told: &Told, charter: &Charter, pinned: &Arc<Generation>) -> bool {
-    is_sent(&store.writer) && is_sent(&store.one) && is_sent(told) && is_sent(charter) && is_sent(pinned)
+// A writer and a reader in threads of their own, and then what the reader pins.
+fn beside<R: Threads + Wait + Sync>(
+    rt: &R,
+    writer: &mut ShardWriter,
+    reader: &mut ShardReader,
+) -> (u64, bool, Option<u64>) {
+    let (number, rise) = thread::join(rt, || commit_all(rt, writer), || pins_rise(reader));
+    (number, rise, number_of(reader.pin()))
+}
+
+#[test]
+fn ends_run_in_threads(rt: HostRuntime) -> Result<(), Fail> {
+    let Opened {
+        mut writer,
+        mut one,
+        other: _,
+    } = open(&rt, rt.alloc(), &BATCHES)?;
+    let seen = beside(&rt, &mut writer, &mut one);
+    drop(writer.finish(&rt));
+    assert_eq!(rt; seen, (3, true, Some(3)));
+    Ok(())
+}
+
+// What moves from thread to thread.
+fn is_sent<T: Send>(_value: &T) {}
+
+fn all_are_sent(store: &Opened, told: &Told, charter: &Charter, pinned: &Arc<Generation>) {
+    is_sent(&store.writer);
+    is_sent(&store.one);
+    is_sent(told);
+    is_sent(charter);
+    is_sent(pinned);
 }

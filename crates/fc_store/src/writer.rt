@@ -39,7 +39,7 @@ impl Model for ShardWriter {
     ghost invariant = { λ s. (s.charter ≡ (content s.writer.desk.shown.value).0)
         × CanBuild (content s.writer.desk.shown.value)
         × IsLed (content s.writer.desk.shown.value) (view_of s.writer.desk.place)
-            (map arc_value (drop s.writer.behind s.writer.log.items)) };
+        (map arc_value (drop s.writer.behind s.writer.log.items)) };
 }
 
 impl ShardWriter {
@@ -191,7 +191,7 @@ fn publish<R: Wait>(writer: Led, rt: &R) -> (Led, Result<(), WantMemory>)
         ≡ (content writer.desk.shown.value).1.schema }
     ensures number { MatchResult result.1
         (λ _. (content result.0.desk.shown.value).1.number
-            ≡ (content writer.desk.shown.value).1.number + 1)
+        ≡ (content writer.desk.shown.value).1.number + 1)
         (λ _. content result.0.desk.shown.value ≡ content writer.desk.shown.value) }
 {
     let (writer, published) = writer.publish_as::<Publishes, R>(rt);
