@@ -1,12 +1,11 @@
 -- Each step keeps the rule.
-use Rattle.std.proofs.Common.{◌≡◌, ℕ, ◌+◌, ◌≤◌, ◌≢◌, true, List, [], ◌∷◌, ◌++◌, set, refl, sym, subst, ⊎_elim, le_refl, arith}
+use Rattle.std.proofs.Common.{◌≡◌, ℕ, ◌≢◌, List, [], ◌∷◌, ◌++◌, set, refl, sym, subst, ⊎_elim, le_refl, arith}
 use Rattle.std.proofs.lemmas.Bool.{false≢true}
 use mathlib.Core.Option.{some}
 use lib.ListN.{get_elem?}
 use Rattle.left_right.specs.Register.{Admits, TurnsAt, Forks, Merges}
 use Rattle.atomic_table.proofs.Lists.{at_set, at_snoc}
 use Rattle.fc_store.specs.Generated.{Generated}
-use Rattle.fc_store.specs.Charters.{IsChartered}
 use Rattle.fc_store.specs.declared.rule.Shown.{Shown}
 use Rattle.fc_store.specs.declared.rule.Known.{Known}
 use Rattle.fc_store.specs.Rule.{Content, content, IsTrueOf, AllTrueOf, Keeps, KeepsAt, nothing, known, pins, binds, publishes, takes_over, Follows}
