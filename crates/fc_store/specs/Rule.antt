@@ -1,4 +1,4 @@
--- The rule of a store, over what is published and what each end knows.
+-- The rule of a store, over what is published and what each end knows: the published number, the length of the charter and the readers' numbers are the core of a phase for one shard, publishing and pinning its events.
 use Rattle.std.specs.Prelude.{◌≡◌, ℕ, ◌+◌, ◌≤◌, true, false, List, [], ◌∷◌, All}
 use Rattle.std.specs.Arc.{arc_value}
 use mathlib.Core.Option.{some}

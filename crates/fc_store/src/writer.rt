@@ -137,7 +137,8 @@ impl ShardWriter {
     pub fn commit_next<R: Wait>(&mut self, rt: &R) -> Result<u64, WantMemory>
         requires { self.old.number < length self.old.charter }
         ensures { MatchResult result
-            (λ number. (number ≡ self.old.number + 1) × (self.new ≡ record self.old { number = number }))
+            (λ number. (number ≡ self.old.number + 1)
+            × (self.new ≡ record self.old { number = number }))
             (λ _. self.new ≡ self.old) }
     {
         prepare(&mut self.writer, &self.charter, self.alloc)?;
@@ -151,7 +152,7 @@ impl ShardWriter {
     }
 
     /// Ends the store, and answers the generation that was published last. It may wait for a reader that
-    /// is inside its pin. Readers that are left pin nothing any more.
+    /// is inside its pin.
     pub fn finish<R: Wait>(self, rt: &R) -> Arc<Generation>
         ensures schema { (arc_value result).schema ≡ self.schema }
         ensures charted { IsChartered self.charter (arc_value result) }
@@ -168,7 +169,8 @@ impl ShardWriter {
 
 // The first step of a writer, which learns what is published.
 fn bind<R: Wait>(writer: Led, rt: &R) -> (Led, Result<(), WantMemory>)
-    requires charted { IsChartered (content writer.desk.shown.value).0 (content writer.desk.shown.value).1 }
+    requires charted { IsChartered (content writer.desk.shown.value).0
+        (content writer.desk.shown.value).1 }
     requires none { drop writer.behind writer.log.items ≡ [] }
     ensures led { IfOk result.1 (λ _. IsLed (content result.0.desk.shown.value)
         (view_of result.0.desk.place) (map arc_value (drop result.0.behind result.0.log.items))) }
