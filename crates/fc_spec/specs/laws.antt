@@ -9,3 +9,4 @@ pub mod SpellingLaw
 pub mod QuerySpellingLaw
 pub mod QueryReadingLaw
 pub mod RequestLaws
+pub mod ScheduleLaw

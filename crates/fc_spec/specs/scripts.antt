@@ -4,6 +4,7 @@ pub mod Lines
 pub mod Script
 pub mod Phases
 pub mod Outputs
+pub mod PhaseCore
 pub mod ScriptLines
 pub mod ScriptTotals
 pub mod LineReading

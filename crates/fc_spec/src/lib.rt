@@ -20,6 +20,7 @@ ghost use Rattle.fc_spec.specs.laws.RequestLaws.{
   ValidHaveFewRounds,
 };
 ghost use Rattle.fc_spec.specs.laws.RoundsEnd.{NothingLacksBeyond, RoundsAnswer, RoundsAreFew, RoundsComplete, SearchesEnd};
+ghost use Rattle.fc_spec.specs.laws.ScheduleLaw.{PhasesGoOn, PinsAreLegal, RunsAreLegal};
 ghost use Rattle.fc_spec.specs.laws.ShardAlone.{AnswersFromItsBlocks};
 ghost use Rattle.fc_spec.specs.laws.SortingLaw.{PagesAreCuts, RanksAreFronts};
 ghost use Rattle.fc_spec.specs.laws.SpellingLaw.{HasOneSpelling};
@@ -115,4 +116,11 @@ pub fn valid_requests_have_few_rounds()
 /// The messages that answer a valid request nest at most nine deep, the depth that bytes of messages can spell.
 pub fn valid_answers_nest_little()
     ensures { ValidAnswersNestLittle }
+{}
+
+/// Whatever the schedule of commits and pins, what the searches of a session pin is legal.
+pub fn schedules_are_legal()
+    ensures pins { PinsAreLegal }
+    ensures runs { RunsAreLegal }
+    ensures phases { PhasesGoOn }
 {}

@@ -10,3 +10,4 @@ pub mod ShopOutput
 pub mod LongLines
 pub mod LineForms
 pub mod DocumentLimits
+pub mod PhaseSchedules

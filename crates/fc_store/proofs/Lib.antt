@@ -1,0 +1,4 @@
+pub mod OneMoreSegment
+pub mod NextGeneration
+pub mod KeptRule
+pub mod Published

@@ -1,0 +1,121 @@
+// Generations of a shard.
+ghost use Rattle.std.specs.Prelude.{◌≡◌, ◌+◌, ◌<◌, ◌++◌, [], map, All, IfOk};
+ghost use Rattle.std.specs.Arc.{arc_value};
+ghost use Rattle.fc_spec.specs.documents.Schema.{texts_held};
+ghost use Rattle.fc_spec.specs.documents.ValidBlocks.{IsBlockOf};
+ghost use Rattle.fc_docs.specs.View.{batch_view};
+ghost use Rattle.fc_store.specs.Generated.{blocks_of};
+ghost use Rattle.fc_store.specs.Charters.{IsBatchOf};
+ghost use Rattle.fc_store.specs.Segments.{AreSegmentsOf};
+
+use fc_base::{Schema, WantMemory};
+use fc_docs::Batch;
+use fc_segment::Segment;
+use std::alloc::Global;
+use std::marker::Model;
+use std::sync::Arc;
+
+/// The blocks of a shard's first batches, joined, which nothing changes. Its number is that of the
+/// batches. Generations share their segments.
+#[derive(Debug, Drop)]
+pub struct Generation {
+    schema: Arc<Schema>,
+    number: u64,
+    segments: Vec<Arc<Segment>>,
+}
+
+impl Model for Generation {
+    ghost use Rattle.fc_store.specs.Generated.{Generated};
+
+    ghost Value = { Generated };
+
+    ghost use Rattle.fc_store.specs.Built.{generated, IsBuilt};
+
+    ghost view = { generated };
+
+    ghost invariant = { IsBuilt };
+}
+
+impl Generation {
+    /// Generation 0, which has no block.
+    pub fn first(alloc: Global, schema: Arc<Schema>) -> Result<Arc<Generation>, WantMemory>
+        ensures { IfOk result (λ generation. arc_value generation
+            ≡ record { schema = arc_value schema; number = 0; blocks = [] }) }
+    {
+        let segments = Vec::new(alloc);
+        let first = Generation {
+            schema,
+            number: 0,
+            segments,
+        };
+        Ok(Arc::new(alloc, first)?)
+    }
+
+    /// The generation after an earlier one: its blocks, and then those of a batch, perhaps none.
+    pub fn next(
+        alloc: Global,
+        earlier: &Generation,
+        batch: &Batch,
+    ) -> Result<Arc<Generation>, WantMemory>
+        requires number { earlier.now.number < 4096 }
+        requires batch { IsBatchOf earlier.now.schema (batch_view batch.now) }
+        ensures { IfOk result (λ generation. arc_value generation
+            ≡ record earlier.now {
+              number = earlier.now.number + 1;
+              blocks = earlier.now.blocks ++ batch_view batch.now;
+            }) }
+    {
+        let next = Generation {
+            schema: Arc::try_clone(&earlier.schema)?,
+            number: earlier.number + 1,
+            segments: segments_with(alloc, earlier, batch)?,
+        };
+        Ok(Arc::new(alloc, next)?)
+    }
+
+    /// How many commits of the shard it holds.
+    pub fn number(&self) -> u64
+        ensures { result ≡ self.now.number }
+    {
+        self.number
+    }
+
+    /// The segments that hold its blocks, in order.
+    pub fn segments(&self) -> &[Arc<Segment>]
+        ensures blocks { blocks_of (map arc_value result.now) ≡ self.now.blocks }
+        ensures kinds { All (λ segment. segment.texts ≡ texts_held self.now.schema.fields)
+            (map arc_value result.now) }
+        ensures valid { All (IsBlockOf self.now.schema) self.now.blocks }
+    {
+        &self.segments
+    }
+}
+
+// The segments of a generation, shared, and one that holds the blocks of a batch.
+fn segments_with(
+    alloc: Global,
+    earlier: &Generation,
+    batch: &Batch,
+) -> Result<Vec<Arc<Segment>>, WantMemory>
+    requires { IsBatchOf earlier.now.schema (batch_view batch.now) }
+    ensures blocks { IfOk result (λ segments. blocks_of (map arc_value segments.items)
+        ≡ earlier.now.blocks ++ batch_view batch.now) }
+    ensures kept { IfOk result (λ segments.
+        AreSegmentsOf earlier.now.schema (map arc_value segments.items)) }
+{
+    let segment = Segment::build(alloc, &earlier.schema, batch)?;
+    let mut segments = shared(alloc, earlier.segments())?;
+    segments.push(Arc::new(alloc, segment)?)?;
+    Ok(segments)
+}
+
+// Shares segments, with room for one more.
+fn shared(alloc: Global, segments: &[Arc<Segment>]) -> Result<Vec<Arc<Segment>>, WantMemory>
+    ensures { IfOk result (λ shared. map arc_value shared.items ≡ map arc_value segments.now) }
+{
+    let mut shared = Vec::with_capacity(alloc, segments.len() + 1)?;
+    for segment in segments {
+        shared.push(Arc::try_clone(segment)?)?;
+    }
+    Ok(shared)
+}

@@ -1,0 +1,17 @@
+//! The store of a shard: generations, published by one writer to readers that wait for nobody.
+#![tactic(auto)]
+
+mod charter;
+mod generation;
+mod reader;
+mod rule;
+mod store;
+#[cfg(test)]
+mod tests;
+mod writer;
+
+pub use charter::Charter;
+pub use generation::Generation;
+pub use reader::{ShardReader, Told};
+pub use store::open_shard;
+pub use writer::ShardWriter;

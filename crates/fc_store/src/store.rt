@@ -1,0 +1,67 @@
+// Opening a store.
+ghost use Rattle.std.specs.Prelude.{◌≡◌, ◌≤◌, All, IfOk, length};
+ghost use Rattle.std.specs.Arc.{arc_value};
+ghost use Rattle.fc_store.specs.Charters.{IsBatchOf, IsChartered};
+
+use crate::{Charter, Generation, ShardReader, ShardWriter};
+use fc_base::WantMemory;
+use std::alloc::Global;
+use std::sync::{Arc, Wait};
+
+/// A store that has published `start`, for the charter's generations behind it: its writer, and from 1
+/// to 16 readers.
+pub fn open_shard<R: Wait>(
+    rt: &R,
+    alloc: Global,
+    start: Arc<Generation>,
+    charter: Charter,
+    readers: u32,
+) -> Result<(ShardWriter, Vec<ShardReader>), WantMemory>
+    requires readers { (1 ≤ readers) × (readers ≤ 16) }
+    requires start { IsChartered charter (arc_value start) }
+    requires batches { All (IsBatchOf (arc_value start).schema) charter }
+    ensures writer { IfOk result (λ store. store.0 ≡ record {
+      schema = (arc_value start).schema;
+      charter = charter;
+      number = (arc_value start).number;
+    }) }
+    ensures count { IfOk result (λ store. length store.1.items ≡ readers) }
+    ensures readers { IfOk result (λ store. All (λ reader. reader ≡ record {
+      schema = (arc_value start).schema;
+      charter = charter;
+      least = (arc_value start).number;
+    }) store.1.items) }
+{
+    // a place for each reader, and one for a note to each
+    let places = 2 * readers as usize;
+    let mut writer = ShardWriter::open(rt, alloc, start, charter, places)?;
+    match make_readers(&mut writer, alloc, readers) {
+        Ok(made) => Ok((writer, made)),
+        Err(want) => {
+            drop(writer.finish(rt));
+            Err(want)
+        }
+    }
+}
+
+// So many readers of what the writer publishes.
+fn make_readers(
+    writer: &mut ShardWriter,
+    alloc: Global,
+    readers: u32,
+) -> Result<Vec<ShardReader>, WantMemory>
+    ensures same { writer.new ≡ writer.old }
+    ensures count { IfOk result (λ made. length made.items ≡ readers) }
+    ensures know { IfOk result (λ made. All (λ reader. reader ≡ record {
+      schema = writer.old.schema;
+      charter = writer.old.charter;
+      least = writer.old.number;
+    }) made.items) }
+{
+    let mut made: Vec<ShardReader> = Vec::new(alloc);
+    for _ in 0..readers {
+        let reader = writer.reader()?;
+        made.push(reader)?;
+    }
+    Ok(made)
+}
