@@ -18,36 +18,3 @@ pub fn long_of(text: &str) -> Option<i64>
     }
     text.parse().ok()
 }
-
-#[cfg(test)]
-mod tests {
-    use super::*;
-
-    #[test]
-    fn texts_spell_integers(rt: HostRuntime) {
-        for (text, integer) in [
-            ("0", Some(0)),
-            ("-0", Some(0)),
-            ("007", Some(7)),
-            ("-12", Some(-12)),
-            ("9223372036854775807", Some(i64::MAX)),
-            ("-9223372036854775808", Some(i64::MIN)),
-            ("9223372036854775808", None),
-            ("-9223372036854775809", None),
-            ("00000000000000000000005", Some(5)),
-            ("", None),
-            ("-", None),
-            ("+5", None),
-            ("--5", None),
-            ("-+5", None),
-            (" 5", None),
-            ("5 ", None),
-            ("1.0", None),
-            ("1e3", None),
-            ("0x1", None),
-            ("\u{661}", None),
-        ] {
-            assert_eq!(rt; long_of(text), integer, "at {text}");
-        }
-    }
-}

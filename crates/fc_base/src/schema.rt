@@ -8,8 +8,6 @@ ghost use Rattle.fc_base.specs.View.{field_type_view};
 ghost use Rattle.fc_base.specs.ValidSchema.{IsValidSchema};
 
 mod read;
-#[cfg(test)]
-mod tests;
 
 use crate::field::Field;
 use crate::{FieldId, FieldType, Refusal};

@@ -1,3 +1,7 @@
-// What no clause says: whole runs and scripts beside their answers, with memory enough.
+// What no clause says: values beside those written by hand, and whole runs and scripts beside their
+// answers, with memory enough.
+mod columns;
+mod queries;
 mod runs;
 mod scripts;
+mod values;

@@ -6,8 +6,6 @@ mod builder;
 mod long;
 mod numbers;
 mod rows;
-#[cfg(test)]
-mod tests;
 mod text;
 
 pub use builder::TextBuilder;

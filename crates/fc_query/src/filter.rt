@@ -9,9 +9,6 @@ ghost use Rattle.fc_base.specs.Answers.{Answers};
 ghost use Rattle.fc_query.specs.FilterView.{filter_fault_view, filter_view, Tagged};
 ghost use Rattle.fc_query.specs.QueryView.{query_view};
 
-#[cfg(test)]
-mod tests;
-
 use crate::{FilterFault, Query, QueryFault, parse};
 use fc_base::json::sole_member;
 use fc_base::{Name, Refusal, Schema, WantMemory};

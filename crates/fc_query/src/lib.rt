@@ -10,8 +10,6 @@ mod filter;
 mod lex;
 mod meaning;
 mod query;
-#[cfg(test)]
-mod telling;
 mod text;
 mod tokens;
 mod trees;

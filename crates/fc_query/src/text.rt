@@ -9,9 +9,6 @@ ghost use Rattle.fc_query.specs.QueryView.{query_fault_view, query_view};
 ghost use Rattle.fc_query.specs.Takes.{Gives};
 ghost use Rattle.fc_query.specs.TreeView.{group_view, row_of};
 
-#[cfg(test)]
-mod tests;
-
 use crate::descent::group;
 use crate::faults::{has_unknown, mixes};
 use crate::lex::tokens;

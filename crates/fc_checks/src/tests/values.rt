@@ -1,7 +1,63 @@
-use super::*;
+// Integers as texts, values and their order, and schemas.
+use fc_base::{FieldType, Name, Refusal, Schema, Val, long_of};
 use serde_json::Value;
 use std::alloc::Global;
+use std::fmt::Write;
 use std::test::Fail;
+
+// Texts with the integers that they spell.
+const INTEGERS: [(&str, Option<i64>); 20] = [
+    ("0", Some(0)),
+    ("-0", Some(0)),
+    ("007", Some(7)),
+    ("-12", Some(-12)),
+    ("9223372036854775807", Some(i64::MAX)),
+    ("-9223372036854775808", Some(i64::MIN)),
+    ("9223372036854775808", None),
+    ("-9223372036854775809", None),
+    ("00000000000000000000005", Some(5)),
+    ("", None),
+    ("-", None),
+    ("+5", None),
+    ("--5", None),
+    ("-+5", None),
+    (" 5", None),
+    ("5 ", None),
+    ("1.0", None),
+    ("1e3", None),
+    ("0x1", None),
+    ("\u{661}", None),
+];
+
+#[test]
+fn texts_spell_integers(rt: HostRuntime) {
+    for (text, integer) in INTEGERS {
+        assert_eq!(rt; long_of(text), integer, "at {text}");
+    }
+}
+
+#[test]
+fn copies_are_equal_and_integers_stand_before_texts(rt: HostRuntime) -> Result<(), Fail> {
+    let alloc = rt.alloc();
+    let ascending = [
+        Val::Long(-1),
+        Val::Long(10),
+        Val::Text(Name::new(alloc, "")?),
+        Val::Text(Name::new(alloc, "10")?),
+        Val::Text(Name::new(alloc, "9")?),
+        Val::Text(Name::new(alloc, "\u{e9}")?.copy(alloc)?),
+    ];
+    for (i, low) in ascending.iter().enumerate() {
+        for (j, high) in ascending.iter().enumerate() {
+            assert_eq!(rt; low.before(high), i < j, "at {i} and {j}");
+            assert_eq!(rt; low.copy(alloc)? == *high, i == j, "at {i} and {j}");
+        }
+    }
+    let name = Name::new(alloc, "a")?;
+    assert_eq!(rt; name.text(), "a");
+    assert_eq!(rt; name.bytes(), b"a".as_slice());
+    Ok(())
+}
 
 // Schemas with their number of shards, and the names and types of their fields in their order.
 const SCHEMAS: [(&str, u32, &[(&str, FieldType)]); 3] = [

@@ -3,8 +3,8 @@ ghost use Rattle.std.specs.Prelude.{◌<ℤ◌, IfOk};
 ghost use Rattle.fc_spec.specs.documents.Columns.{IsText};
 ghost use Rattle.fc_base.specs.View.{val_view};
 
-use super::*;
 use fc_base::{Name, Val, WantMemory};
+use fc_column::{LongBuilder, TextBuilder, TextColumn};
 use std::alloc::Global;
 use std::test::Fail;
 
