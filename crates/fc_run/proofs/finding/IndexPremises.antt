@@ -68,7 +68,7 @@ committed_few s shard index =
 facet_fits : (s : Schema) (ns : Nodes) → AreValidNodes s true ns → IfSome (asked_facet ns) (λ f. f.1 < length (texts_held s.fields))
 facet_fits s no_nodes valid = tt
 facet_fits s (statistic name st rest) valid = tt
-facet_fits s (facet f inner rest) valid = go f.kind valid.1
+facet_fits s (facet f inner rest) valid = go f.kind (valid.0).kind
   where
     go : (kind : Kind) → IsValidKind s inner kind → IfSome (facet_named f.name kind) (λ f. f.1 < length (texts_held s.fields))
     go (terms t) is = omega (arith, length-map s.fields (λ f. holds_texts f.kind), is.field)
