@@ -7,7 +7,7 @@ use fc_base::{Name, Stat, WantMemory};
 use fc_facet::{Domain, Kind};
 use std::alloc::Global;
 
-/// A facet with the nodes nested in it, or a statistic, which has none and changes no domain.
+/// A facet with the nodes nested in it, or a statistic, of which only the name and the kind are looked at.
 #[derive(Debug, Drop)]
 pub struct Node {
     pub name: Name,

@@ -51,16 +51,19 @@ impl ShardReader {
     }
 
     /// Takes in a note of a writer of the same charter: what it pins from now on is no lower.
-    pub fn learn(&mut self, told: Told)
+    pub fn learn(&mut self, told: Told) -> Result<(), WantMemory>
         requires schema { told.schema ≡ self.old.schema }
         requires charter { told.charter ≡ self.old.charter }
-        ensures { self.new ≡ record self.old { least = max self.old.least told.number } }
+        ensures { MatchResult result
+            (λ _. self.new ≡ record self.old { least = max self.old.least told.number })
+            (λ _. self.new ≡ self.old) }
     {
         if told.number > self.least {
             let Told { reader, number } = told;
             self.reader = reader;
             self.least = number;
         }
+        Ok(())
     }
 
     /// The generation that is published now. It waits for nobody. After want of memory the reader may

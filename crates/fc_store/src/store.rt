@@ -38,7 +38,7 @@ pub fn open_shard<R: Wait>(
     match make_readers(&mut writer, alloc, readers) {
         Ok(made) => Ok((writer, made)),
         Err(want) => {
-            drop(writer.finish(rt));
+            let _ = writer.finish(rt);
             Err(want)
         }
     }

@@ -81,7 +81,7 @@ fn open(rt: &(impl Abort + Wait), alloc: Global, batches: &[&[&str]]) -> Result<
     match (readers.pop(), readers.pop()) {
         (Some(other), Some(one)) => Ok(Opened { writer, one, other }),
         _ => {
-            drop(writer.finish(rt));
+            let _ = writer.finish(rt);
             Err(WantMemory.into())
         }
     }
@@ -128,7 +128,7 @@ impl Opened {
             Step::PinOther => number_of(self.other.pin()),
             Step::TellOther => {
                 let told = self.writer.tell().ok()?;
-                self.other.learn(told);
+                self.other.learn(told).ok()?;
                 Some(1)
             }
         }
@@ -155,7 +155,7 @@ fn readers_see_what_is_published(rt: HostRuntime) -> Result<(), Fail> {
         mut one,
         other: _,
     } = store;
-    let last = writer.finish(&rt);
+    let last = writer.finish(&rt)?;
     assert_eq!(rt; last.number(), 3);
     assert_eq!(rt; documents(&last), 3);
     assert!(rt; one.pin().is_err());
@@ -189,7 +189,7 @@ fn ends_of(rt: &(impl Abort + Wait), alloc: Global, count: usize) -> Result<[Opt
     commit_all(rt, &mut writer);
     let behind = number_of(one.pin());
     drop(one);
-    let last = writer.finish(rt).number();
+    let last = writer.finish(rt)?.number();
     Ok([first, behind, Some(last), number_of(held)])
 }
 
@@ -233,7 +233,7 @@ fn ends_run_in_threads(rt: HostRuntime) -> Result<(), Fail> {
         other: _,
     } = open(&rt, rt.alloc(), &BATCHES)?;
     let seen = beside(&rt, &mut writer, &mut one);
-    drop(writer.finish(&rt));
+    let _ = writer.finish(&rt);
     assert_eq!(rt; seen, (3, true, Some(3)));
     Ok(())
 }

@@ -153,17 +153,17 @@ impl ShardWriter {
 
     /// Ends the store, and answers the generation that was published last. It may wait for a reader that
     /// is inside its pin.
-    pub fn finish<R: Wait>(self, rt: &R) -> Arc<Generation>
-        ensures schema { (arc_value result).schema ≡ self.schema }
-        ensures charted { IsChartered self.charter (arc_value result) }
-        ensures number { (arc_value result).number ≡ self.number }
+    pub fn finish<R: Wait>(self, rt: &R) -> Result<Arc<Generation>, WantMemory>
+        ensures schema { IfOk result (λ last. (arc_value last).schema ≡ self.schema) }
+        ensures charted { IfOk result (λ last. IsChartered self.charter (arc_value last)) }
+        ensures number { IfOk result (λ last. (arc_value last).number ≡ self.number) }
     {
         let ShardWriter {
             writer,
             charter: _charter,
             alloc: _,
         } = self;
-        Box::into_inner(writer.take(rt)).generation
+        Ok(Box::into_inner(writer.take(rt)).generation)
     }
 }
 
