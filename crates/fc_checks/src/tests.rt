@@ -1,3 +1,4 @@
-// What no clause says: whole runs and scripts beside their answers, with memory enough.
+// What no clause says: whole runs, scripts and requests beside their answers, with memory enough.
+mod requests;
 mod runs;
 mod scripts;
