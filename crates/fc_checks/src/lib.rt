@@ -1,4 +1,4 @@
-//! Tests that cross crates, and those of the crates that are dear to prove twice.
+//! Tests that cross crates: whole runs and scripts.
 #![tactic(auto)]
 
 #[cfg(test)]

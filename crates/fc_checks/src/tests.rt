@@ -1,7 +1,3 @@
-// What no clause says: values beside those written by hand, and whole runs and scripts beside their
-// answers, with memory enough.
-mod columns;
-mod queries;
+// What no clause says: whole runs and scripts beside their answers, with memory enough.
 mod runs;
 mod scripts;
-mod values;

@@ -1,0 +1,6 @@
+//! Tests of the parts below scripts: values, columns, queries and requests. They stand here so that the crates themselves
+//! are proved once.
+#![tactic(auto)]
+
+#[cfg(test)]
+mod tests;
