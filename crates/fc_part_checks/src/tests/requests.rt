@@ -664,9 +664,10 @@ fn names_of_faults(rt: HostRuntime) -> Result<(), Fail> {
         let mut at = Vec::new(alloc);
         at.push(Name::new(alloc, "a")?)?;
         let around = RequestFault { at, fault };
-        let shown = format!(in alloc; "{fault} {around}")?;
-        let wanted = format!(in alloc; "{name} {name}")?;
-        assert!(rt; shown.as_str() == wanted.as_str(), "{shown}");
+        let shown = format!(in alloc; "{fault}")?;
+        assert!(rt; shown.as_str() == name, "{shown}");
+        let shown = format!(in alloc; "{around}")?;
+        assert!(rt; shown.as_str() == name, "{shown}");
     }
     Ok(())
 }
