@@ -1,0 +1,10 @@
+//! The statistics of buckets, tallies of them by key, and the messages in which shards tell of their buckets.
+#![tactic(auto)]
+
+mod bucket;
+mod key;
+mod statistics;
+
+pub use bucket::{Message, PartialBucket, PartialNode};
+pub use key::Key;
+pub use statistics::{StatValue, Stats};
