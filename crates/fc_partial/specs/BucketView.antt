@@ -46,3 +46,8 @@ rows_view ns = linked_rows (map node_view ns)
 
 abbrev pub message_view : Message → Partials
 message_view m = buckets_view m.buckets.items
+
+-- a bucket for each key with its statistics, in order, with nothing nested
+abbrev pub bare : List (definition.Key × statistics.Stats) → Partials
+bare [] = no_partials
+bare (e ∷ es) = partial e.0 e.1 no_rows (bare es)

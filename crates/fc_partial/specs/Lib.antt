@@ -4,3 +4,6 @@ pub mod BucketView
 pub mod KeyLaws
 pub mod Numbers
 pub mod Adding
+pub mod Tallied
+pub mod Tallying
+pub mod TallyView

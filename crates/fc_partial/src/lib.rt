@@ -4,7 +4,9 @@
 mod bucket;
 mod key;
 mod statistics;
+mod tally;
 
 pub use bucket::{Message, PartialBucket, PartialNode};
 pub use key::Key;
 pub use statistics::{StatValue, Stats};
+pub use tally::Tally;
