@@ -1,12 +1,12 @@
 -- The entries of a tally, as the code's map has them and as the definitions see them.
-use Rattle.std.proofs.Common.{◌≡◌, List, [], map, Bor, Option, Some, None, false, is_some, refl, sym, ◌∙◌, ap, subst, arith}
+use Rattle.std.proofs.Common.{◌≡◌, List, [], map, Bor, Option, Some, None, false, cond, is_some, refl, sym, ◌∙◌, ap, subst, arith}
 use Rattle.std.specs.Prelude.{All}
 use Rattle.std.specs.BTreeMap.{BTreeMap, insert_entry, is_at, IsOrdered}
-use Rattle.std.specs.Cmp.{IsTotalOrder}
+use Rattle.std.specs.Cmp.{tied_itself}
 use Rattle.std.specs.List.Sorted.{IsStrictlySortedBy}
 use Rattle.std.specs.Map.{lookup, keys_of, values_of, set_value}
 use Rattle.std.specs.Option.{option_map, option_copied}
-use Rattle.std.specs.Ordering.{on}
+use Rattle.std.specs.Ordering.{on, is_eq}
 use Rattle.std.specs.declared.cmp.Ordering.{Ordering}
 use Rattle.std.proofs.lemmas.Map.Views.{All-values-insert_entry, IfSome-lookup_from_All}
 use Rattle.fc_spec.specs.requests.Request as definition
@@ -17,13 +17,13 @@ use Rattle.fc_partial.specs.declared.key.Key.{Key}
 use Rattle.fc_partial.specs.declared.statistics.Stats.{Stats}
 use Rattle.fc_partial.specs.View.{key_view}
 use Rattle.fc_partial.specs.StatsView.{stats_view}
-use Rattle.fc_partial.specs.KeyLaws.{keys_total}
+use Rattle.fc_partial.specs.KeyLaws.{key_cmp_total, keys_total}
 use Rattle.fc_partial.specs.Adding.{HasShape}
-use Rattle.fc_partial.specs.Tallied.{Entry}
-use Rattle.fc_partial.specs.Tallying.{entry_at, with_more, with_added, IsTally}
+use Rattle.fc_partial.specs.Tallied.{Entry, Tallied}
+use Rattle.fc_partial.specs.Tallying.{entry_at, with_more, with_added, added, AddsTo, IsTally}
 use Rattle.fc_partial.specs.TallyView.{entry_view}
 use Rattle.fc_partial.proofs.CombinedShape.{with_more_shape}
-use Rattle.fc_partial.proofs.ViewedEntries.{lookup-seen, keys_of-seen, insert_entry-seen, sorted_seen, insert_entry-there}
+use Rattle.fc_partial.proofs.ViewedEntries.{lookup-seen, keys_of-seen, insert_entry-seen, sorted_seen, insert_entry-there, lookup-insert_entry}
 
 -- the order of keys, as the map has it
 abbrev pub code_cmp : Key → Key → Ordering
@@ -80,3 +80,15 @@ grown ss es more_entries k more is ascend tally shaped = record {
 pub none_from_test : {X : Type 0} (o : Option X) → false ≡ is_some o → o ≡ None
 none_from_test None h = refl
 none_from_test (Some x) h = cc
+
+pub adds_to : (old : Tallied) (k : buckets.Key) (more : statistics.Stats) → AddsTo old (added old k more) k more
+adds_to old k more =
+    let at : (q : buckets.Key) → entry_at (with_added old.stats old.entries k more) q ≡ cond (same_key q k) (Some (with_more old.stats (entry_at old.entries k) more)) (entry_at old.entries q) =
+        lookup-insert_entry key_cmp_total old.entries k (with_more old.stats (entry_at old.entries k) more) in
+    record {
+      there = at k ∙ ap (λ o. cond (is_eq o) (Some (with_more old.stats (entry_at old.entries k) more)) (entry_at old.entries k)) (tied_itself key_cmp_total k);
+      others = λ q h. at q ∙ ap (λ b. cond b (Some (with_more old.stats (entry_at old.entries k) more)) (entry_at old.entries q)) h;
+    }
+
+pub adds_when : (old new : Tallied) (k : buckets.Key) (more : statistics.Stats) → new ≡ added old k more → AddsTo old new k more
+adds_when old new k more is = subst (λ (t : Tallied). AddsTo old t k more) (sym is) (adds_to old k more)

@@ -1,7 +1,8 @@
 -- Statistics that can be combined.
-use Rattle.std.specs.Prelude.{◌+◌, ◌^◌, ◌<◌, List, IsTrue}
+use Rattle.std.specs.Prelude.{◌≡◌, ◌++◌, ◌+◌, ◌^◌, ◌<◌, List, IsTrue}
 use Rattle.fc_spec.specs.requests.Request.{Stat}
-use Rattle.fc_spec.specs.requests.Statistics.{Stats}
+use Rattle.fc_spec.specs.requests.Statistics.{Stats, stats_over}
+use Rattle.fc_spec.specs.documents.World.{Place}
 use Rattle.fc_spec.specs.messages.MessageShape.{values_fit}
 use Rattle.fc_partial.specs.Numbers.{NumbersAddUp}
 
@@ -13,3 +14,7 @@ HasShape ss s = IsTrue (values_fit ss s.values)
 pub record AddUp (a b : Stats) : Type 0 where
   pub count : a.count + b.count < 2 ^ 64
   pub numbers : NumbersAddUp a.values b.values
+
+-- those of two lists of places, combined, are those of the places of both
+abbrev pub IsOfBoth : List Stat → Stats → Stats → Stats → Type 0
+IsOfBoth ss a b both = (X Y : List Place) → a ≡ stats_over ss X → b ≡ stats_over ss Y → both ≡ stats_over ss (X ++ Y)

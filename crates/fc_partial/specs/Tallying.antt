@@ -1,5 +1,5 @@
 -- How a tally grows.
-use Rattle.std.specs.Prelude.{List, All, Option, Some, None}
+use Rattle.std.specs.Prelude.{◌≡◌, false, List, All, Option, Some, None}
 use Rattle.std.specs.Map.{lookup, keys_of, values_of}
 use Rattle.std.specs.BTreeMap.{insert_entry}
 use Rattle.std.specs.List.Sorted.{IsStrictlySortedBy}
@@ -26,6 +26,11 @@ with_added ss es k more = insert_entry key_cmp es k (with_more ss (entry_at es k
 
 abbrev pub added : Tallied → Key → Stats → Tallied
 added t k more = record { stats = t.stats; entries = with_added t.stats t.entries k more }
+
+-- the same in terms of single keys
+pub record AddsTo (old new : Tallied) (k : Key) (more : Stats) : Type 0 where
+  pub there : entry_at new.entries k ≡ Some (with_more old.stats (entry_at old.entries k) more)
+  pub others : (q : Key) → same_key q k ≡ false → entry_at new.entries q ≡ entry_at old.entries q
 
 -- keys ascend, so that each stands once, and each has a value for each of the statistics
 pub record IsTally (t : Tallied) : Type 0 where

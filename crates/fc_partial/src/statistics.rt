@@ -99,7 +99,7 @@ pub struct Stats {
 
 impl Stats {
     ghost use Rattle.fc_partial.specs.StatsView.{stats_view};
-    ghost use Rattle.fc_partial.specs.Adding.{HasShape, AddUp};
+    ghost use Rattle.fc_partial.specs.Adding.{HasShape, AddUp, IsOfBoth};
 
     /// Those of no document.
     pub fn neutral(alloc: Global, stats: &[Stat]) -> Result<Stats, WantMemory>
@@ -128,8 +128,9 @@ impl Stats {
         requires shaped { HasShape (map stat_view stats.now) (stats_view self.old) }
         requires other_shaped { HasShape (map stat_view stats.now) (stats_view other.now) }
         requires fits { AddUp (stats_view self.old) (stats_view other.now) }
-        ensures { stats_view self.new
+        ensures combined { stats_view self.new
             ≡ combined (map stat_view stats.now) (stats_view self.old) (stats_view other.now) }
+        ensures of_both { IsOfBoth (map stat_view stats.now) (stats_view self.old) (stats_view other.now) (stats_view self.new) }
     {
         self.count += other.count;
         combine_values(stats, &mut self.values, &other.values);

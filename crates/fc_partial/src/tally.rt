@@ -10,7 +10,7 @@ ghost use Rattle.fc_partial.specs.View.{key_view};
 ghost use Rattle.fc_partial.specs.StatsView.{stats_view};
 ghost use Rattle.fc_partial.specs.BucketView.{buckets_view, bare};
 ghost use Rattle.fc_partial.specs.Adding.{HasShape, AddUp};
-ghost use Rattle.fc_partial.specs.Tallying.{IsTally, entry_at, added, with_added};
+ghost use Rattle.fc_partial.specs.Tallying.{AddsTo, IsTally, entry_at, added, with_added};
 ghost use Rattle.fc_partial.specs.TallyView.{entries_view};
 
 use crate::{Key, PartialBucket, Stats};
@@ -57,6 +57,7 @@ impl Tally {
         requires fits { ForSome (entry_at self.old.entries (key_view key))
             (λ there. AddUp there (stats_view stats.now)) }
         ensures ok { OnOk result (self.new ≡ added self.old (key_view key) (stats_view stats.now)) }
+        ensures keys { OnOk result (AddsTo self.old self.new (key_view key) (stats_view stats.now)) }
         ensures err { OnErr result (self.new ≡ self.old) }
     {
         if combine_at(&mut self.entries, &self.stats, &key, stats) {

@@ -30,7 +30,7 @@ pub returns-in-Some-clause-added : goal.returns-in-Some-clause-added
 returns-in-Some-clause-added c =
     let w = c.combine.new.self in
     ap (map entry_view) (c.get_mut.follows.holds w).0
-    ∙ added_there (map stat_view c.args.statistics.now) c.args.entries.now.entries c.args.key.now c.in-Some.there.now w (stats_view c.args.stats.now) c.get_mut.ensures.ordered (sym c.in-Some.ensures.value) c.combine.ensures
+    ∙ added_there (map stat_view c.args.statistics.now) c.args.entries.now.entries c.args.key.now c.in-Some.there.now w (stats_view c.args.stats.now) c.get_mut.ensures.ordered (sym c.in-Some.ensures.value) c.combine.ensures.combined
 
 pub returns-in-Some-clause-ascend : goal.returns-in-Some-clause-ascend
 returns-in-Some-clause-ascend c =

@@ -8,7 +8,7 @@ use Rattle.fc_partial.specs.Adding.{HasShape}
 use Rattle.fc_partial.specs.Tallied.{Entry, Tallied}
 use Rattle.fc_partial.specs.Tallying.{with_added}
 use Rattle.fc_partial.specs.TallyView.{entry_view, entries_view}
-use Rattle.fc_partial.proofs.TallyEntries.{code_cmp, keys_ascend, added_new, grown, none_from_test}
+use Rattle.fc_partial.proofs.TallyEntries.{code_cmp, keys_ascend, added_new, grown, none_from_test, adds_when}
 use Rattle.fc_partial.proofs.tally.Tally.add.Goals as goal
 
 pub combine_at-requires-clause-fits : goal.combine_at-requires-clause-fits
@@ -43,3 +43,16 @@ returns-clause-ok c =
         ap (map entry_view) inserted ∙ added_new ss es c.args.key c.in_ok-copy.copy more c.in_ok-copy.ensures (none_from_test _ c.if-combine_at.ensures.there) in
     let with_entries : List Entry → Tallied = λ l. record { stats = ss; entries = l } in
     rw (← c.self.view_is) (ap with_entries is)
+
+pub returns-clause-keys : goal.returns-clause-keys
+returns-clause-keys c = adds_when c.args.self.now _ (key_view c.args.key) (stats_view c.args.stats.now) (returns-clause-ok c)
+
+pub returns-then-combine_at-clause-ok : goal.returns-then-combine_at-clause-ok
+returns-then-combine_at-clause-ok c =
+    let ss = map stat_view c.self.inside.stats.items in
+    let is : entries_view c.combine_at.new.entries ≡ with_added ss (entries_view c.self.inside.entries) (key_view c.args.key) (stats_view c.args.stats.now) = rw c.deref.ensures.value at c.if-combine_at.ensures.added in
+    let with_entries : List Entry → Tallied = λ l. record { stats = ss; entries = l } in
+    rw (← c.self.view_is) (ap with_entries is)
+
+pub returns-then-combine_at-clause-keys : goal.returns-then-combine_at-clause-keys
+returns-then-combine_at-clause-keys c = adds_when c.args.self.now _ (key_view c.args.key) (stats_view c.args.stats.now) (returns-then-combine_at-clause-ok c)
