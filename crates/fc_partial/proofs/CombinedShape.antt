@@ -1,6 +1,7 @@
 -- What is combined keeps its shape.
 use Rattle.std.proofs.Common.{◌≡◌, ℕ, List, [], ◌∷◌, Bool, true, false, ◌&&◌, Option, Some, None, refl}
 use Rattle.std.specs.Option.{IfSome}
+use Rattle.std.specs.Cmp.{second_so}
 use Rattle.fc_spec.specs.requests.Request.{Stat, StatKind, sum, min, max, countvals, missing}
 use Rattle.fc_spec.specs.requests.Statistics.{StatValue, Stats, combined_value}
 use Rattle.fc_spec.specs.requests.Combining.{combined_values}
@@ -18,10 +19,6 @@ kind_fits missing field a b = refl
 both : (s t : Bool) → s ≡ true → t ≡ true → (s && t) ≡ true
 both true t h k = k
 both false t h k = cc
-
-second_so : (s t : Bool) → (s && t) ≡ true → t ≡ true
-second_so true t h = h
-second_so false t h = cc
 
 values_fit-combined : (ss : List Stat) (as' bs : List StatValue) → values_fit ss as' ≡ true → values_fit ss bs ≡ true → values_fit ss (combined_values ss as' bs) ≡ true
 values_fit-combined [] as' bs h k = refl

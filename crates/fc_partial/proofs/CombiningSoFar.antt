@@ -1,5 +1,6 @@
 -- Values combined one after another, each written where the first stood.
-use Rattle.std.proofs.Common.{◌≡◌, ◌<◌, ◌∙◌, ℕ, zero, suc, List, [], ◌∷◌, Bool, true, false, ◌&&◌, ◌+ℤ◌, FitsSigned, w64, length, get_or, set, refl, sym, ap, subst, arith}
+use Rattle.std.proofs.Common.{◌≡◌, ◌<◌, ℕ, zero, suc, List, [], ◌∷◌, true, ◌+ℤ◌, FitsSigned, w64, length, get_or, set, refl, sym, ap, subst, arith}
+use Rattle.std.specs.Cmp.{second_so}
 use Rattle.fc_spec.specs.requests.Request.{Stat}
 use Rattle.fc_spec.specs.requests.Statistics.{StatValue, amount, combined_value}
 use Rattle.fc_spec.specs.requests.Combining.{combined_values}
@@ -47,10 +48,6 @@ numbers_at i [] bs a b la lb q r h = absurd (omega arith)
 numbers_at i (a' ∷ as') [] a b la lb q r h = absurd (omega arith)
 numbers_at zero (a' ∷ as') (b' ∷ bs) a b la lb q r h = subst (λ x. FitsSigned w64 (amount x +ℤ amount b)) (sym q) (subst (λ x. FitsSigned w64 (amount a' +ℤ amount x)) (sym r) h.0)
 numbers_at (suc i) (a' ∷ as') (b' ∷ bs) a b la lb q r h = numbers_at i as' bs a b (omega arith) (omega arith) q r h
-
-second_so : (s t : Bool) → (s && t) ≡ true → t ≡ true
-second_so true t h = h
-second_so false t h = cc
 
 -- there are as many values as statistics
 pub length_from_shape : (ss : List Stat) (vs : List StatValue) → values_fit ss vs ≡ true → length vs ≡ length ss

@@ -1,7 +1,7 @@
 -- The entries of a tally, as the code's map has them and as the definitions see them.
 use Rattle.std.proofs.Common.{◌≡◌, List, [], map, Bor, Option, Some, None, false, cond, is_some, refl, sym, ◌∙◌, ap, subst, arith}
 use Rattle.std.specs.Prelude.{All}
-use Rattle.std.specs.BTreeMap.{BTreeMap, insert_entry, is_at, IsOrdered}
+use Rattle.std.specs.BTreeMap.{insert_entry, is_at}
 use Rattle.std.specs.Cmp.{tied_itself}
 use Rattle.std.specs.List.Sorted.{IsStrictlySortedBy}
 use Rattle.std.specs.Map.{lookup, keys_of, values_of, set_value}
@@ -84,7 +84,7 @@ none_from_test (Some x) h = cc
 pub adds_to : (old : Tallied) (k : buckets.Key) (more : statistics.Stats) → AddsTo old (added old k more) k more
 adds_to old k more =
     let at : (q : buckets.Key) → entry_at (with_added old.stats old.entries k more) q ≡ cond (same_key q k) (Some (with_more old.stats (entry_at old.entries k) more)) (entry_at old.entries q) =
-        lookup-insert_entry key_cmp_total old.entries k (with_more old.stats (entry_at old.entries k) more) in
+    lookup-insert_entry key_cmp_total old.entries k (with_more old.stats (entry_at old.entries k) more) in
     record {
       there = at k ∙ ap (λ o. cond (is_eq o) (Some (with_more old.stats (entry_at old.entries k) more)) (entry_at old.entries k)) (tied_itself key_cmp_total k);
       others = λ q h. at q ∙ ap (λ b. cond b (Some (with_more old.stats (entry_at old.entries k) more)) (entry_at old.entries q)) h;

@@ -1,5 +1,4 @@
-use Rattle.std.proofs.Common.{◌≡◌, ◌<◌, ◌∙◌, map, length, get_or, set, sym, ap, arith, rules, add-one}
-use Rattle.std.specs.Int.{w64}
+use Rattle.std.proofs.Common.{◌<◌, ◌∙◌, map, length, sym, arith, rules, add-one}
 use lib.IntN.{pos}
 use Rattle.std.proofs.lemmas.List.{length-map, get_or-map, map-set}
 use Rattle.fc_base.specs.StatisticView.{stat_view}

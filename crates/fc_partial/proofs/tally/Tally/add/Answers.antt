@@ -1,6 +1,5 @@
 use Rattle.std.proofs.Common.{◌≡◌, ◌∙◌, List, map, ap}
 use Rattle.std.specs.BTreeMap.{insert_entry}
-use Rattle.fc_spec.specs.requests.Request as definition
 use Rattle.fc_base.specs.StatisticView.{stat_view}
 use Rattle.fc_partial.specs.View.{key_view}
 use Rattle.fc_partial.specs.StatsView.{stats_view}
@@ -30,7 +29,7 @@ invariant_of-self-2 c =
     let shaped : HasShape ss more = rw (← c.self.view_is) at c.requires.shaped in
     let inserted = c.in_ok-insert.ensures.entries ∙ ap (λ l. insert_entry code_cmp l c.args.key c.in_ok-copy.copy) c.if-combine_at.ensures.same in
     let is : entries_view c.insert.new.self ≡ with_added ss (map entry_view es) (key_view c.args.key) more =
-        ap (map entry_view) inserted ∙ added_new ss es c.args.key c.in_ok-copy.copy more c.in_ok-copy.ensures (none_from_test _ c.if-combine_at.ensures.there) in
+    ap (map entry_view) inserted ∙ added_new ss es c.args.key c.in_ok-copy.copy more c.in_ok-copy.ensures (none_from_test _ c.if-combine_at.ensures.there) in
     grown ss (map entry_view es) (entries_view c.insert.new.self) (key_view c.args.key) more is (keys_ascend c.insert.new.self.entries c.in_ok-insert.ensures.ordered) c.self.invariant shaped
 
 pub returns-clause-ok : goal.returns-clause-ok
@@ -40,7 +39,7 @@ returns-clause-ok c =
     let more = stats_view c.args.stats.now in
     let inserted = c.in_ok-insert.ensures.entries ∙ ap (λ l. insert_entry code_cmp l c.args.key c.in_ok-copy.copy) c.if-combine_at.ensures.same in
     let is : entries_view c.insert.new.self ≡ with_added ss (map entry_view es) (key_view c.args.key) more =
-        ap (map entry_view) inserted ∙ added_new ss es c.args.key c.in_ok-copy.copy more c.in_ok-copy.ensures (none_from_test _ c.if-combine_at.ensures.there) in
+    ap (map entry_view) inserted ∙ added_new ss es c.args.key c.in_ok-copy.copy more c.in_ok-copy.ensures (none_from_test _ c.if-combine_at.ensures.there) in
     let with_entries : List Entry → Tallied = λ l. record { stats = ss; entries = l } in
     rw (← c.self.view_is) (ap with_entries is)
 
