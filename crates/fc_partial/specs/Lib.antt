@@ -1,0 +1,9 @@
+pub mod View
+pub mod StatsView
+pub mod BucketView
+pub mod KeyLaws
+pub mod Numbers
+pub mod Adding
+pub mod Tallied
+pub mod Tallying
+pub mod TallyView

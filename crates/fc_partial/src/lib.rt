@@ -1,0 +1,14 @@
+//! The statistics of buckets, tallies of them by key, and the messages in which shards tell of their buckets.
+#![tactic(auto)]
+
+mod bucket;
+mod key;
+mod statistics;
+mod tally;
+#[cfg(test)]
+mod tests;
+
+pub use bucket::{Message, PartialBucket, PartialNode};
+pub use key::Key;
+pub use statistics::{StatValue, Stats};
+pub use tally::Tally;
