@@ -10,8 +10,8 @@ use fc_base::{Val, WantMemory};
 use std::alloc::Global;
 use std::cmp::Ordering;
 
-/// What tells the buckets of a facet apart. Keys stand in the order of this list; values in index order,
-/// gaps by their number.
+/// What tells the buckets of a facet apart. Keys stand in the order of this list; values in index
+/// order, gaps by their number.
 #[derive(Debug, Drop)]
 pub enum Key {
     /// A value of a terms facet.

@@ -1,4 +1,5 @@
-//! The statistics of buckets, tallies of them by key, and the messages in which shards tell of their buckets.
+//! The statistics of buckets, tallies of them by key, and the messages in which shards tell of their
+//! buckets.
 #![tactic(auto)]
 
 mod bucket;

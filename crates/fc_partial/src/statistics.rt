@@ -1,7 +1,8 @@
 // The count and the statistics of a bucket.
 ghost use Rattle.std.specs.Prelude.{◌≡◌, [], map, IfOk, IsTrue, FitsSigned, ◌+ℤ◌};
 ghost use Rattle.std.specs.Int.{w64};
-ghost use Rattle.fc_spec.specs.requests.Statistics.{lesser, greater, shown, amount, combined_value, value_over, stats_over};
+ghost use Rattle.fc_spec.specs.requests.Statistics.{lesser, greater, shown, amount};
+ghost use Rattle.fc_spec.specs.requests.Statistics.{combined_value, value_over, stats_over};
 ghost use Rattle.fc_spec.specs.requests.Combining.{combined, combined_values};
 ghost use Rattle.fc_spec.specs.messages.MessageShape.{values_fit};
 ghost use Rattle.fc_base.specs.StatisticView.{stat_kind_view, stat_view};
@@ -11,7 +12,8 @@ ghost use Rattle.fc_partial.specs.Numbers.{NumbersAddUp};
 use fc_base::{Stat, StatKind, WantMemory};
 use std::alloc::Global;
 
-/// What a statistic is over the documents of a bucket. (Guide: JSON Facet API, "Stat Facet Functions")
+/// What a statistic is over the documents of a bucket.
+/// (Guide: JSON Facet API, "Stat Facet Functions")
 #[derive(Clone, Copy, Debug, PartialEq, Eq)]
 pub enum StatValue {
     /// A sum, or how many values or documents there are.
@@ -53,7 +55,8 @@ impl StatValue {
 
     // What it is over both of two disjoint parts.
     fn combined(self, of: StatKind, other: StatValue) -> StatValue
-        requires { FitsSigned w64 (amount (stat_value_view self) +ℤ amount (stat_value_view other)) }
+        requires { FitsSigned w64
+            (amount (stat_value_view self) +ℤ amount (stat_value_view other)) }
         ensures { stat_value_view result
             ≡ combined_value (stat_kind_view of) (stat_value_view self) (stat_value_view other) }
     {
@@ -103,7 +106,8 @@ impl Stats {
 
     /// Those of no document.
     pub fn neutral(alloc: Global, stats: &[Stat]) -> Result<Stats, WantMemory>
-        ensures { IfOk result (λ neutral. stats_view neutral ≡ stats_over (map stat_view stats.now) []) }
+        ensures { IfOk result (λ neutral. stats_view neutral
+            ≡ stats_over (map stat_view stats.now) []) }
     {
         let mut values = Vec::with_capacity(alloc, stats.len())?;
         for stat in stats {
@@ -122,15 +126,16 @@ impl Stats {
         })
     }
 
-    /// Becomes those of both of two parts that share no document: counts and numbers are added, of least
-    /// and greatest values the lesser or greater stays, where one is there.
+    /// Becomes those of both of two parts that share no document: counts and numbers are added, of
+    /// least and greatest values the lesser or greater stays, where one is there.
     pub fn combine(&mut self, stats: &[Stat], other: &Stats)
         requires shaped { HasShape (map stat_view stats.now) (stats_view self.old) }
         requires other_shaped { HasShape (map stat_view stats.now) (stats_view other.now) }
         requires fits { AddUp (stats_view self.old) (stats_view other.now) }
         ensures combined { stats_view self.new
             ≡ combined (map stat_view stats.now) (stats_view self.old) (stats_view other.now) }
-        ensures of_both { IsOfBoth (map stat_view stats.now) (stats_view self.old) (stats_view other.now) (stats_view self.new) }
+        ensures of_both { IsOfBoth (map stat_view stats.now)
+            (stats_view self.old) (stats_view other.now) (stats_view self.new) }
     {
         self.count += other.count;
         combine_values(stats, &mut self.values, &other.values);
@@ -139,11 +144,14 @@ impl Stats {
 
 // Combines each value with the other of its place.
 fn combine_values(stats: &[Stat], values: &mut [StatValue], others: &[StatValue])
-    requires shaped { IsTrue (values_fit (map stat_view stats.now) (map stat_value_view values.old)) }
-    requires other_shaped { IsTrue (values_fit (map stat_view stats.now) (map stat_value_view others.now)) }
+    requires shaped { IsTrue
+        (values_fit (map stat_view stats.now) (map stat_value_view values.old)) }
+    requires other_shaped { IsTrue
+        (values_fit (map stat_view stats.now) (map stat_value_view others.now)) }
     requires fit { NumbersAddUp (map stat_value_view values.old) (map stat_value_view others.now) }
     ensures { map stat_value_view values.new
-        ≡ combined_values (map stat_view stats.now) (map stat_value_view values.old) (map stat_value_view others.now) }
+        ≡ combined_values (map stat_view stats.now)
+        (map stat_value_view values.old) (map stat_value_view others.now) }
 {
     for (at, stat) in stats.iter().enumerate() {
         values[at] = values[at].combined(stat.of, others[at]);

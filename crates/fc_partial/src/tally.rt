@@ -42,7 +42,8 @@ impl Model for Tally {
 impl Tally {
     /// A tally of these statistics without a key.
     pub fn new(alloc: Global, stats: Vec<Stat>) -> Result<Tally, WantMemory>
-        ensures { IfOk result (λ tally. tally ≡ record { stats = map stat_view stats.items; entries = [] }) }
+        ensures { IfOk result (λ tally. tally
+            ≡ record { stats = map stat_view stats.items; entries = [] }) }
     {
         Ok(Tally {
             alloc,
@@ -57,7 +58,8 @@ impl Tally {
         requires fits { ForSome (entry_at self.old.entries (key_view key))
             (λ there. AddUp there (stats_view stats.now)) }
         ensures ok { OnOk result (self.new ≡ added self.old (key_view key) (stats_view stats.now)) }
-        ensures keys { OnOk result (AddsTo self.old self.new (key_view key) (stats_view stats.now)) }
+        ensures keys { OnOk result
+            (AddsTo self.old self.new (key_view key) (stats_view stats.now)) }
         ensures err { OnErr result (self.new ≡ self.old) }
     {
         if combine_at(&mut self.entries, &self.stats, &key, stats) {
@@ -107,11 +109,13 @@ fn combine_at(
     stats: &Stats,
 ) -> bool
     requires shaped { HasShape (map stat_view statistics.now) (stats_view stats.now) }
-    requires all_shaped { All (HasShape (map stat_view statistics.now)) (values_of (entries_view entries.old)) }
+    requires all_shaped { All (HasShape (map stat_view statistics.now))
+        (values_of (entries_view entries.old)) }
     requires fits { ForSome (entry_at (entries_view entries.old) (key_view key.now))
         (λ there. AddUp there (stats_view stats.now)) }
     ensures there { result ≡ is_some (entry_at (entries_view entries.old) (key_view key.now)) }
-    ensures added { OnTrue result (entries_view entries.new ≡ with_added (map stat_view statistics.now)
+    ensures added { OnTrue result (entries_view entries.new
+        ≡ with_added (map stat_view statistics.now)
         (entries_view entries.old) (key_view key.now) (stats_view stats.now)) }
     ensures same { OnFalse result (entries.new.entries ≡ entries.old.entries) }
     ensures ascend { IsStrictlySortedBy key_cmp (keys_of (entries_view entries.new)) }

@@ -70,7 +70,8 @@ fn keys_of(alloc: Global) -> Result<Vec<Key>, Fail> {
 
 // How many documents a key has.
 fn count_at(tally: &Tally, key: &Key) -> u64
-    ensures { ForSome (entry_at tally.now.entries (key_view key.now)) (λ there. there.count ≡ result) }
+    ensures { ForSome (entry_at tally.now.entries (key_view key.now))
+        (λ there. there.count ≡ result) }
 {
     match tally.get(key) {
         Some(there) => there.count,
