@@ -1,0 +1,4 @@
+pub mod Fitting
+pub mod Limits
+pub mod PlaceView
+pub mod WorldView

@@ -1,0 +1,43 @@
+// The distributed reply.
+ghost use Rattle.std.specs.Prelude.{◌≡◌, IfOk, IsTrue, None};
+ghost use Rattle.fc_spec.specs.documents.World.{single};
+ghost use Rattle.fc_spec.specs.laws.RefinedPaths.{AreFacetsOf, IsBucketOf, val_in};
+ghost use Rattle.fc_spec.specs.replies.Distributed.{distributed};
+ghost use Rattle.fc_spec.specs.replies.Exact.{exact};
+ghost use Rattle.fc_spec.specs.requests.Paths.{at_root};
+ghost use Rattle.fc_spec.specs.requests.Shape.{no_limits, outermost_exclusions};
+ghost use Rattle.fc_request.specs.RequestView.{request_view};
+ghost use Rattle.fc_reading.specs.GoodRanges.{AreCountable};
+ghost use Rattle.fc_reply.specs.ReplyView.{reply_view};
+ghost use Rattle.fc_plain.specs.Limits.{IsWithinLimits};
+ghost use Rattle.fc_plain.specs.WorldView.{world_view};
+
+use fc_base::WantMemory;
+use fc_docs::Block;
+use fc_reply::Reply;
+use fc_request::Request;
+use std::alloc::Global;
+
+/// The distributed reply to a request over a world: for each shard its blocks. Where exclusions stand on
+/// outermost facets alone, as in each request that was read, the buckets on refined paths are exact over all
+/// shards, and without limits the reply is that of a single index with all the blocks.
+pub fn reply(
+    _alloc: Global,
+    request: &Request,
+    world: &[&[Block]],
+) -> Result<Reply, WantMemory>
+    requires ranges { AreCountable (request_view request.now).nodes }
+    requires limits { IsWithinLimits (world_view world.now) }
+    ensures distributed { IfOk result (λ reply. reply_view reply
+        ≡ distributed (request_view request.now) (world_view world.now)) }
+    ensures root { IfOk result (λ reply. val_in (reply_view reply) ≡ None) }
+    ensures refined { IfOk result (λ reply. IsTrue (outermost_exclusions (request_view request.now).nodes)
+        → IsBucketOf (request_view request.now) (world_view world.now) at_root
+        (AreFacetsOf (request_view request.now) (world_view world.now) (request_view request.now).nodes at_root)
+        (reply_view reply)) }
+    ensures single_index { IfOk result (λ reply. IsTrue (outermost_exclusions (request_view request.now).nodes)
+        → IsTrue (no_limits (request_view request.now).nodes)
+        → reply_view reply ≡ exact (request_view request.now) (single (world_view world.now))) }
+{
+    Err(WantMemory)
+}

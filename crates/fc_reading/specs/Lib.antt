@@ -1,0 +1,2 @@
+pub mod FacetNode
+pub mod GoodRanges

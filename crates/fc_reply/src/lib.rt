@@ -1,0 +1,10 @@
+//! Reply trees, which hold what is printed and nothing else, and the lines that are written of them.
+#![tactic(auto)]
+
+mod error;
+mod line;
+mod reply;
+
+pub use error::error_line;
+pub use line::reply_line;
+pub use reply::{Reply, ReplyBody, ReplyBucket, ReplyBuckets, ReplyFacet};
