@@ -6,15 +6,16 @@ ghost use Rattle.fc_request.specs.NodeView.{inner_view};
 ghost use Rattle.fc_reading.specs.GoodRanges.{AreCountable};
 
 use crate::BucketReading;
+use crate::tree::facets;
 use fc_base::WantMemory;
-use fc_reply::Reply;
+use fc_reply::{Reply, ReplyBucket};
 use fc_request::Node;
 use std::alloc::Global;
 
 /// The reply whose root is a bucket that carries these shards, with the nodes that are nested in one: as the
 /// definition has it over this reading.
 pub fn reply_over<R: BucketReading>(
-    _alloc: Global,
+    alloc: Global,
     reading: &R,
     node: &Node,
     shards: &[u32],
@@ -24,5 +25,14 @@ pub fn reply_over<R: BucketReading>(
     ensures { IfOk result (λ reply. reply_view reply ≡ definition.reply_over
         (R.reading reading.now) (inner_view node.now) shards.now (R.held bucket.now)) }
 {
-    Err(WantMemory)
+    let stats = node.stats(alloc)?;
+    let stats = reading.stats_on(alloc, &stats, shards, bucket)?;
+    let facets = facets(alloc, reading, node, shards, bucket, &stats)?;
+    Ok(Reply {
+        root: ReplyBucket {
+            val: None,
+            count: stats.count,
+            facets,
+        },
+    })
 }

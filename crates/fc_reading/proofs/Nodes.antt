@@ -1,0 +1,67 @@
+-- What a node is, kind by kind.
+use Rattle.std.proofs.Common.{◌≡◌, ℕ, suc, ◌+◌, List, [], ◌∷◌, Bool, true, false, cond, Option, None, Some, option_map, refl, ap, sym, ◌∙◌, subst, ◌==◌}
+use Rattle.std.specs.Prelude.{ℤ, slice_get, length, map}
+use Rattle.fc_spec.specs.documents.Val.{Text}
+use Rattle.fc_spec.specs.requests.Request as request
+use Rattle.fc_spec.specs.requests.Request.{Stat, Nodes, no_nodes}
+use Rattle.fc_spec.specs.requests.RequestReading.{of_statistic, of_facet}
+use Rattle.fc_spec.specs.requests.Statistics.{StatValue, Stats, shown}
+use Rattle.fc_spec.specs.replies.Reply.{Facets, with_number, number}
+use Rattle.fc_spec.specs.replies.Printed.{facet_part, statistic_part}
+use Rattle.fc_spec.specs.replies.Reading.{Reading}
+use Rattle.fc_spec.specs.replies.Distributed.{dist_facets, dist_buckets}
+use Rattle.fc_base.specs.StatisticView.{stat_view}
+use Rattle.fc_facet.specs.declared.kind.Kind.{Kind}
+use Rattle.fc_facet.specs.declared.kind.Kind.TheVariants as k
+use Rattle.fc_facet.specs.KindView.{domain_view}
+use Rattle.fc_request.specs.declared.node.Node.{Node, out-Node}
+use Rattle.fc_request.specs.declared.node.Node.TheFolds.{fold_out-Node}
+use Rattle.fc_request.specs.NodeView.{Part, node_of, node_step, node_view, inner_view}
+use Rattle.fc_request.specs.NodeStatistics.{statistic_of_node}
+use Rattle.fc_reading.specs.FacetNode.{has_buckets, kind_of, kind_view, facet_view}
+use Rattle.fc_reading.specs.GoodRanges.{IsCountable, AreCountable}
+use Rattle.fc_reading.specs.Tree.{node_before, statistics_after, HasValue, inside}
+
+pub node_is : (n : Node) → node_view n ≡ ((out-Node n).name, node_of (domain_view (out-Node n).domain) (kind_of n) (inner_view n))
+node_is n = fold_out-Node Part node_step n
+
+module _ (n : Node) where
+  abbrev name : Text
+  name = (out-Node n).name
+
+  abbrev part_with : Kind → Part
+  part_with kind = (name, node_of (domain_view (out-Node n).domain) kind (inner_view n))
+
+  -- a facet
+  before_facet : (kind : Kind) → has_buckets kind ≡ true → (rest : Nodes)
+      → node_before (part_with kind) rest ≡ request.facet (record { name = name; change = domain_view (out-Node n).domain; kind = kind_view kind }) (inner_view n) rest
+  before_facet (k.Terms t) h rest = refl
+  before_facet (k.Range g) h rest = refl
+  before_facet (k.Query q) h rest = refl
+  before_facet (k.Stat s) h rest = absurd (cc h)
+
+  pub facet_is : has_buckets (kind_of n) ≡ true → (rest : Nodes) → node_before (node_view n) rest ≡ request.facet (facet_view n) (inner_view n) rest
+  facet_is h rest = ap (λ p. node_before p rest) (node_is n) ∙ before_facet (kind_of n) h rest
+
+  no_statistic : (kind : Kind) → has_buckets kind ≡ true → statistic_of_node (part_with kind).1 ≡ None
+  no_statistic (k.Terms t) h = refl
+  no_statistic (k.Range g) h = refl
+  no_statistic (k.Query q) h = refl
+  no_statistic (k.Stat s) h = absurd (cc h)
+
+  pub facet_is_no_statistic : has_buckets (kind_of n) ≡ true → statistic_of_node (node_view n).1 ≡ None
+  facet_is_no_statistic h = ap (λ p. statistic_of_node p.1) (node_is n) ∙ no_statistic (kind_of n) h
+
+  -- a statistic
+  pub statistic_is : (s : _) → kind_of n ≡ k.Stat s → (rest : Nodes) → node_before (node_view n) rest ≡ request.statistic name (stat_view s) rest
+  statistic_is s is rest = ap (λ p. node_before p rest) (node_is n) ∙ ap (λ kind. node_before (part_with kind) rest) is
+
+  pub statistic_of : (s : _) → kind_of n ≡ k.Stat s → statistic_of_node (node_view n).1 ≡ Some (stat_view s)
+  statistic_of s is = ap (λ p. statistic_of_node p.1) (node_is n) ∙ ap (λ kind. statistic_of_node (part_with kind).1) is
+
+  -- the ranges of a facet can be counted, and those inside it
+  pub countable_kind : has_buckets (kind_of n) ≡ true → AreCountable (node_before (node_view n) no_nodes) → IsCountable (kind_view (kind_of n))
+  countable_kind h all = (subst AreCountable (facet_is h no_nodes) all).0
+
+  pub countable_inside : has_buckets (kind_of n) ≡ true → AreCountable (node_before (node_view n) no_nodes) → AreCountable (inner_view n)
+  countable_inside h all = (subst AreCountable (facet_is h no_nodes) all).1

@@ -1,0 +1,53 @@
+-- What a node prints in a bucket.
+use Rattle.std.proofs.Common.{◌≡◌, ℕ, suc, ◌+◌, List, [], ◌∷◌, ◌++◌, Bool, true, false, cond, Option, None, Some, option_map, refl, ap, sym, ◌∙◌, subst, ◌==◌, map, drop}
+use Rattle.std.specs.Prelude.{ℤ, slice_get}
+use Rattle.fc_spec.specs.documents.Val.{Text}
+use Rattle.fc_spec.specs.requests.Request as request
+use Rattle.fc_spec.specs.requests.Request.{Stat, Nodes, no_nodes, Facet}
+use Rattle.fc_spec.specs.requests.Statistics.{StatValue, Stats, shown}
+use Rattle.fc_spec.specs.replies.Reply.{Facets, with_number, number}
+use Rattle.fc_spec.specs.replies.Printed.{facet_part, statistic_part}
+use Rattle.fc_spec.specs.replies.Reading.{Reading}
+use Rattle.fc_spec.specs.replies.Distributed.{dist_facets, dist_buckets}
+use Rattle.fc_base.specs.StatisticView.{stat_view}
+use Rattle.fc_facet.specs.declared.kind.Kind.TheVariants as k
+use Rattle.fc_request.specs.declared.node.Node.{Node, out-Node}
+use Rattle.fc_request.specs.NodeView.{node_view, inner_view, linked}
+use Rattle.fc_request.specs.NodeStatistics.{statistic_of_node}
+use Rattle.fc_reply.specs.declared.reply.ReplyFacet.{ReplyFacet}
+use Rattle.fc_reply.specs.ReplyView.{facet_view as printed_facet_view, facets_over}
+use Rattle.fc_reading.specs.FacetNode.{has_buckets, kind_of, kind_view, facet_view}
+use Rattle.fc_reading.specs.Tree.{node_before, one_more_if, statistics_after, HasValue, inside, facet_over}
+use Rattle.fc_reading.proofs.Nodes.{facet_is, facet_is_no_statistic, statistic_is, statistic_of}
+use Rattle.fc_reading.proofs.Rows.{facets_more}
+
+-- a number before others, where it is there
+number_over : (name : Text) (b : Bool) (v o : Option ℤ) (more : Facets) → o ≡ cond b None v → facet_over (option_map (λ n. number name n) o) more ≡ cond b more (with_number name v more)
+number_over name true v o more h = ap (λ o. facet_over (option_map (λ n. number name n) o) more) h
+number_over name false None o more h = ap (λ o. facet_over (option_map (λ n. number name n) o) more) h
+number_over name false (Some n) o more h = ap (λ o. facet_over (option_map (λ n. number name n) o) more) h
+
+module _ {B D : Type 0} (R : Reading B D) (H : List ℕ) (X : B) (n : Node) (at m : ℕ) (rest : Nodes) where
+  abbrev after : ℕ
+  after = statistics_after (node_view n) m
+
+  -- of a statistic its number
+  pub statistic_prints : (s : _) (count : ℕ) (v : StatValue) (o : Option ℤ) → kind_of n ≡ k.Stat s → count ≡ R.count_on H X → v ≡ R.statistic_on m (stat_view s) H X
+      → o ≡ cond (count == 0) None (shown v)
+      → facet_over (option_map (λ number_there. number ((out-Node n).name) number_there) o) (dist_facets R rest (suc at) after H X) ≡ dist_facets R (node_before (node_view n) rest) at m H X
+  statistic_prints s count v o is counted value prints =
+      number_over ((out-Node n).name) (count == 0) (shown v) o (dist_facets R rest (suc at) after H X) prints
+      ∙ ap (λ a. cond (count == 0) (dist_facets R rest (suc at) (one_more_if a m) H X) (with_number ((out-Node n).name) (shown v) (dist_facets R rest (suc at) (one_more_if a m) H X))) (statistic_of n s is)
+      ∙ ap (λ c. cond (c == 0) (dist_facets R rest (suc at) (suc m) H X) (with_number ((out-Node n).name) (shown v) (dist_facets R rest (suc at) (suc m) H X))) counted
+      ∙ ap (λ w. statistic_part (R.count_on H X == 0) ((out-Node n).name) (shown w) (dist_facets R rest (suc at) (suc m) H X)) value
+      ∙ ap (λ ns. dist_facets R ns at m H X) (sym (statistic_is n s is rest))
+
+  -- of a facet its buckets
+  pub facet_prints : (put : Option (Facets → Facets)) (count : ℕ) → has_buckets (kind_of n) ≡ true → count ≡ R.count_on H X
+      → ((more : Facets) → facet_over put more ≡ facet_part (count == 0) (facet_view n) (dist_buckets R (facet_view n) (inner_view n) (inside R (inner_view n)) H (R.domain_on at (facet_view n) H X) more) more)
+      → facet_over put (dist_facets R rest (suc at) after H X) ≡ dist_facets R (node_before (node_view n) rest) at m H X
+  facet_prints put count facet counted prints =
+      ap (λ a. facet_over put (dist_facets R rest (suc at) (one_more_if a m) H X)) (facet_is_no_statistic n facet)
+      ∙ prints (dist_facets R rest (suc at) m H X)
+      ∙ ap (λ c. facet_part (c == 0) (facet_view n) (dist_buckets R (facet_view n) (inner_view n) (inside R (inner_view n)) H (R.domain_on at (facet_view n) H X) (dist_facets R rest (suc at) m H X)) (dist_facets R rest (suc at) m H X)) counted
+      ∙ ap (λ ns. dist_facets R ns at m H X) (sym (facet_is n facet rest))

@@ -1,0 +1,29 @@
+// Candidates of a terms facet.
+ghost use Rattle.std.specs.Prelude.{◌≡◌};
+ghost use Rattle.fc_spec.specs.requests.Ranks.{Entry};
+ghost use Rattle.fc_reading.specs.Terms.{candidate_view};
+
+use fc_base::Val;
+use fc_partial::Stats;
+use fc_refine::Ranked;
+
+/// A value with the shards that it is counted on, its bucket, and its count and statistics there.
+#[derive(Drop)]
+pub(crate) struct Candidate<B> {
+    pub(crate) val: Val,
+    pub(crate) shards: Vec<u32>,
+    pub(crate) bucket: B,
+    pub(crate) stats: Stats,
+}
+
+impl<B> Ranked for Candidate<B> {
+    ghost entry = { candidate_view };
+
+    fn val(&self) -> &Val {
+        &self.val
+    }
+
+    fn stats(&self) -> &Stats {
+        &self.stats
+    }
+}

@@ -1,0 +1,294 @@
+// The printed buckets of a terms facet.
+ghost use Rattle.std.specs.Prelude.{◌≡◌, ℕ, List, All, IfOk, is_some, map, nat_le, not, ◌&&◌, if◌then◌else◌};
+ghost use Rattle.std.specs.List.{filter};
+ghost use Rattle.fc_spec.specs.documents.Val as value;
+ghost use Rattle.fc_spec.specs.requests.Request as definition;
+ghost use Rattle.fc_spec.specs.requests.Ranks as ranks;
+ghost use Rattle.fc_spec.specs.replies.Chosen as chosen;
+ghost use Rattle.fc_base.specs.StatisticView.{stat_view};
+ghost use Rattle.fc_base.specs.View.{val_view};
+ghost use Rattle.fc_facet.specs.declared.kind.Kind.TheVariants as kind;
+ghost use Rattle.fc_facet.specs.KindView.{sort_view, terms_view};
+ghost use Rattle.fc_request.specs.NodeView.{inner_view};
+ghost use Rattle.fc_refine.specs.Entries.{HaveAscendingValues};
+ghost use Rattle.fc_reading.specs.FacetNode.{kind_of};
+ghost use Rattle.fc_reading.specs.Parts.{AreCounted, parts_of, parts_view};
+ghost use Rattle.fc_reading.specs.Terms.{candidate_vals, candidates_view, counted_first, IsOn, part_from};
+
+use crate::BucketReading;
+use crate::candidate::Candidate;
+use crate::offered::{Offered, merged};
+use crate::part::{Part, Parts, part_beside};
+use fc_base::{Stat, Val, WantMemory};
+use fc_facet::{Kind, Terms};
+use fc_partial::Key;
+use fc_refine::{below_rank, page, rank_bound};
+use fc_request::Node;
+use std::alloc::Global;
+
+// The bucket of a value, counted over these shards.
+fn candidate<R: BucketReading>(
+    alloc: Global,
+    reading: &R,
+    node: &Node,
+    terms: &Terms,
+    stats: &[Stat],
+    domain: &R::Domain,
+    val: &Val,
+    shards: Vec<u32>,
+) -> Result<Candidate<R::Bucket>, WantMemory>
+    requires made { R.is_for domain.now (kind_of node.now) }
+    requires stats { map stat_view stats.now ≡ definition.stats_of (inner_view node.now) }
+    requires terms { kind_of node.now ≡ kind.Terms terms.now }
+    ensures val { IfOk result (λ c. val_view c.val ≡ val_view val.now) }
+    ensures on { IfOk result (λ c. (all : List ℕ) → IsOn (R.reading reading.now) (terms_view terms.now) (inner_view node.now) all
+        (R.over domain.now) R.held (λ v. shards.items) c) }
+{
+    let key = Key::Value(val.copy(alloc)?);
+    let bucket = reading.bucket_at(alloc, &node.kind, domain, &key)?;
+    let stats = reading.stats_on(alloc, stats, &shards, &bucket)?;
+    Ok(Candidate {
+        val: val.copy(alloc)?,
+        shards,
+        bucket,
+        stats,
+    })
+}
+
+// Over which shards an offered value is counted first.
+fn shards_first(
+    alloc: Global,
+    terms: &Terms,
+    shards: &[u32],
+    offering: Vec<u32>,
+) -> Result<Vec<u32>, WantMemory>
+    ensures { IfOk result (λ first. first.items
+        ≡ (if terms.now.refine && not (is_some terms.now.limit) then shards.now else offering.items)) }
+{
+    if terms.refine && terms.limit.is_none() {
+        Ok(shards.to_vec(alloc)?)
+    } else {
+        Ok(offering)
+    }
+}
+
+// The candidate of each offered value.
+fn candidates_of<R: BucketReading>(
+    alloc: Global,
+    reading: &R,
+    node: &Node,
+    terms: &Terms,
+    stats: &[Stat],
+    shards: &[u32],
+    domain: &R::Domain,
+    offered: Vec<Offered>,
+) -> Result<Vec<Candidate<R::Bucket>>, WantMemory>
+    requires made { R.is_for domain.now (kind_of node.now) }
+    requires stats { map stat_view stats.now ≡ definition.stats_of (inner_view node.now) }
+    requires terms { kind_of node.now ≡ kind.Terms terms.now }
+    requires offering { All (λ o. o.shards.items ≡ chosen.offering (R.reading reading.now) (terms_view terms.now)
+        (inner_view node.now) shards.now (R.over domain.now) (val_view o.val.now)) offered.items }
+    ensures on { IfOk result (λ list. All (IsOn (R.reading reading.now) (terms_view terms.now) (inner_view node.now) shards.now
+        (R.over domain.now) R.held (counted_first (R.reading reading.now) (terms_view terms.now) (inner_view node.now) shards.now
+        (R.over domain.now))) list.items) }
+    ensures vals { IfOk result (λ list. candidate_vals list.items ≡ map (λ o. val_view o.val.now) offered.items) }
+{
+    let mut list = Vec::with_capacity(alloc, offered.len())?;
+    for one in offered {
+        let counted = shards_first(alloc, terms, shards, one.shards)?;
+        list.push(candidate(alloc, reading, node, terms, stats, domain, one.val, counted)?)?;
+    }
+    Ok(list)
+}
+
+// The candidates, in index order.
+fn candidates<R: BucketReading>(
+    alloc: Global,
+    reading: &R,
+    node: &Node,
+    terms: &Terms,
+    stats: &[Stat],
+    shards: &[u32],
+    domain: &R::Domain,
+) -> Result<Vec<Candidate<R::Bucket>>, WantMemory>
+    requires made { R.is_for domain.now (kind_of node.now) }
+    requires stats { map stat_view stats.now ≡ definition.stats_of (inner_view node.now) }
+    requires terms { kind_of node.now ≡ kind.Terms terms.now }
+    ensures on { IfOk result (λ list. All (IsOn (R.reading reading.now) (terms_view terms.now) (inner_view node.now) shards.now
+        (R.over domain.now) R.held (counted_first (R.reading reading.now) (terms_view terms.now) (inner_view node.now) shards.now
+        (R.over domain.now))) list.items) }
+    ensures vals { IfOk result (λ list. candidate_vals list.items ≡ chosen.candidates (R.reading reading.now)
+        (terms_view terms.now) (inner_view node.now) shards.now (R.over domain.now)) }
+{
+    let offers = reading.offers(alloc, terms, stats, domain, shards)?;
+    let offered = merged(alloc, shards, &offers)?;
+    let list = candidates_of(alloc, reading, node, terms, stats, shards, domain, offered)?;
+    Ok(list)
+}
+
+// The same candidate, counted over these shards.
+fn counted_on<R: BucketReading>(
+    alloc: Global,
+    reading: &R,
+    stats: &[Stat],
+    shards: &[u32],
+    candidate: Candidate<R::Bucket>,
+) -> Result<Candidate<R::Bucket>, WantMemory>
+    ensures val { IfOk result (λ c. c.val ≡ candidate.entry.val) }
+    ensures on { IfOk result (λ c. (t : definition.Terms) (inner : definition.Nodes) (Y : R.Over) (counted : value.Val → List ℕ)
+        → definition.stats_of inner ≡ map stat_view stats.now
+        → IsOn (R.reading reading.now) t inner shards.now Y R.held counted candidate.entry
+        → IsOn (R.reading reading.now) t inner shards.now Y R.held (λ v. shards.now) c) }
+{
+    let stats = reading.stats_on(alloc, stats, shards, &candidate.bucket)?;
+    Ok(Candidate {
+        val: candidate.val,
+        shards: shards.to_vec(alloc)?,
+        bucket: candidate.bucket,
+        stats,
+    })
+}
+
+// The candidates whose rank is low enough, each counted over all shards.
+fn refined<R: BucketReading>(
+    alloc: Global,
+    reading: &R,
+    terms: &Terms,
+    stats: &[Stat],
+    shards: &[u32],
+    candidates: Vec<Candidate<R::Bucket>>,
+) -> Result<Vec<Candidate<R::Bucket>>, WantMemory>
+    requires ascend { HaveAscendingValues (candidates_view candidates.items) }
+    ensures vals { IfOk result (λ list. candidate_vals list.items ≡ map (λ e. e.val) (ranks.below_rank (sort_view terms.now.sort)
+        (ranks.rank_bound terms.now.offset terms.now.limit terms.now.overrefine) (candidates_view candidates.entry.items))) }
+    ensures on { IfOk result (λ list. (inner : definition.Nodes) (Y : R.Over) (counted : value.Val → List ℕ)
+        → definition.stats_of inner ≡ map stat_view stats.now
+        → All (IsOn (R.reading reading.now) (terms_view terms.now) inner shards.now Y R.held counted) candidates.entry.items
+        → All (IsOn (R.reading reading.now) (terms_view terms.now) inner shards.now Y R.held (λ v. shards.now)) list.items) }
+{
+    let bound = rank_bound(terms.offset, terms.limit, terms.overrefine);
+    let front = below_rank(terms.sort, bound, candidates)?;
+    let mut list = Vec::new(alloc);
+    for candidate in front {
+        list.push(counted_on(alloc, reading, stats, shards, candidate)?)?;
+    }
+    Ok(list)
+}
+
+// The chosen values, each counted over its known shards.
+fn chosen<R: BucketReading>(
+    alloc: Global,
+    reading: &R,
+    node: &Node,
+    terms: &Terms,
+    stats: &[Stat],
+    shards: &[u32],
+    domain: &R::Domain,
+) -> Result<Vec<Candidate<R::Bucket>>, WantMemory>
+    requires made { R.is_for domain.now (kind_of node.now) }
+    requires stats { map stat_view stats.now ≡ definition.stats_of (inner_view node.now) }
+    requires terms { kind_of node.now ≡ kind.Terms terms.now }
+    ensures on { IfOk result (λ list. All (IsOn (R.reading reading.now) (terms_view terms.now) (inner_view node.now) shards.now
+        (R.over domain.now) R.held (chosen.known (R.reading reading.now) (terms_view terms.now) (inner_view node.now) shards.now
+        (R.over domain.now))) list.items) }
+    ensures entries { IfOk result (λ list. candidates_view list.items ≡ chosen.chosen_entries (R.reading reading.now)
+        (terms_view terms.now) (inner_view node.now) shards.now (R.over domain.now)) }
+    ensures ascend { IfOk result (λ list. HaveAscendingValues (candidates_view list.items)) }
+{
+    let all = candidates(alloc, reading, node, terms, stats, shards, domain)?;
+    if terms.refine && terms.limit.is_some() {
+        refined(alloc, reading, terms, stats, shards, all)
+    } else {
+        Ok(all)
+    }
+}
+
+// Those whose count is at least so much.
+fn with_count<B: Drop>(
+    alloc: Global,
+    least: u32,
+    candidates: Vec<Candidate<B>>,
+) -> Result<Vec<Candidate<B>>, WantMemory>
+    ensures { IfOk result (λ kept. kept.items ≡ filter (λ c. nat_le least c.stats.count) candidates.items) }
+{
+    let mut kept = Vec::new(alloc);
+    for candidate in candidates {
+        if u64::from(least) <= candidate.stats.count {
+            kept.push(candidate)?;
+        }
+    }
+    Ok(kept)
+}
+
+// The candidates that are printed, in the order of their ranks.
+fn printed<R: BucketReading>(
+    alloc: Global,
+    reading: &R,
+    node: &Node,
+    terms: &Terms,
+    stats: &[Stat],
+    shards: &[u32],
+    domain: &R::Domain,
+) -> Result<Vec<Candidate<R::Bucket>>, WantMemory>
+    requires made { R.is_for domain.now (kind_of node.now) }
+    requires stats { map stat_view stats.now ≡ definition.stats_of (inner_view node.now) }
+    requires terms { kind_of node.now ≡ kind.Terms terms.now }
+    ensures on { IfOk result (λ list. All (IsOn (R.reading reading.now) (terms_view terms.now) (inner_view node.now) shards.now
+        (R.over domain.now) R.held (chosen.known (R.reading reading.now) (terms_view terms.now) (inner_view node.now) shards.now
+        (R.over domain.now))) list.items) }
+    ensures entries { IfOk result (λ list. candidates_view list.items ≡ ranks.page (sort_view terms.now.sort) terms.now.offset terms.now.limit
+        (filter (λ e. nat_le terms.now.mincount e.stats.count) (chosen.chosen_entries (R.reading reading.now)
+        (terms_view terms.now) (inner_view node.now) shards.now (R.over domain.now)))) }
+{
+    let chosen = chosen(alloc, reading, node, terms, stats, shards, domain)?;
+    let kept = with_count(alloc, terms.mincount, chosen)?;
+    page(terms.sort, terms.offset, terms.limit, kept)
+}
+
+// Their buckets.
+fn value_parts<B: Drop>(
+    alloc: Global,
+    candidates: Vec<Candidate<B>>,
+) -> Result<Vec<Part<B>>, WantMemory>
+    ensures { IfOk result (λ parts. parts.items ≡ map part_from candidates.items) }
+{
+    let mut parts = Vec::with_capacity(alloc, candidates.len())?;
+    for candidate in candidates {
+        parts.push(Part {
+            val: Some(candidate.val),
+            shards: candidate.shards,
+            bucket: candidate.bucket,
+            stats: candidate.stats,
+        })?;
+    }
+    Ok(parts)
+}
+
+/// The buckets of the values, and that of the documents without one where it is asked for.
+pub(crate) fn terms_parts<R: BucketReading>(
+    alloc: Global,
+    reading: &R,
+    node: &Node,
+    terms: &Terms,
+    stats: &[Stat],
+    shards: &[u32],
+    domain: &R::Domain,
+) -> Result<Parts<R::Bucket>, WantMemory>
+    requires made { R.is_for domain.now (kind_of node.now) }
+    requires stats { map stat_view stats.now ≡ definition.stats_of (inner_view node.now) }
+    requires terms { kind_of node.now ≡ kind.Terms terms.now }
+    ensures parts { IfOk result (λ parts. parts_view R.held parts
+        ≡ parts_of (R.reading reading.now) (definition.terms (terms_view terms.now)) (inner_view node.now) shards.now (R.over domain.now)) }
+    ensures counted { IfOk result (AreCounted (R.reading reading.now) R.held (map stat_view stats.now)) }
+{
+    let printed = printed(alloc, reading, node, terms, stats, shards, domain)?;
+    let list = value_parts(alloc, printed)?;
+    let missing = part_beside(alloc, reading, &node.kind, stats, shards, domain, terms.missing, Key::Missing)?;
+    Ok(Parts {
+        list,
+        missing,
+        before: None,
+        between: None,
+        after: None,
+    })
+}
