@@ -1,0 +1,4 @@
+pub mod ErrorJson
+pub mod NoFloats
+pub mod PutMembers
+pub mod ReplyViews

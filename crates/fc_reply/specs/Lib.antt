@@ -1,1 +1,2 @@
+pub mod PutJson
 pub mod ReplyView

@@ -2,6 +2,7 @@
 #![tactic(auto)]
 
 mod error;
+mod json;
 mod line;
 mod reply;
 

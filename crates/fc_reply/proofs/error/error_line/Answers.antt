@@ -1,5 +1,5 @@
 use Rattle.fc_facet.specs.FaultView.{fault_view}
-use Rattle.fc_run.proofs.replies.ErrorJson.{has_float-error_data}
+use Rattle.fc_reply.proofs.ErrorJson.{has_float-error_data}
 use Rattle.fc_reply.proofs.error.error_line.Goals as goal
 
 pub text_line-requires : goal.text_line-requires

@@ -3,7 +3,7 @@ use Rattle.std.proofs.lemmas.List.{drop_all}
 use Rattle.serde_json.specs.Data.{array, string}
 use Rattle.serde_json.specs.View.{view, items_of}
 use Rattle.serde_json.proofs.Views.{view-Array}
-use Rattle.fc_run.proofs.replies.ErrorJson.{texts_data-is}
+use Rattle.fc_reply.proofs.ErrorJson.{texts_data-is}
 use Rattle.fc_reply.proofs.error.names_json.Goals as goal
 
 pub returns : goal.returns
