@@ -1,7 +1,7 @@
 -- What is known of candidates.
 use Rattle.std.proofs.Common.{◌≡◌, ℕ, List, [], ◌∷◌, ◌++◌, map, Bool, true, false, Option, None, Some, not, ◌&&◌, refl, ap, sym, ◌∙◌, subst, cond}
 use Rattle.std.specs.Prelude.{All, nat_le, is_some, IsPermutation}
-use Rattle.std.specs.List.{filter}
+use Rattle.std.specs.List.{filter, flat_map}
 use Rattle.std.specs.List.Sorted.{IsStrictlySortedBy}
 use Rattle.std.proofs.lemmas.List.Elements.{All-head, All-tail, All-nil, All-cons, All-append, All-filter}
 use Rattle.std.proofs.lemmas.List.Sorted.{All-permutation}
@@ -63,7 +63,7 @@ module _ {B H D : Type 0} (R : Reading H D) (t : Terms) (inner : Nodes) (K : Lis
 
   -- candidates ascend
   pub candidates_ascend : (cs : List (Candidate B)) → candidate_vals cs ≡ chosen.candidates R t inner K Y → HaveAscendingValues (candidates_view cs)
-  candidates_ascend cs vals = subst (IsStrictlySortedBy val_cmp) (sym (entry_vals cs ∙ vals)) (distinct_ascends _)
+  candidates_ascend cs vals = subst (IsStrictlySortedBy val_cmp) (sym (entry_vals cs ∙ vals)) (distinct_ascends (flat_map (λ i. R.offered_by t inner Y i) K))
 
   -- ---- with a further round
 

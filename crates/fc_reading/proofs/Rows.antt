@@ -3,7 +3,7 @@ use Rattle.std.proofs.Common.{◌≡◌, ℕ, List, [], ◌∷◌, ◌++◌, map
 use Rattle.fc_spec.specs.documents.Val.{Text}
 use Rattle.fc_spec.specs.requests.Request.{Kind, terms, range, query, Nodes}
 use Rattle.fc_spec.specs.requests.Buckets.{Key}
-use Rattle.fc_spec.specs.replies.Reply.{Bucket, Facets, Row, no_parts, part, Spot, listed, as_missing, as_before, as_between, as_after, row_of, with_buckets, many, one}
+use Rattle.fc_spec.specs.replies.Reply.{Bucket, Facets, Row, no_parts, part, Spot, listed, as_missing, as_before, as_between, as_after, row_of, with_buckets, spot_of, many, one}
 use Rattle.fc_spec.specs.replies.Reading.{Reading}
 use Rattle.fc_spec.specs.replies.Distributed.{carried, printed_keys}
 use Rattle.fc_reply.specs.declared.reply.ReplyFacet.{ReplyFacet}
@@ -56,7 +56,7 @@ module _ {B H D : Type 0} (R : Reading H D) (held : B → H) (inner : Nodes) (K 
       → row_of kind (λ k. count (carried R kind inner K Y k) (R.bucket_at kind Y k)) (λ k. inside (carried R kind inner K Y k) (R.bucket_at kind Y k)) keys
       ≡ row_with count inside (map (part_of R kind inner K Y) keys)
   row_of_keys kind [] = refl
-  row_of_keys kind (k ∷ ks) = ap (part _ _) (row_of_keys kind ks)
+  row_of_keys kind (k ∷ ks) = ap (part (spot_of k) (bucket_with count inside (part_of R kind inner K Y k))) (row_of_keys kind ks)
 
   -- what is printed of a facet is what the definition puts before the others
   pub put_as_defined : (name : Text) (kind : Kind) (p : Printed B) (more : Facets) → IsPrinted R held kind inner K Y p

@@ -1,5 +1,5 @@
 -- Printed buckets without the facets in them.
-use Rattle.std.specs.Prelude.{◌≡◌, ℕ, List, [], ◌∷◌, ◌++◌, map, Option, None, Some, option_map, All, IfSome, ⊥}
+use Rattle.std.specs.Prelude.{◌≡◌, ℕ, List, [], ◌∷◌, ◌++◌, map, Option, None, Some, option_map, All, IfSome}
 use Rattle.fc_spec.specs.documents.Val.{Val}
 use Rattle.fc_spec.specs.requests.Request.{Kind, terms, range, query, Nodes, Stat, stats_of}
 use Rattle.fc_spec.specs.requests.Buckets.{Key, whole}

@@ -6,7 +6,7 @@ ghost use Rattle.fc_spec.specs.requests.Gaps.{gap_count};
 ghost use Rattle.fc_spec.specs.replies.Reply.{listed};
 ghost use Rattle.fc_spec.specs.words.Lists.{numbers_below};
 ghost use Rattle.fc_base.specs.StatisticView.{stat_view};
-ghost use Rattle.fc_facet.specs.declared.kind.Kind.TheVariants as kind;
+ghost use Rattle.fc_facet.specs.declared.kind.Kind.TheVariants as variant;
 ghost use Rattle.fc_facet.specs.KindView.{range_view};
 ghost use Rattle.fc_facet.specs.RangeGaps.{HasFewGaps};
 ghost use Rattle.fc_reading.specs.Parts.{AreCounted, IsCounted, part_of, part_view, parts_of, parts_view};
@@ -28,7 +28,7 @@ fn gap_parts<R: BucketReading>(
     shards: &[u32],
     domain: &R::Domain,
 ) -> Result<Vec<Part<R::Bucket>>, WantMemory>
-    requires kind { kind.now ≡ kind.Range range.now }
+    requires kind { kind.now ≡ variant.Range range.now }
     requires few { HasFewGaps (range_view range.now) }
     requires made { R.is_for domain.now kind.now }
     ensures parts { IfOk result (λ parts. (inner : definition.Nodes) → map (part_view R.held listed) parts.items
@@ -55,7 +55,7 @@ pub(crate) fn range_parts<R: BucketReading>(
     shards: &[u32],
     domain: &R::Domain,
 ) -> Result<Parts<R::Bucket>, WantMemory>
-    requires kind { kind.now ≡ kind.Range range.now }
+    requires kind { kind.now ≡ variant.Range range.now }
     requires few { HasFewGaps (range_view range.now) }
     requires made { R.is_for domain.now kind.now }
     ensures parts { IfOk result (λ parts. (inner : definition.Nodes) → parts_view R.held parts

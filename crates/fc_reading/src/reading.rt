@@ -3,9 +3,10 @@ ghost use Rattle.std.specs.Prelude.{◌≡◌, IfOk, IsTrue, List, All, map};
 ghost use Rattle.std.specs.List.Sorted.{IsStrictlySortedBy};
 ghost use Rattle.fc_spec.specs.documents.Val.{val_cmp};
 ghost use Rattle.fc_spec.specs.requests.Request as definition;
-ghost use Rattle.fc_spec.specs.replies.Reading as reading;
+ghost use Rattle.fc_spec.specs.replies.Reading.{Reading, stats_on as stats_of_bucket};
 ghost use Rattle.fc_base.specs.StatisticView.{stat_view};
 ghost use Rattle.fc_facet.specs.declared.kind.Kind as code;
+ghost use Rattle.fc_facet.specs.declared.kind.Kind.TheVariants as variant;
 ghost use Rattle.fc_facet.specs.KindView.{terms_view};
 ghost use Rattle.fc_partial.specs.StatsView.{stats_view};
 ghost use Rattle.fc_partial.specs.View.{key_view};
@@ -31,7 +32,7 @@ pub trait BucketReading {
     ghost Over: { Type 0 };
     ghost held: { Self.Bucket → Self.Held };
     ghost over: { Self.Domain → Self.Over };
-    ghost reading: { Self → reading.Reading Self.Held Self.Over };
+    ghost reading: { Self → Reading Self.Held Self.Over };
     // What else is made of a domain for a kind of facet.
     ghost is_for: { Self.Domain → code.Kind → Type 0 };
 
@@ -74,7 +75,7 @@ pub trait BucketReading {
         bucket: &Self::Bucket,
     ) -> Result<Stats, WantMemory>
         ensures { IfOk result (λ found. stats_view found
-            ≡ reading.stats_on (reading self.now) (map stat_view stats.now) shards.now (held bucket.now)) };
+            ≡ stats_of_bucket (reading self.now) (map stat_view stats.now) shards.now (held bucket.now)) };
 
     /// The values that each of the shards offers of a terms facet in which these statistics are nested, shard by
     /// shard, each list in index order.
@@ -86,7 +87,7 @@ pub trait BucketReading {
         domain: &'d Self::Domain,
         shards: &[u32],
     ) -> Result<Vec<Vec<&'d Val>>, WantMemory>
-        requires made { is_for domain.now (code.TheVariants.Terms terms.now) }
+        requires made { is_for domain.now (variant.Terms terms.now) }
         ensures offered { IfOk result (λ lists. (inner : definition.Nodes) → definition.stats_of inner ≡ map stat_view stats.now
             → map (λ list. vals_view list.items) lists.items
             ≡ map (λ i. (reading self.now).offered_by (terms_view terms.now) inner (over domain.now) i) shards.now) }

@@ -7,7 +7,7 @@ ghost use Rattle.fc_spec.specs.requests.Ranks as ranks;
 ghost use Rattle.fc_spec.specs.replies.Chosen as chosen;
 ghost use Rattle.fc_base.specs.StatisticView.{stat_view};
 ghost use Rattle.fc_base.specs.View.{val_view};
-ghost use Rattle.fc_facet.specs.declared.kind.Kind.TheVariants as kind;
+ghost use Rattle.fc_facet.specs.declared.kind.Kind.TheVariants as variant;
 ghost use Rattle.fc_facet.specs.KindView.{sort_view, terms_view};
 ghost use Rattle.fc_request.specs.NodeView.{inner_view};
 ghost use Rattle.fc_refine.specs.Entries.{HaveAscendingValues};
@@ -39,7 +39,7 @@ fn candidate<R: BucketReading>(
 ) -> Result<Candidate<R::Bucket>, WantMemory>
     requires made { R.is_for domain.now (kind_of node.now) }
     requires stats { map stat_view stats.now ≡ definition.stats_of (inner_view node.now) }
-    requires terms { kind_of node.now ≡ kind.Terms terms.now }
+    requires terms { kind_of node.now ≡ variant.Terms terms.now }
     ensures val { IfOk result (λ c. val_view c.val ≡ val_view val.now) }
     ensures on { IfOk result (λ c. (all : List ℕ) → IsOn (R.reading reading.now) (terms_view terms.now) (inner_view node.now) all
         (R.over domain.now) R.held (λ v. shards.items) c) }
@@ -85,13 +85,13 @@ fn candidates_of<R: BucketReading>(
 ) -> Result<Vec<Candidate<R::Bucket>>, WantMemory>
     requires made { R.is_for domain.now (kind_of node.now) }
     requires stats { map stat_view stats.now ≡ definition.stats_of (inner_view node.now) }
-    requires terms { kind_of node.now ≡ kind.Terms terms.now }
+    requires terms { kind_of node.now ≡ variant.Terms terms.now }
     requires offering { All (λ o. o.shards.items ≡ chosen.offering (R.reading reading.now) (terms_view terms.now)
         (inner_view node.now) shards.now (R.over domain.now) (val_view o.val.now)) offered.items }
     ensures on { IfOk result (λ list. All (IsOn (R.reading reading.now) (terms_view terms.now) (inner_view node.now) shards.now
         (R.over domain.now) R.held (counted_first (R.reading reading.now) (terms_view terms.now) (inner_view node.now) shards.now
         (R.over domain.now))) list.items) }
-    ensures vals { IfOk result (λ list. candidate_vals list.items ≡ map (λ o. val_view o.val.now) offered.items) }
+    ensures vals { IfOk result (λ list. candidate_vals list.items ≡ map (λ o. val_view o.val.now) offered.entry.items) }
 {
     let mut list = Vec::with_capacity(alloc, offered.len())?;
     for one in offered {
@@ -113,7 +113,7 @@ fn candidates<R: BucketReading>(
 ) -> Result<Vec<Candidate<R::Bucket>>, WantMemory>
     requires made { R.is_for domain.now (kind_of node.now) }
     requires stats { map stat_view stats.now ≡ definition.stats_of (inner_view node.now) }
-    requires terms { kind_of node.now ≡ kind.Terms terms.now }
+    requires terms { kind_of node.now ≡ variant.Terms terms.now }
     ensures on { IfOk result (λ list. All (IsOn (R.reading reading.now) (terms_view terms.now) (inner_view node.now) shards.now
         (R.over domain.now) R.held (counted_first (R.reading reading.now) (terms_view terms.now) (inner_view node.now) shards.now
         (R.over domain.now))) list.items) }
@@ -134,10 +134,10 @@ fn counted_on<R: BucketReading>(
     shards: &[u32],
     candidate: Candidate<R::Bucket>,
 ) -> Result<Candidate<R::Bucket>, WantMemory>
-    ensures val { IfOk result (λ c. c.val ≡ candidate.entry.val) }
+    ensures val { IfOk result (λ c. c.val ≡ candidate.val) }
     ensures on { IfOk result (λ c. (t : definition.Terms) (inner : definition.Nodes) (Y : R.Over) (counted : value.Val → List ℕ)
         → definition.stats_of inner ≡ map stat_view stats.now
-        → IsOn (R.reading reading.now) t inner shards.now Y R.held counted candidate.entry
+        → IsOn (R.reading reading.now) t inner shards.now Y R.held counted candidate
         → IsOn (R.reading reading.now) t inner shards.now Y R.held (λ v. shards.now) c) }
 {
     let stats = reading.stats_on(alloc, stats, shards, &candidate.bucket)?;
@@ -160,10 +160,10 @@ fn refined<R: BucketReading>(
 ) -> Result<Vec<Candidate<R::Bucket>>, WantMemory>
     requires ascend { HaveAscendingValues (candidates_view candidates.items) }
     ensures vals { IfOk result (λ list. candidate_vals list.items ≡ map (λ e. e.val) (ranks.below_rank (sort_view terms.now.sort)
-        (ranks.rank_bound terms.now.offset terms.now.limit terms.now.overrefine) (candidates_view candidates.entry.items))) }
+        (ranks.rank_bound terms.now.offset terms.now.limit terms.now.overrefine) (candidates_view candidates.items))) }
     ensures on { IfOk result (λ list. (inner : definition.Nodes) (Y : R.Over) (counted : value.Val → List ℕ)
         → definition.stats_of inner ≡ map stat_view stats.now
-        → All (IsOn (R.reading reading.now) (terms_view terms.now) inner shards.now Y R.held counted) candidates.entry.items
+        → All (IsOn (R.reading reading.now) (terms_view terms.now) inner shards.now Y R.held counted) candidates.items
         → All (IsOn (R.reading reading.now) (terms_view terms.now) inner shards.now Y R.held (λ v. shards.now)) list.items) }
 {
     let bound = rank_bound(terms.offset, terms.limit, terms.overrefine);
@@ -187,7 +187,7 @@ fn chosen<R: BucketReading>(
 ) -> Result<Vec<Candidate<R::Bucket>>, WantMemory>
     requires made { R.is_for domain.now (kind_of node.now) }
     requires stats { map stat_view stats.now ≡ definition.stats_of (inner_view node.now) }
-    requires terms { kind_of node.now ≡ kind.Terms terms.now }
+    requires terms { kind_of node.now ≡ variant.Terms terms.now }
     ensures on { IfOk result (λ list. All (IsOn (R.reading reading.now) (terms_view terms.now) (inner_view node.now) shards.now
         (R.over domain.now) R.held (chosen.known (R.reading reading.now) (terms_view terms.now) (inner_view node.now) shards.now
         (R.over domain.now))) list.items) }
@@ -232,7 +232,7 @@ fn printed<R: BucketReading>(
 ) -> Result<Vec<Candidate<R::Bucket>>, WantMemory>
     requires made { R.is_for domain.now (kind_of node.now) }
     requires stats { map stat_view stats.now ≡ definition.stats_of (inner_view node.now) }
-    requires terms { kind_of node.now ≡ kind.Terms terms.now }
+    requires terms { kind_of node.now ≡ variant.Terms terms.now }
     ensures on { IfOk result (λ list. All (IsOn (R.reading reading.now) (terms_view terms.now) (inner_view node.now) shards.now
         (R.over domain.now) R.held (chosen.known (R.reading reading.now) (terms_view terms.now) (inner_view node.now) shards.now
         (R.over domain.now))) list.items) }
@@ -276,7 +276,7 @@ pub(crate) fn terms_parts<R: BucketReading>(
 ) -> Result<Parts<R::Bucket>, WantMemory>
     requires made { R.is_for domain.now (kind_of node.now) }
     requires stats { map stat_view stats.now ≡ definition.stats_of (inner_view node.now) }
-    requires terms { kind_of node.now ≡ kind.Terms terms.now }
+    requires terms { kind_of node.now ≡ variant.Terms terms.now }
     ensures parts { IfOk result (λ parts. parts_view R.held parts
         ≡ parts_of (R.reading reading.now) (definition.terms (terms_view terms.now)) (inner_view node.now) shards.now (R.over domain.now)) }
     ensures counted { IfOk result (AreCounted (R.reading reading.now) R.held (map stat_view stats.now)) }
