@@ -52,16 +52,6 @@ module _ {T V : Type 0} (see : T → V) where
       go true e = ap Some (is ∙ ap (λ w. unwrap_or (list_at w old) [] ++ p ∷ []) (sym (same_val_exact v k e)))
       go false e = refl
 
-  pub pushed : (es fs : List Stored) (k : Bor code.Val) (w : Vec T Global) (p : V) → fs ≡ insert_entry code_cmp es k w
-      → stored_list w ≡ unwrap_or (list_at (val_at k) (seen es)) [] ++ p ∷ [] → IsStrictlySortedBy code_cmp (keys_of fs)
-      → Grows (seen es) (seen fs) (val_at k ∷ []) p
-  pushed es fs k w p is items sorted = record {
-    lists = grown_at (seen es) (seen fs) (val_at k) p (stored_list w)
-        (λ v. ap (λ l. list_at v (seen l)) is ∙ ap (list_at v) (insert_entry-seen val_at stored_list val_cmp es k w) ∙ lookup-insert_entry val_cmp_total (seen es) (val_at k) (stored_list w) v)
-        items;
-    ascend = λ _. seen_ascend fs sorted;
-  }
-
   -- what the map's entry for a value writes
   stored : (empty : Vec T Global) → empty.items ≡ [] → (o : Option (Vec T Global)) → stored_list (unwrap_or o empty) ≡ unwrap_or (option_map stored_list o) []
   stored empty none None = ap (map see) none
@@ -69,13 +59,18 @@ module _ {T V : Type 0} (see : T → V) where
 
   pub pushed_written : (old new : ValueMap T) (written : Vec T Global → ValueMap T) (k : Bor code.Val) → ((w : Vec T Global) → (written w).entries ≡ insert_entry code_cmp old.entries k w)
       → ((w : Vec T Global) → IsStrictlySortedBy code_cmp (keys_of (written w).entries)) → (empty there now : Vec T Global) (x : T) → empty.items ≡ []
-      → there ≡ unwrap_or (get code_cmp old k) empty → now.items ≡ there.items ++ x ∷ [] → new ≡ written now → Grows (map_view see old) (map_view see new) (val_at k ∷ []) (see x)
+      → there ≡ unwrap_or (get code_cmp old k) empty → now.items ≡ there.items ++ x ∷ [] → new ≡ written now → Grows see old new (val_at k ∷ []) (see x)
   pushed_written old new written k writes orders empty there now x none found pushed_to is =
       let before : map see there.items ≡ unwrap_or (list_at (val_at k) (seen old.entries)) [] =
       ap stored_list found ∙ stored empty none (get code_cmp old k) ∙ ap (λ o. unwrap_or o []) (sym (list_at-map old.entries k)) in
-      subst (λ (m : ValueMap T). Grows (map_view see old) (map_view see m) (val_at k ∷ []) (see x)) (sym is)
-      (pushed old.entries (written now).entries k now (see x) (writes now)
-      (ap (map see) pushed_to ∙ map_push see there.items x ∙ ap (λ ps. ps ++ see x ∷ []) before) (orders now))
+      let items : stored_list now ≡ unwrap_or (list_at (val_at k) (seen old.entries)) [] ++ see x ∷ [] =
+      ap (map see) pushed_to ∙ map_push see there.items x ∙ ap (λ ps. ps ++ see x ∷ []) before in
+      subst (λ (m : ValueMap T). Grows see old m (val_at k ∷ []) (see x)) (sym is) (record {
+        lists = grown_at (seen old.entries) (seen (written now).entries) (val_at k) (see x) (stored_list now)
+            (λ v. ap (λ l. list_at v (seen l)) (writes now) ∙ ap (list_at v) (insert_entry-seen val_at stored_list val_cmp old.entries k now) ∙ lookup-insert_entry val_cmp_total (seen old.entries) (val_at k) (stored_list now) v)
+            items;
+        ascend = λ _. seen_ascend (written now).entries (orders now);
+      })
 
 -- values that ascend get the item in turn: these are left of them
 pub record IsGrowing {V : Type 0} (old now : List (Group V)) (left all : List Val) (p : V) : Type 0 where
@@ -91,18 +86,19 @@ module _ {V : Type 0} where
   pub growing_none : (gs : List (Group V)) (vals : List Val) (p : V) → IsStrictlySortedBy val_cmp vals → IsGrowing gs gs vals vals p
   growing_none gs vals p sorted = record { lists = λ v. refl; ascend = λ a. a; sorted = sorted }
 
-  pub growing_all : (old now : List (Group V)) (all : List Val) (p : V) → IsGrowing old now [] all p → Grows old now all p
-  growing_all old now all p growing = record { lists = growing.lists; ascend = growing.ascend }
+  pub growing_all : {T : Type 0} (see : T → V) (old now : ValueMap T) (all : List Val) (p : V) → IsGrowing (map_view see old) (map_view see now) [] all p → Grows see old now all p
+  growing_all see old now all p growing = record { lists = growing.lists; ascend = growing.ascend }
 
   grown_both : (b c : Bool) (p : V) (o : Option (List V)) → (b ≡ true → c ≡ false) → grown c p (grown (b || false) p o) ≡ grown (b || c) p o
   grown_both true true p o h = absurd (true≢false (h refl))
   grown_both true false p o h = refl
   grown_both false c p o h = refl
 
-  pub growing_more : (old now new : List (Group V)) (k : Val) (left all : List Val) (p : V) → IsGrowing old now (k ∷ left) all p → Grows now new (k ∷ []) p → IsGrowing old new left all p
+  pub growing_more : {T : Type 0} (see : T → V) (old : List (Group V)) (now new : ValueMap T) (k : Val) (left all : List Val) (p : V) → IsGrowing old (map_view see now) (k ∷ left) all p
+      → Grows see now new (k ∷ []) p → IsGrowing old (map_view see new) left all p
   unfolding IsStrictlySortedBy
-  growing_more old now new k left all p growing grows = record {
-    lists = λ v. ap (grown (has_val v left) p) (grows.lists v) ∙ grown_both (same_val v k) (has_val v left) p (list_at v now) (first_once k left growing.sorted.0 v) ∙ growing.lists v;
+  growing_more see old now new k left all p growing grows = record {
+    lists = λ v. ap (grown (has_val v left) p) (grows.lists v) ∙ grown_both (same_val v k) (has_val v left) p (list_at v (map_view see now)) (first_once k left growing.sorted.0 v) ∙ growing.lists v;
     ascend = λ a. grows.ascend (growing.ascend a);
     sorted = growing.sorted.1;
   }
@@ -114,9 +110,9 @@ module _ {V : Type 0} where
   grown_any false p [] = refl
   grown_any false p (x ∷ xs) = ap (λ ys. Some (x ∷ ys)) (sym (append-nil xs))
 
-  pub holds_more : (f g : Val → List V) (p : V) (old new : List (Group V)) (vals : List Val)
-      → Holds f old → Grows old new vals p → ((v : Val) → g v ≡ f v ++ cond (has_val v vals) (p ∷ []) []) → Holds g new
-  holds_more f g p old new vals holds grows more = record {
+  pub holds_more : {T : Type 0} (see : T → V) (f g : Val → List V) (p : V) (old new : ValueMap T) (vals : List Val)
+      → Holds f (map_view see old) → Grows see old new vals p → ((v : Val) → g v ≡ f v ++ cond (has_val v vals) (p ∷ []) []) → Holds g (map_view see new)
+  holds_more see f g p old new vals holds grows more = record {
     lists = λ v. grows.lists v ∙ ap (grown (has_val v vals) p) (holds.lists v) ∙ grown_any (has_val v vals) p (f v) ∙ ap if_any (sym (more v));
     ascend = grows.ascend holds.ascend;
   }

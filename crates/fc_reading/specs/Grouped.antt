@@ -35,9 +35,9 @@ abbrev pub Ascend : {V : Type 0} → List (Group V) → Type 0
 Ascend gs = IsStrictlySortedBy val_cmp (keys_of gs)
 
 -- each of the values has one more item, and every other value has what it had
-pub record Grows {V : Type 0} (old new : List (Group V)) (vals : List Val) (p : V) : Type 0 where
-  pub lists : (v : Val) → list_at v new ≡ grown (has_val v vals) p (list_at v old)
-  pub ascend : Ascend old → Ascend new
+pub record Grows {T V : Type 0} (see : T → V) (old new : ValueMap T) (vals : List Val) (p : V) : Type 0 where
+  pub lists : (v : Val) → list_at v (map_view see new) ≡ grown (has_val v vals) p (list_at v (map_view see old))
+  pub ascend : Ascend (map_view see old) → Ascend (map_view see new)
 
 -- a list, unless it is empty
 abbrev pub if_any : {V : Type 0} → List V → Option (List V)

@@ -26,7 +26,7 @@ fn push_shard<'d>(
     val: &'d Val,
     shard: u32,
 ) -> Result<(), WantMemory>
-    ensures { OnOk result (Grows (map_view (λ i. i) by_value.old) (map_view (λ i. i) by_value.new) (val_view val.now ∷ []) shard) }
+    ensures { OnOk result (Grows (λ i. i) by_value.old by_value.new (val_view val.now ∷ []) shard) }
 {
     let shards = by_value.entry(val)?.or_insert(Vec::new(alloc));
     shards.push(shard)?;
@@ -41,7 +41,7 @@ fn push_for_each<'d>(
     shard: u32,
 ) -> Result<(), WantMemory>
     requires { IsStrictlySortedBy definition.val_cmp (vals_view vals.now) }
-    ensures { OnOk result (Grows (map_view (λ i. i) by_value.old) (map_view (λ i. i) by_value.new) (vals_view vals.now) shard) }
+    ensures { OnOk result (Grows (λ i. i) by_value.old by_value.new (vals_view vals.now) shard) }
 {
     for val in vals {
         push_shard(alloc, by_value, *val, shard)?;

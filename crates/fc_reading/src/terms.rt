@@ -149,6 +149,27 @@ fn counted_on<R: BucketReading>(
     })
 }
 
+// The same candidates, counted over these shards.
+fn all_counted_on<R: BucketReading>(
+    alloc: Global,
+    reading: &R,
+    stats: &[Stat],
+    shards: &[u32],
+    candidates: Vec<Candidate<R::Bucket>>,
+) -> Result<Vec<Candidate<R::Bucket>>, WantMemory>
+    ensures vals { IfOk result (λ list. candidate_vals list.items ≡ candidate_vals candidates.items) }
+    ensures on { IfOk result (λ list. (t : definition.Terms) (inner : definition.Nodes) (Y : R.Over) (counted : value.Val → List ℕ)
+        → definition.stats_of inner ≡ map stat_view stats.now
+        → All (IsOn (R.reading reading.now) t inner shards.now Y R.held counted) candidates.items
+        → All (IsOn (R.reading reading.now) t inner shards.now Y R.held (λ v. shards.now)) list.items) }
+{
+    let mut list = Vec::with_capacity(alloc, candidates.len())?;
+    for candidate in candidates {
+        list.push(counted_on(alloc, reading, stats, shards, candidate)?)?;
+    }
+    Ok(list)
+}
+
 // The candidates whose rank is low enough, each counted over all shards.
 fn refined<R: BucketReading>(
     alloc: Global,
@@ -168,10 +189,7 @@ fn refined<R: BucketReading>(
 {
     let bound = rank_bound(terms.offset, terms.limit, terms.overrefine);
     let front = below_rank(terms.sort, bound, candidates)?;
-    let mut list = Vec::new(alloc);
-    for candidate in front {
-        list.push(counted_on(alloc, reading, stats, shards, candidate)?)?;
-    }
+    let list = all_counted_on(alloc, reading, stats, shards, front)?;
     Ok(list)
 }
 
@@ -197,7 +215,8 @@ fn chosen<R: BucketReading>(
 {
     let all = candidates(alloc, reading, node, terms, stats, shards, domain)?;
     if terms.refine && terms.limit.is_some() {
-        refined(alloc, reading, terms, stats, shards, all)
+        let refined = refined(alloc, reading, terms, stats, shards, all)?;
+        Ok(refined)
     } else {
         Ok(all)
     }
@@ -242,7 +261,8 @@ fn printed<R: BucketReading>(
 {
     let chosen = chosen(alloc, reading, node, terms, stats, shards, domain)?;
     let kept = with_count(alloc, terms.mincount, chosen)?;
-    page(terms.sort, terms.offset, terms.limit, kept)
+    let page = page(terms.sort, terms.offset, terms.limit, kept)?;
+    Ok(page)
 }
 
 // Their buckets.

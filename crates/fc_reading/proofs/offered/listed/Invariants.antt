@@ -5,4 +5,4 @@ use Rattle.fc_reading.proofs.Growing.{seen}
 use Rattle.fc_reading.proofs.offered.listed.Given as goal
 
 abbrev pub invariant-loop-val : goal.invariant-loop-val
-invariant-loop-val l = map offered_view l.list.items ++ seen (λ i. i) l.val-iterator ≡ map_view (λ i. i) l.by_value.entry
+invariant-loop-val l = map offered_view l.list.items ++ seen (λ i. i) l.val-iterator ≡ map_view (λ i. i) l.fn.by_value

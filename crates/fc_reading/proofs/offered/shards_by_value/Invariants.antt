@@ -5,6 +5,6 @@ use Rattle.fc_reading.specs.FacetNode.{vals_view}
 use Rattle.fc_reading.specs.Grouped.{Holds, map_view}
 use Rattle.fc_reading.proofs.offered.shards_by_value.Given as goal
 
-abbrev pub invariant-loop-at-vals : goal.invariant-loop-at-vals
-invariant-loop-at-vals l = (f : ℕ → List Val) → map (λ list. vals_view list.items) l.offers ≡ map f l.shards
-    → Holds (λ v. filter (λ i. has_val v (f i)) (take l.at-vals-index l.shards)) (map_view (λ i. i) l.by_value)
+abbrev pub invariant-loop-at : goal.invariant-loop-at
+invariant-loop-at l = (f : ℕ → List Val) → map (λ list. vals_view list.items) l.offers ≡ map f l.shards
+    → Holds (λ v. filter (λ i. has_val v (f i)) (take l.at l.shards)) (map_view (λ i. i) l.by_value)
