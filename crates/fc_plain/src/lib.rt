@@ -3,7 +3,8 @@
 #![tactic(auto)]
 
 mod keep;
+mod matching;
 mod place;
-mod reply;
-
-pub use reply::reply;
+pub mod reply;
+mod shards;
+mod statistics;
