@@ -6,6 +6,7 @@ use Rattle.std.specs.Cmp.{IsTotalOrder}
 use Rattle.std.specs.Ordering.{is_eq, is_gt}
 use Rattle.std.specs.declared.cmp.Ordering.{Ordering}
 use Rattle.std.specs.declared.cmp.Ordering.TheVariants.{Less, Equal, Greater}
+use Rattle.fc_plain.specs.BlockOrder.{AreFrom, Ascends}
 use Rattle.std.proofs.Common.{refl, ap, ap₂, sym, ◌∙◌}
 use Rattle.std.proofs.lemmas.Cmp.{alike_right}
 
@@ -13,15 +14,6 @@ module _ {K X : Type 0} (R : K → K → Ordering) (key : X → K) where
   -- the member has the key
   abbrev pub has : K → X → Bool
   has k x = is_eq (R (key x) k)
-
-  -- each member's key is the key or stands behind it
-  abbrev pub AreFrom : K → List X → Type 0
-  AreFrom k xs = AllByRecursion (λ x. is_gt (R k (key x)) ≡ false) xs
-
-  -- each member's key is that of every later one or stands before it
-  abbrev pub Ascends : List X → Type 0
-  Ascends [] = Unit {0}
-  Ascends (x ∷ xs) = AreFrom (key x) xs × Ascends xs
 
   module _ (o : IsTotalOrder R) where
     -- a key before one that stands no later
@@ -37,7 +29,7 @@ module _ {K X : Type 0} (R : K → K → Ordering) (key : X → K) where
     turned a b h = ap is_eq (o.antisymm b a) ∙ rw h refl
 
     -- no member from a later key on has the key
-    none : (k a : K) (xs : List X) → R k a ≡ Less → AreFrom a xs → AllByRecursion (λ x. has k x ≡ false) xs
+    none : (k a : K) (xs : List X) → R k a ≡ Less → AreFrom R key a xs → AllByRecursion (λ x. has k x ≡ false) xs
     none k a [] h from = tt
     none k a (x ∷ xs) h from = (turned k (key x) (below k a (key x) h from.0), none k a xs h from.1)
 
@@ -84,13 +76,13 @@ module _ {K X : Type 0} (R : K → K → Ordering) (key : X → K) where
     or_false false = refl
 
     -- key by key, and all at once
-    pub gathered : (ks : List K) → IsStrictlySortedBy R ks → (xs : List X) → Ascends xs
+    pub gathered : (ks : List K) → IsStrictlySortedBy R ks → (xs : List X) → Ascends R key xs
         → flat_map (λ k. filter (has k) xs) ks ≡ filter (λ x. list_any (λ k. has k x) ks) xs
     unfolding IsStrictlySortedBy
     gathered [] sorted xs up = none_left xs
     gathered (k ∷ ks) sorted xs up = go (gathered ks sorted.1) xs up
       where
-        go : ((ys : List X) → Ascends ys → flat_map (λ k. filter (has k) ys) ks ≡ filter (λ x. list_any (λ k. has k x) ks) ys) → (xs : List X) → Ascends xs → filter (has k) xs ++ flat_map (λ k. filter (has k) xs) ks ≡ filter (λ x. has k x || list_any (λ k. has k x) ks) xs
+        go : ((ys : List X) → Ascends R key ys → flat_map (λ k. filter (has k) ys) ks ≡ filter (λ x. list_any (λ k. has k x) ks) ys) → (xs : List X) → Ascends R key xs → filter (has k) xs ++ flat_map (λ k. filter (has k) xs) ks ≡ filter (λ x. has k x || list_any (λ k. has k x) ks) xs
         go rest [] up = nothing ks
         go rest (x ∷ xs) up = at (go rest xs up.1) (R (key x) k) refl
           where

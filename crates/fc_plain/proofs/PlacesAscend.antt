@@ -7,15 +7,10 @@ use Rattle.std.proofs.Common.{refl, arith}
 use Rattle.std.proofs.lemmas.Cmp.{nat_cmp_total, on_total, then_total}
 use Rattle.fc_spec.specs.documents.Document.{Document, Block}
 use Rattle.fc_spec.specs.documents.World.{World, Place, places, places_from, shard_places, block_places}
-use Rattle.fc_plain.specs.Pairs.{pair_cmp}
-use Rattle.fc_plain.proofs.Gathered.{AreFrom, Ascends}
+use Rattle.fc_plain.specs.BlockOrder.{pair_cmp, block_of, Ascends, StandInOrder}
 
 pub pair_cmp_total : IsTotalOrder pair_cmp
 pair_cmp_total = then_total (on_total (λ (x : ℕ × ℕ). x.0) nat_cmp_total) (on_total (λ (x : ℕ × ℕ). x.1) nat_cmp_total)
-
--- the shard and the block of a place
-abbrev pub block_of : Place → ℕ × ℕ
-block_of p = (p.shard, p.block)
 
 pub same_pair : (a b s t : ℕ) → is_eq (pair_cmp (a, b) (s, t)) ≡ ((a == s) && (b == t))
 same_pair a b s t = grind (arith)
@@ -88,5 +83,5 @@ world_ascends s (blocks ∷ rest) = joined_ascend (λ p. (p.shard ≡ s) × (0 �
     (λ x y h k. earlier_shard x.shard x.block y.shard y.block (omega (arith, h.0, k)))
     (of_shard s 0 0 blocks) (of_world (s + 1) rest) (shard_ascends s 0 0 blocks) (world_ascends (s + 1) rest)
 
-pub places_ascend : (W : World) → Ascends pair_cmp block_of (places W)
+pub places_ascend : (W : World) → StandInOrder (places W)
 places_ascend W = world_ascends 0 W

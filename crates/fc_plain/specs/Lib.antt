@@ -1,3 +1,4 @@
+pub mod BlockOrder
 pub mod Fitting
 pub mod Limits
 pub mod PlaceView

@@ -2,9 +2,15 @@
 //! and counting.
 #![tactic(auto)]
 
+mod base;
+mod blocks;
+mod domain;
 mod keep;
 mod matching;
+mod numbers;
 mod place;
+mod places;
 pub mod reply;
+mod search;
 mod shards;
 mod statistics;

@@ -8,11 +8,26 @@ use crate::place::Place;
 use fc_base::WantMemory;
 use std::alloc::Global;
 
-// Whether the shard is among these.
-fn is_among(shards: &[u32], shard: u32) -> bool
-    ensures { result ≡ list_any (λ i. i == shard) shards.now }
+// A shard, and whether it is among some.
+#[derive(Clone, Copy)]
+struct Looked {
+    shard: u32,
+    is_among: bool,
+}
+
+// The shard, looked up among these unless it is the one that was looked up last.
+fn look_up(shards: &[u32], shard: u32, last: Looked) -> Looked
+    requires { last.is_among ≡ list_any (λ i. i == last.shard) shards.now }
+    ensures shard { result.shard ≡ shard }
+    ensures is_among { result.is_among ≡ list_any (λ i. i == shard) shards.now }
 {
-    shards.contains(&shard)
+    if last.shard == shard {
+        return last;
+    }
+    Looked {
+        shard,
+        is_among: shards.contains(&shard),
+    }
 }
 
 /// The places on some shards, in their order.
@@ -25,15 +40,13 @@ pub(crate) fn on_shards<'a>(
         ≡ definition.on_shards shards.now (places_view places.now)) }
 {
     let mut found = Vec::new(alloc);
-    // the shard that was looked up last, and whether it is among them
-    let mut shard = 0;
-    let mut is_on = is_among(shards, shard);
+    let mut last = Looked {
+        shard: 0,
+        is_among: shards.contains(&0),
+    };
     for place in places {
-        if place.shard != shard {
-            shard = place.shard;
-            is_on = is_among(shards, shard);
-        }
-        if is_on {
+        last = look_up(shards, place.shard, last);
+        if last.is_among {
             found.push(*place)?;
         }
     }

@@ -6,6 +6,6 @@ use Rattle.fc_plain.proofs.shards.on_shards.Given as goal
 
 abbrev pub invariant-loop-place : goal.invariant-loop-place
 invariant-loop-place l = record {
-  known : l.is_on ≡ list_any (λ i. i == l.shard) l.shards;
+  known : l.last.is_among ≡ list_any (λ i. i == l.last.shard) l.shards;
   found : places_view l.found.items ++ on_shards l.shards (places_view (drop l.place-index l.places)) ≡ on_shards l.shards (places_view l.places);
 }
