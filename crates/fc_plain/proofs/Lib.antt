@@ -1,5 +1,6 @@
 pub mod BlockPlaces
 pub mod Cut
+pub mod CutPlaces
 pub mod Fitting
 pub mod FittingDomains
 pub mod Gathered

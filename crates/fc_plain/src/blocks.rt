@@ -107,7 +107,7 @@ pub(crate) fn kept_in_blocks<'a, T: Test>(
         (places_view places.now)) }
 {
     let mut found = Vec::new(alloc);
-    for block in blocks {
+    for block in blocks.iter() {
         push_kept(test, in_block(places, block.0, block.1), &mut found)?;
     }
     Ok(found)

@@ -1,8 +1,8 @@
 // The places on some shards.
-ghost use Rattle.std.specs.Prelude.{◌≡◌, ◌==◌, IfOk};
+ghost use Rattle.std.specs.Prelude.{◌≡◌, ◌==◌, ◌++◌, ◌∷◌, [], IfOk, OnOk, if◌then◌else◌};
 ghost use Rattle.std.specs.List.{list_any};
 ghost use Rattle.fc_spec.specs.documents.World as definition;
-ghost use Rattle.fc_plain.specs.PlaceView.{places_view};
+ghost use Rattle.fc_plain.specs.PlaceView.{place_view, places_view};
 
 use crate::place::Place;
 use fc_base::WantMemory;
@@ -30,6 +30,21 @@ fn look_up(shards: &[u32], shard: u32, last: Looked) -> Looked
     }
 }
 
+// Puts a place behind those so far, where it passes.
+fn push_where<'a>(
+    passes: bool,
+    place: Place<'a>,
+    found: &mut Vec<Place<'a>>,
+) -> Result<(), WantMemory>
+    ensures { OnOk result (places_view found.new.items ≡ places_view found.old.items
+        ++ (if passes then place_view place ∷ [] else [])) }
+{
+    if passes {
+        found.push(place)?;
+    }
+    Ok(())
+}
+
 /// The places on some shards, in their order.
 pub(crate) fn on_shards<'a>(
     alloc: Global,
@@ -46,9 +61,7 @@ pub(crate) fn on_shards<'a>(
     };
     for place in places {
         last = look_up(shards, place.shard, last);
-        if last.is_among {
-            found.push(*place)?;
-        }
+        push_where(last.is_among, *place, &mut found)?;
     }
     Ok(found)
 }
