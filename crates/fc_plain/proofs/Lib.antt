@@ -6,4 +6,5 @@ pub mod FittingDomains
 pub mod Gathered
 pub mod Longs
 pub mod Moved
+pub mod NoFilters
 pub mod PlacesAscend

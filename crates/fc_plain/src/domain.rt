@@ -131,6 +131,23 @@ fn start<'a>(
     base(alloc, search, exclude)
 }
 
+// The places that match every one of the filters.
+#[tactic(auto, using(crate::proofs::NoFilters::unfiltered))]
+fn filtered<'a>(
+    alloc: Global,
+    filters: &[Query],
+    places: Vec<Place<'a>>,
+) -> Result<Vec<Place<'a>>, WantMemory>
+    ensures { IfOk result (λ found. places_view found.items
+        ≡ definition.filtered (map query_view filters.now) (places_view places.entry.items)) }
+{
+    if filters.is_empty() {
+        return Ok(places);
+    }
+    let found = kept(alloc, &MatchingAll(filters), &places)?;
+    Ok(found)
+}
+
 /// The places of the domain that a change makes of these.
 pub(crate) fn domain<'a>(
     alloc: Global,
@@ -145,6 +162,5 @@ pub(crate) fn domain<'a>(
 {
     let first = start(alloc, search, &change.exclude, places)?;
     let moved = moved(alloc, search, &change.block, first)?;
-    let found = kept(alloc, &MatchingAll(&change.filters), &moved)?;
-    Ok(found)
+    filtered(alloc, &change.filters, moved)
 }

@@ -37,7 +37,7 @@ fn push_where<'a>(
     found: &mut Vec<Place<'a>>,
 ) -> Result<(), WantMemory>
     ensures { OnOk result (places_view found.new.items ≡ places_view found.old.items
-        ++ (if passes then place_view place ∷ [] else [])) }
+        ++ (if passes then place_view place.entry ∷ [] else [])) }
 {
     if passes {
         found.push(place)?;
