@@ -7,4 +7,5 @@ pub mod Gathered
 pub mod Longs
 pub mod Moved
 pub mod NoFilters
+pub mod OnShards
 pub mod PlacesAscend

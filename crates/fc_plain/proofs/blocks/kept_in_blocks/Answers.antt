@@ -13,4 +13,4 @@ returns g c =
     let found = places_view c.loop-block.found.items in
     let none : c.loop-block.block-iterator ≡ [] = c.in-None.ensures.steps.0 in
     sym (append-nil found) ∙ ap (λ ks. found ++ flat_map f ks) (sym none) ∙ c.loop-block.invariant
-    ∙ of_blocks ps c.requires.order test c.args.blocks.now.keys c.iter-block-iterator.ensures.ordered
+    ∙ of_blocks ps c.requires.order test c.args.blocks.now.keys c.iter-block-items.ensures.ordered
