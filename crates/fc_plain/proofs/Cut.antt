@@ -4,7 +4,7 @@ use Rattle.std.specs.List.{AllByRecursion, filter, slice_index_or}
 use Rattle.std.specs.List.Sorted.{IsPartitionedBy, IsPartitionPoint}
 use Rattle.std.specs.Ordering.{is_gt}
 use Rattle.std.specs.declared.cmp.Ordering.{Ordering}
-use Rattle.std.proofs.Common.{refl, ap, sym, ◌∙◌, arith}
+use Rattle.std.proofs.Common.{refl, ap, arith}
 use Rattle.fc_plain.specs.BlockOrder.{AreFrom, Ascends}
 
 module _ {X : Type 0} (p : X → Bool) where

@@ -1,18 +1,17 @@
 -- Which places have statistics that fit.
-use Rattle.std.specs.Prelude.{◌≡◌, ℕ, zero, suc, ◌+◌, ◌≤◌, List, [], ◌∷◌, ◌++◌, length, map, Bool, not, nat_abs, nat_le, sum_by, IsTrue}
+use Rattle.std.specs.Prelude.{◌≡◌, ℕ, zero, suc, ◌+◌, ◌≤◌, List, [], ◌∷◌, ◌++◌, length, map, Bool, not, nat_abs, sum_by}
 use Rattle.std.specs.List.{filter, slice_index_or}
-use Rattle.std.proofs.Common.{refl, ap, ap₂, sym, subst, ◌∙◌, arith}
+use Rattle.std.proofs.Common.{refl, ap, ap₂, sym, ◌∙◌, arith}
 use Rattle.std.proofs.lemmas.List.{length-map, map-append}
 use Rattle.std.proofs.lemmas.List.Concat.{length-flat_map}
 use Rattle.std.proofs.lemmas.List.Elements.{filter_map-append}
 use Rattle.std.proofs.lemmas.List.Filters.{length-filter_both, sum_by-filter_both}
 use Rattle.std.proofs.lemmas.List.Sums.{sum_by-append, sum_by-cons, sum_by-le-sum_by}
 use Rattle.fc_spec.specs.documents.Columns.{as_long, longs_in}
-use Rattle.fc_spec.specs.documents.Document.{Document, Block, values_of}
+use Rattle.fc_spec.specs.documents.Document.{Document, values_of}
 use Rattle.fc_spec.specs.documents.Totals.{documents_in, value_count}
 use Rattle.fc_spec.specs.documents.World.{World, Place, places, places_from, shard_places}
 use Rattle.fc_spec.specs.requests.Statistics.{pair_values, longs_of}
-use Rattle.fc_spec.specs.scripts.ScriptTotals.{absolute_total}
 use Rattle.fc_spec.specs.words.Lists.{joined}
 use Rattle.fc_spec.proofs.documents.BlockTotals.{documents_in-append}
 use Rattle.fc_spec.proofs.documents.PlacedDocuments.{documents_at, documents_at-shard}
@@ -71,11 +70,21 @@ values_at_most field ds = sum_by-le-sum_by (λ (d : Document). length (values_of
 pub places_fit : (W : World) → IsWithinLimits W → StatisticsFit (places W)
 places_fit W limits = record {
   places = omega (arith, few.0, length-map (places W) (λ (p : Place). p.document), ap length at);
-  pairs = λ field. omega (arith, few.1, pair_count field (places W), sum_by-map (λ (d : Document). length (values_of d field)) (λ (p : Place). p.document) (places W),
-      ap (sum_by (λ (d : Document). length (values_of d field))) at, values_at_most field (documents_in (joined W)));
-  sums = λ field. omega (arith, limits.sums field, absolute_sum field (places W),
-      sum_by-map (λ (d : Document). sum_by nat_abs (longs_in (values_of d field))) (λ (p : Place). p.document) (places W),
-      ap (sum_by (λ (d : Document). sum_by nat_abs (longs_in (values_of d field)))) at);
+  pairs = λ field. omega (
+    arith,
+    few.1,
+    pair_count field (places W),
+    sum_by-map (λ (d : Document). length (values_of d field)) (λ (p : Place). p.document) (places W),
+    ap (sum_by (λ (d : Document). length (values_of d field))) at,
+    values_at_most field (documents_in (joined W)),
+  );
+  sums = λ field. omega (
+    arith,
+    limits.sums field,
+    absolute_sum field (places W),
+    sum_by-map (λ (d : Document). sum_by nat_abs (longs_in (values_of d field))) (λ (p : Place). p.document) (places W),
+    ap (sum_by (λ (d : Document). sum_by nat_abs (longs_in (values_of d field)))) at,
+  );
 }
   where
     at : documents_at (places W) ≡ documents_in (joined W)

@@ -1,5 +1,5 @@
 -- The integers at places, place after place, added up and compared.
-use Rattle.std.specs.Prelude.{◌≡◌, ℕ, suc, ◌+◌, ◌<◌, ◌≤◌, ℤ, ◌+ℤ◌, nat_abs, List, [], ◌∷◌, ◌++◌, Option, None, Some, length, drop, sum_by}
+use Rattle.std.specs.Prelude.{◌≡◌, ℕ, suc, ◌+◌, ◌<◌, ◌≤◌, ℤ, ◌+ℤ◌, nat_abs, List, ◌∷◌, ◌++◌, Option, None, Some, length, drop, sum_by}
 use Rattle.std.proofs.Common.{refl, ap, sym, ◌∙◌, arith, add-one, drop-cons, get_or}
 use Rattle.std.proofs.lemmas.Int.{ints, clamps}
 use Rattle.std.proofs.lemmas.List.Elements.{filter_map-append}

@@ -1,8 +1,8 @@
 -- The places of a world ascend by their shards and blocks.
-use Rattle.std.specs.Prelude.{◌≡◌, ℕ, ◌+◌, ◌<◌, ◌≤◌, List, [], ◌∷◌, ◌++◌, length, Bool, false, ◌&&◌, ◌==◌}
+use Rattle.std.specs.Prelude.{◌≡◌, ℕ, ◌+◌, ◌<◌, ◌≤◌, List, [], ◌∷◌, ◌++◌, length, false, ◌&&◌, ◌==◌}
 use Rattle.std.specs.Cmp.{IsTotalOrder}
 use Rattle.std.specs.List.{AllByRecursion}
-use Rattle.std.specs.Ordering.{nat_cmp, is_eq, is_gt}
+use Rattle.std.specs.Ordering.{is_eq, is_gt}
 use Rattle.std.proofs.Common.{refl, arith}
 use Rattle.std.proofs.lemmas.Cmp.{nat_cmp_total, on_total, then_total}
 use Rattle.fc_spec.specs.documents.Document.{Document, Block}
@@ -51,7 +51,7 @@ block_ascends : (s b n : ℕ) (ds : List Document) (parent : Document) → Ascen
 block_ascends s b n [] parent = (tt, tt)
 block_ascends s b n (d ∷ ds) parent = (
   all_weaker (λ (p : Place). (p.shard ≡ s) × (p.block ≡ b)) (λ p. is_gt (pair_cmp (s, b) (block_of p)) ≡ false) (block_places s b (n + 1) ds parent)
-    (λ p h. own_shard s b p.shard p.block (omega (arith, h.0)) (omega (arith, h.1))) (of_block s b (n + 1) ds parent),
+      (λ p h. own_shard s b p.shard p.block (omega (arith, h.0)) (omega (arith, h.1))) (of_block s b (n + 1) ds parent),
   block_ascends s b (n + 1) ds parent,
 )
 

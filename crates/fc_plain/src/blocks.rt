@@ -14,10 +14,7 @@ use std::alloc::Global;
 use std::collections::BTreeSet;
 
 /// The shards and numbers of the blocks of places.
-pub(crate) fn blocks_of(
-    alloc: Global,
-    places: &[Place],
-) -> Result<BTreeSet<(u32, u32)>, WantMemory>
+pub(crate) fn blocks_of(alloc: Global, places: &[Place]) -> Result<BTreeSet<(u32, u32)>, WantMemory>
     ensures { IfOk result (λ blocks. (s b : ℕ) → contains pair_cmp blocks (record { 0 = s; 1 = b })
         ≡ list_any (λ (y : definition.Place). (y.shard == s) && (y.block == b))
         (places_view places.now)) }
@@ -62,11 +59,7 @@ fn up_to_block<'s, 'a>(places: &'s [Place<'a>], shard: u32, block: u32) -> &'s [
 }
 
 /// The places of a block, in their order; none where there is no such block.
-pub(crate) fn in_block<'s, 'a>(
-    places: &'s [Place<'a>],
-    shard: u32,
-    block: u32,
-) -> &'s [Place<'a>]
+pub(crate) fn in_block<'s, 'a>(places: &'s [Place<'a>], shard: u32, block: u32) -> &'s [Place<'a>]
     requires { StandInOrder (places_view places.now) }
     ensures { places_view result.now
         ≡ filter (λ p. (p.shard == shard) && (p.block == block)) (places_view places.now) }

@@ -1,9 +1,9 @@
-use Rattle.std.proofs.Common.{◌≡◌, ◌∙◌, ◌+◌, ◌<◌, ℕ, suc, ◌∷◌, Bool, true, cond, ◌||◌, ◌&&◌, ◌==◌, ap, sym, add-one, drop, drop-cons, length, map}
+use Rattle.std.proofs.Common.{◌≡◌, ◌∙◌, ◌+◌, ◌<◌, suc, ◌∷◌, Bool, true, cond, ◌||◌, ◌&&◌, ◌==◌, ap, sym, add-one, drop, drop-cons, length}
 use Rattle.std.specs.BTreeSet.{contains}
 use Rattle.std.specs.List.{list_any}
 use Rattle.fc_spec.specs.documents.World as definition
 use Rattle.fc_plain.specs.BlockOrder.{pair_cmp}
-use Rattle.fc_plain.specs.PlaceView.{place_view, places_view}
+use Rattle.fc_plain.specs.PlaceView.{places_view}
 use Rattle.fc_plain.proofs.BlockPlaces.{moved}
 use Rattle.fc_plain.proofs.PlacesAscend.{same_pair}
 use Rattle.fc_plain.proofs.blocks.blocks_of.Goals as goal

@@ -1,4 +1,4 @@
-use Rattle.std.proofs.Common.{◌≡◌, ◌∙◌, ℕ, ap, drop, rules}
+use Rattle.std.proofs.Common.{◌∙◌, ℕ, ap, rules}
 use Rattle.std.proofs.lemmas.List.{take_rest}
 use Rattle.std.proofs.lemmas.List.Sorted.{IsPartitionPoint-from_clause}
 use Rattle.fc_plain.specs.PlaceView.{place_view, places_view}

@@ -1,4 +1,4 @@
-use Rattle.std.proofs.Common.{◌≡◌, ℕ, rules}
+use Rattle.std.proofs.Common.{ℕ, rules}
 use Rattle.std.proofs.lemmas.List.Sorted.{IsPartitionPoint-from_clause}
 use Rattle.fc_plain.specs.PlaceView.{place_view}
 use Rattle.fc_plain.proofs.CutPlaces.{no_later, no_later_partitioned, up_to_cut}

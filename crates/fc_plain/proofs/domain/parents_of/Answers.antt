@@ -1,4 +1,4 @@
-use Rattle.std.proofs.Common.{◌≡◌, ◌∙◌, ℕ, Bool, ap, subst, sym, ◌&&◌}
+use Rattle.std.proofs.Common.{◌∙◌, ℕ, Bool, ap, subst, sym, ◌&&◌}
 use Rattle.std.specs.BTreeSet.{contains}
 use Rattle.std.specs.List.{filter}
 use Rattle.fc_query.specs.QueryView.{query_view}

@@ -1,4 +1,4 @@
-use Rattle.std.proofs.Common.{◌≡◌, ◌≤◌, ◌+◌, ◌++◌, drop, length}
+use Rattle.std.proofs.Common.{◌≡◌, ◌≤◌, ◌++◌, drop, length}
 use Rattle.fc_spec.specs.documents.Totals.{documents_in}
 use Rattle.fc_spec.specs.documents.World.{places, places_from}
 use Rattle.fc_spec.specs.words.Lists.{joined}

@@ -1,4 +1,4 @@
-use Rattle.std.proofs.Common.{◌≡◌, ◌∙◌, ◌+◌, ◌==◌, ap, drop, sym}
+use Rattle.std.proofs.Common.{◌∙◌, ◌+◌, ◌==◌, ap, drop, sym}
 use Rattle.std.specs.List.{list_any}
 use Rattle.fc_plain.specs.PlaceView.{place_view, places_view}
 use Rattle.fc_plain.proofs.Longs.{split}

@@ -1,4 +1,4 @@
-use Rattle.std.proofs.Common.{◌≡◌, ◌∙◌, ◌==◌, ◌&&◌, ap, subst, sym}
+use Rattle.std.proofs.Common.{◌∙◌, ◌==◌, ◌&&◌, ap, subst, sym}
 use Rattle.std.specs.List.{filter}
 use Rattle.fc_spec.specs.documents.World.{Place}
 use Rattle.fc_plain.specs.BlockOrder.{StandInOrder}

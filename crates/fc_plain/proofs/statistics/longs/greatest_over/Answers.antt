@@ -1,4 +1,4 @@
-use Rattle.std.proofs.Common.{◌≡◌, ◌+◌, ◌∷◌, ap, drop}
+use Rattle.std.proofs.Common.{◌+◌, ap, drop}
 use Rattle.fc_plain.specs.PlaceView.{place_view, places_view}
 use Rattle.fc_plain.proofs.Longs.{split, greatest_first}
 use Rattle.fc_plain.proofs.statistics.longs.greatest_over.Goals as goal

@@ -1,4 +1,4 @@
-use Rattle.std.proofs.Common.{◌≡◌, ◌+◌, ◌∷◌, ap, drop}
+use Rattle.std.proofs.Common.{◌+◌, ap, drop}
 use Rattle.fc_plain.specs.PlaceView.{place_view, places_view}
 use Rattle.fc_plain.proofs.Longs.{split, least_first}
 use Rattle.fc_plain.proofs.statistics.longs.least_over.Goals as goal

@@ -1,9 +1,6 @@
-use Rattle.std.proofs.Common.{◌≡◌, ◌+◌, ◌≤◌, ◌∷◌, ap, arith, drop, map, to_z, of_z, w64}
-use Rattle.std.specs.Prelude.{nat_abs, sum_by, ◌+ℤ◌}
+use Rattle.std.proofs.Common.{◌≡◌, ◌+◌, ap, arith, drop, map, to_z, of_z, w64}
 use Rattle.std.proofs.lemmas.Int.{ints}
 use Rattle.fc_base.specs.View.{val_view}
-use Rattle.fc_spec.specs.documents.Columns.{longs_in}
-use Rattle.fc_spec.specs.requests.Statistics.{longs_of, total_of}
 use Rattle.fc_spec.specs.scripts.ScriptTotals.{total_limit}
 use Rattle.fc_plain.specs.PlaceView.{place_view, places_view}
 use Rattle.fc_plain.proofs.Longs.{split, size_first, total_first}
@@ -15,7 +12,7 @@ add_longs-sum-requires c =
     let i = c.loop-place.place-index in
     let first = ap places_view (split xs i c.place-item.result c.loop-place-test.true c.place-item.is) in
     let room = size_first c.args.field.0 (place_view c.place-item.result) (places_view (drop (i + 1) xs)) (places_view (drop i xs)) (map val_view c.values.result.now) first c.values.ensures
-        (to_z w64 c.loop-place.sum-bits) total_limit c.loop-place.invariant.size in
+    (to_z w64 c.loop-place.sum-bits) total_limit c.loop-place.invariant.size in
     omega (arith, room)
 
 pub loop-place-preserved : goal.loop-place-preserved
