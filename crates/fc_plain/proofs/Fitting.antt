@@ -19,9 +19,6 @@ use Rattle.fc_plain.specs.Fitting.{StatisticsFit}
 use Rattle.fc_plain.specs.Limits.{IsWithinLimits}
 
 -- the absolute values of a field at places, place by place
-absolute_at : ℕ → Place → ℕ
-absolute_at field p = sum_by nat_abs (longs_in (values_of p.document field))
-
 absolute_sum : (field : ℕ) (X : List Place) → sum_by nat_abs (longs_of field X) ≡ sum_by (λ p. sum_by nat_abs (longs_in (values_of p.document field))) X
 absolute_sum field [] = refl
 absolute_sum field (p ∷ ps) =

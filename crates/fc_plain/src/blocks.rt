@@ -1,5 +1,5 @@
 // The places of some blocks.
-ghost use Rattle.std.specs.Prelude.{◌≡◌, ◌++◌, ◌&&◌, ◌==◌, IfOk, OnOk, not, ℕ};
+ghost use Rattle.std.specs.Prelude.{◌≡◌, ◌&&◌, ◌==◌, IfOk, not, ℕ};
 ghost use Rattle.std.specs.BTreeSet.{contains};
 ghost use Rattle.std.specs.List.{filter, list_any};
 ghost use Rattle.std.specs.Ordering.{is_gt, is_lt};
@@ -7,7 +7,7 @@ ghost use Rattle.fc_spec.specs.documents.World as definition;
 ghost use Rattle.fc_plain.specs.BlockOrder.{StandInOrder, block_of, pair_cmp};
 ghost use Rattle.fc_plain.specs.PlaceView.{place_view, places_view};
 
-use crate::keep::Test;
+use crate::keep::{Test, push_kept};
 use crate::place::Place;
 use fc_base::WantMemory;
 use std::alloc::Global;
@@ -65,24 +65,6 @@ pub(crate) fn in_block<'s, 'a>(places: &'s [Place<'a>], shard: u32, block: u32) 
         ≡ filter (λ p. (p.shard == shard) && (p.block == block)) (places_view places.now) }
 {
     up_to_block(from_block(places, shard, block), shard, block)
-}
-
-// Puts the places that pass behind those so far.
-fn push_kept<'a, T: Test>(
-    test: &T,
-    places: &[Place<'a>],
-    found: &mut Vec<Place<'a>>,
-) -> Result<(), WantMemory>
-    requires { T.is_ready test.now }
-    ensures { OnOk result (places_view found.new.items ≡ places_view found.old.items
-        ++ filter (T.passes test.now) (places_view places.now)) }
-{
-    for place in places {
-        if test.test(place) {
-            found.push(*place)?;
-        }
-    }
-    Ok(())
 }
 
 /// The places of these blocks that pass, in their order.

@@ -64,6 +64,7 @@ impl Test for Child {
     }
 }
 
+// The children in the blocks whose parent is among these and matches.
 fn children_of<'a>(
     alloc: Global,
     search: &Search<'a>,
@@ -80,6 +81,7 @@ fn children_of<'a>(
     Ok(found)
 }
 
+// The parents that match, of the blocks in which one of these stands.
 fn parents_of<'a>(
     alloc: Global,
     search: &Search<'a>,

@@ -1,5 +1,5 @@
 // Tests of places, and the places that pass.
-ghost use Rattle.std.specs.Prelude.{◌≡◌, Bool, IfOk};
+ghost use Rattle.std.specs.Prelude.{◌≡◌, ◌++◌, Bool, IfOk, OnOk};
 ghost use Rattle.std.specs.List.{filter};
 ghost use Rattle.fc_spec.specs.documents.World as definition;
 ghost use Rattle.fc_plain.specs.PlaceView.{place_view, places_view};
@@ -19,6 +19,24 @@ pub(crate) trait Test {
         ensures { result ≡ passes self.now (place_view place.now) };
 }
 
+/// Puts the places that pass behind those so far.
+pub(crate) fn push_kept<'a, T: Test>(
+    test: &T,
+    places: &[Place<'a>],
+    found: &mut Vec<Place<'a>>,
+) -> Result<(), WantMemory>
+    requires { T.is_ready test.now }
+    ensures { OnOk result (places_view found.new.items ≡ places_view found.old.items
+        ++ filter (T.passes test.now) (places_view places.now)) }
+{
+    for place in places {
+        if test.test(place) {
+            found.push(*place)?;
+        }
+    }
+    Ok(())
+}
+
 /// The places that pass, in their order.
 pub(crate) fn kept<'a, T: Test>(
     alloc: Global,
@@ -30,10 +48,6 @@ pub(crate) fn kept<'a, T: Test>(
         ≡ filter (T.passes test.now) (places_view places.now)) }
 {
     let mut kept = Vec::new(alloc);
-    for place in places {
-        if test.test(place) {
-            kept.push(*place)?;
-        }
-    }
+    push_kept(test, places, &mut kept)?;
     Ok(kept)
 }
