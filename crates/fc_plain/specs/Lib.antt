@@ -1,5 +1,11 @@
 pub mod BlockOrder
+pub mod EntryView
 pub mod Fitting
+pub mod GapPlaces
+pub mod GroupEntries
+pub mod Groups
 pub mod Limits
+pub mod Offers
+pub mod Parts
 pub mod PlaceView
 pub mod WorldView

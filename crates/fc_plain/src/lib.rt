@@ -5,12 +5,22 @@
 mod base;
 mod blocks;
 mod domain;
+mod entries;
+mod gaps;
+mod groups;
 mod keep;
 mod matching;
+mod missing;
 mod numbers;
+mod offers;
 mod place;
 mod places;
-pub mod reply;
+mod plain;
+mod reading;
 mod search;
+mod shard_parts;
 mod shards;
 mod statistics;
+mod values;
+
+pub use plain::reply;

@@ -31,7 +31,7 @@ unbounded s V = filter-all V
 pub bounded_by_length : (s : Sort) (b : ℕ) (V : List Entry) → length V ≤ b → below_rank s (Some b) V ≡ V
 bounded_by_length s b V few =
     filter_agrees_within (λ e. nat_lt (rank s V e) b) (λ e. true) V
-        (λ k d l. let at = get_or V k d in
-            let below = not_all_count (λ w. is_ahead s w at) V k d l (not_ahead_of_itself s at) in
-            lt-ltb (rank s V at) b (omega (arith, below, few)))
+    (λ k d l. let at = get_or V k d in
+    let below = not_all_count (λ w. is_ahead s w at) V k d l (not_ahead_of_itself s at) in
+    lt-ltb (rank s V at) b (omega (arith, below, few)))
     ∙ filter-all V

@@ -1,5 +1,5 @@
 -- Some of a list.
-use Rattle.std.proofs.Common.{◌≡◌, ℕ, ◌+◌, List, [], ◌++◌, take, drop, subst, sym, arith, length}
+use Rattle.std.proofs.Common.{ℕ, List, [], ◌++◌, take, drop, subst, sym, length}
 use Rattle.std.specs.Prelude.{All, IsPermutation}
 use Rattle.std.proofs.lemmas.List.{take-append-drop, append-nil, append_assoc}
 use Rattle.std.proofs.lemmas.List.Elements.{All-take}
@@ -25,11 +25,15 @@ permuted_among some again all among h =
 
 -- some of some
 pub among_again : {T : Type 0} (few some all : List T) → AreAmong few some → AreAmong some all → AreAmong few all
-among_again few some all h k =
-    (h.0 ++ k.0, IsPermutation-trans all (some ++ k.0) (few ++ (h.0 ++ k.0)) k.1
-        (subst (IsPermutation (some ++ k.0)) (append_assoc few h.0 k.0) (IsPermutation-append_left k.0 some (few ++ h.0) h.1)))
+among_again few some all h k = (
+  h.0 ++ k.0,
+  IsPermutation-trans all (some ++ k.0) (few ++ (h.0 ++ k.0)) k.1
+      (subst (IsPermutation (some ++ k.0)) (append_assoc few h.0 k.0) (IsPermutation-append_left k.0 some (few ++ h.0) h.1)),
+)
 
 pub rest_among : {T : Type 0} (n : ℕ) (all ordered : List T) → IsPermutation all ordered → AreAmong (drop n ordered) all
-rest_among n all ordered h =
-    (take n ordered, IsPermutation-trans all ordered (drop n ordered ++ take n ordered) h
-        (subst (λ l. IsPermutation l (drop n ordered ++ take n ordered)) (take-append-drop n ordered) (IsPermutation-append_comm (take n ordered) (drop n ordered))))
+rest_among n all ordered h = (
+  take n ordered,
+  IsPermutation-trans all ordered (drop n ordered ++ take n ordered) h
+      (subst (λ l. IsPermutation l (drop n ordered ++ take n ordered)) (take-append-drop n ordered) (IsPermutation-append_comm (take n ordered) (drop n ordered))),
+)

@@ -1,12 +1,12 @@
 -- Fronts and pages of sorted entries.
-use Rattle.std.proofs.Common.{◌≡◌, ℕ, List, length, map, take, drop, min, inl, inr, sym, ap, ◌∙◌, subst, arith}
-use Rattle.std.specs.Prelude.{IsPermutation, Option, None, Some}
+use Rattle.std.proofs.Common.{◌≡◌, ℕ, List, length, take, drop, min, inl, inr, sym, ap, ◌∙◌, arith}
+use Rattle.std.specs.Prelude.{Some}
 use Rattle.std.proofs.lemmas.Bool.{cases_lt}
-use Rattle.std.proofs.lemmas.List.{drop_all, drop-map, take-map}
-use Rattle.std.proofs.lemmas.List.Sorted.{IsPermutation-trans, IsPermutation-sym}
-use Rattle.fc_spec.specs.laws.SortingLaw.{IsSortOf, up_to}
+use Rattle.std.proofs.lemmas.List.{drop_all}
+use Rattle.std.proofs.lemmas.List.Sorted.{IsPermutation-trans}
+use Rattle.fc_spec.specs.laws.SortingLaw.{IsSortOf}
 use Rattle.fc_spec.specs.requests.Request.{Sort}
-use Rattle.fc_spec.specs.requests.Ranks.{Entry, below_rank, rank, page}
+use Rattle.fc_spec.specs.requests.Ranks.{Entry, below_rank, rank}
 use Rattle.fc_spec.specs.words.Lists.{is_below_bound}
 use Rattle.fc_spec.proofs.requests.SortedEntries.{below_rank_is_front}
 use Rattle.fc_refine.specs.Entries.{HaveAscendingValues}
@@ -16,9 +16,9 @@ use Rattle.fc_refine.proofs.IndexOrder.{index_order, ascending_again}
 -- past the end nothing is left, however far
 pub drop-min : {X : Type 0} (n : ℕ) (xs : List X) → drop (min (length xs) n) xs ≡ drop n xs
 drop-min n xs = elim (cases_lt n (length xs)) [
-      | inl h ↦ let e : min (length xs) n ≡ n = omega arith in ap (λ k. drop k xs) e
-      | inr h ↦ let e : min (length xs) n ≡ length xs = omega arith in ap (λ k. drop k xs) e ∙ drop_all (length xs) xs (omega arith) ∙ sym (drop_all n xs h)
-    ]
+  | inl h ↦ let e : min (length xs) n ≡ n = omega arith in ap (λ k. drop k xs) e
+  | inr h ↦ let e : min (length xs) n ≡ length xs = omega arith in ap (λ k. drop k xs) e ∙ drop_all (length xs) xs (omega arith) ∙ sym (drop_all n xs h)
+]
 
 -- the front of the sorted entries, in index order again
 pub front_again : (s : Sort) (b : ℕ) (V L fs : List Entry) → HaveAscendingValues V → IsSortOf s V L → IsSortOf index_order (take b L) fs → fs ≡ below_rank s (Some b) V

@@ -32,27 +32,29 @@ impl Ranked for Item {
     }
 }
 
-fn item(alloc: Global, value: i64, count: u64, least: Option<i64>) -> Result<Item, Fail>
-    ensures { IfOk result (λ item. val_view item.val ≡ long value) }
-{
-    Ok(Item {
-        val: Val::Long(value),
-        stats: Stats {
-            count,
-            values: vec![in alloc; StatValue::Extreme(least)]?,
-        },
-    })
+impl Item {
+    fn new(alloc: Global, value: i64, count: u64, least: Option<i64>) -> Result<Item, Fail>
+        ensures { IfOk result (λ item. val_view item.val ≡ long value) }
+    {
+        Ok(Item {
+            val: Val::Long(value),
+            stats: Stats {
+                count,
+                values: vec![in alloc; StatValue::Extreme(least)]?,
+            },
+        })
+    }
 }
 
 fn items(alloc: Global) -> Result<Vec<Item>, Fail>
     ensures { IfOk result (λ items. HaveAscendingValues (map ⟦<Item as Ranked>⟧.entry items.items)) }
 {
     Ok(vec![in alloc;
-        item(alloc, 1, 3, None)?,
-        item(alloc, 2, 5, Some(-2))?,
-        item(alloc, 3, 3, Some(7))?,
-        item(alloc, 4, 1, None)?,
-        item(alloc, 5, 5, Some(-2))?,
+        Item::new(alloc, 1, 3, None)?,
+        Item::new(alloc, 2, 5, Some(-2))?,
+        Item::new(alloc, 3, 3, Some(7))?,
+        Item::new(alloc, 4, 1, None)?,
+        Item::new(alloc, 5, 5, Some(-2))?,
     ]?)
 }
 

@@ -76,7 +76,11 @@ fn line(alloc: Global, facets: Vec<ReplyFacet>) -> Result<Vec<u8>, Fail> {
 fn fault(alloc: Global) -> Result<Vec<u8>, Fail> {
     let at = vec![in alloc; Name::new(alloc, "outer")?, Name::new(alloc, "in\"ner")?]?;
     let fault = QFault::UnknownField;
-    Ok(error_line(alloc, &RequestFault { at, fault }, &Name::new(alloc, "main")?)?)
+    Ok(error_line(
+        alloc,
+        &RequestFault { at, fault },
+        &Name::new(alloc, "main")?,
+    )?)
 }
 
 // Each line beside its text.

@@ -1,7 +1,6 @@
 // Searching the segments of one shard.
 mod columns;
 mod domain;
-mod error;
 mod facet;
 mod found;
 mod line;

@@ -7,9 +7,9 @@ ghost use Rattle.fc_script.specs.ScriptView.{asked_view};
 ghost use Rattle.fc_run.specs.Fitting.{AreDifferentIn, IsSearchable};
 ghost use Rattle.fc_run.specs.Running.{batches_text};
 
-use super::error::error_line;
 use super::reply::reply_line;
 use fc_base::{Name, WantMemory};
+use fc_reply::error_line;
 use fc_request::{Request, RequestFault};
 use fc_segment::Segment;
 use std::alloc::Global;

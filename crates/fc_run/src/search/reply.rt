@@ -1,30 +1,28 @@
 // The reply line of a search over the segments of one shard.
-ghost use Rattle.std.specs.Prelude.{◌≡◌, ◌≤◌, [], ◌∷◌, length, map, codes, Some, option_map, IfOk};
-ghost use Rattle.serde_json.specs.Data.{string, array, object, member, no_members, put};
-ghost use Rattle.serde_json.specs.View.{view};
+ghost use Rattle.std.specs.Prelude.{◌≡◌, ◌≤◌, ◌==◌, [], ◌∷◌, length, map, Some, option_map, IfOk, if◌then◌else◌};
+ghost use Rattle.fc_base.specs.View.{val_view};
 ghost use Rattle.fc_spec.specs.words.Lists.{joined};
 ghost use Rattle.fc_spec.specs.documents.Totals.{document_total};
-ghost use Rattle.fc_spec.specs.replies.Reply.{bucket, no_facets};
-ghost use Rattle.fc_spec.specs.replies.Json.{natural_data, val_data, bucket_data, listed_items};
-ghost use Rattle.fc_spec.specs.scripts.Lines.{numbers_data, reply_line};
+ghost use Rattle.fc_spec.specs.replies.Reply.{listed, bucket, Facets, no_facets, many, no_parts};
+ghost use Rattle.fc_spec.specs.scripts.Lines.{reply_line};
 ghost use Rattle.fc_spec.specs.replies.Distributed.{distributed};
 ghost use Rattle.fc_run.specs.FacetView.{value_facet_view};
 ghost use Rattle.fc_run.specs.Fitting.{AreDifferentIn, IsSearchable};
-ghost use Rattle.fc_run.specs.PlainReply.{counted_row, reply_with, IsPlainOnOneShard};
+ghost use Rattle.fc_run.specs.PlainReply.{counted_row, facets_with, reply_with, IsPlainOnOneShard};
 ghost use Rattle.fc_run.specs.Tally.{tally_view};
 ghost use Rattle.fc_run.specs.Term.{term_view};
+ghost use Rattle.fc_reply.specs.ReplyView.{parts_over, bucket_view, facet_view, facets_view, reply_view};
 ghost use Rattle.fc_request.specs.RequestView.{request_view};
 
 use super::facet::{ValueFacet, asked_facet};
 use super::found::find;
 use super::tally::Tally;
 use super::term::Term;
-use fc_base::json::text_line;
-use fc_base::{Name, WantMemory};
+use fc_base::{Name, Val, WantMemory};
+use fc_reply::{Reply, ReplyBody, ReplyBucket, ReplyBuckets, ReplyFacet};
 use fc_request::Request;
 use fc_segment::Segment;
 use fc_spec::{ranks_are_sorting, without_limits};
-use serde_json::{Value, json};
 use std::alloc::Global;
 
 // Over one shard the distributed reply to a request that is built is made by counting documents.
@@ -35,77 +33,97 @@ fn plain_replies()
     ranks_are_sorting();
 }
 
-// A value of a field.
-fn term_json(alloc: Global, term: Term<'_>) -> Result<Value, WantMemory>
-    ensures { IfOk result (λ json. view json ≡ val_data (term_view term.entry)) }
+// A value that owns its text.
+fn val_of(alloc: Global, term: Term<'_>) -> Result<Val, WantMemory>
+    ensures { IfOk result (λ val. val_view val ≡ term_view term.entry) }
 {
     match term {
-        Term::Text(name) => Ok(Value::try_from_str(alloc, name.text())?),
-        Term::Long(number) => Ok(Value::from(number)),
+        Term::Text(name) => Ok(Val::Text(name.copy(alloc)?)),
+        Term::Long(number) => Ok(Val::Long(number)),
     }
 }
 
 // The bucket of a value.
-fn bucket_json(alloc: Global, term: Term<'_>, count: u64) -> Result<Value, WantMemory>
-    ensures { IfOk result (λ json. view json
-        ≡ bucket_data (bucket (Some (term_view term.entry)) count no_facets)) }
+fn bucket_of(alloc: Global, term: Term<'_>, count: u64) -> Result<ReplyBucket, WantMemory>
+    ensures { IfOk result (λ made. bucket_view made ≡ bucket (Some (term_view term.entry)) count no_facets) }
 {
-    let val = term_json(alloc, term)?;
-    Ok(json!(in alloc; {"count": count, "val": val})?)
+    let val = val_of(alloc, term)?;
+    Ok(ReplyBucket {
+        val: Some(val),
+        count,
+        facets: Vec::new(alloc),
+    })
 }
 
 // The buckets of the values, in their order.
-fn buckets_json(alloc: Global, tally: &Tally<'_>) -> Result<Value, WantMemory>
-    ensures { IfOk result (λ json. view json
-        ≡ array (listed_items (counted_row (tally_view tally.now)))) }
+fn list_of(alloc: Global, tally: &Tally<'_>) -> Result<Vec<ReplyBucket>, WantMemory>
+    ensures { IfOk result (λ list. parts_over listed (map bucket_view list.items) no_parts
+        ≡ counted_row (tally_view tally.now)) }
 {
-    let mut buckets = Vec::new(alloc);
+    let mut list = Vec::new(alloc);
     for (term, count) in tally {
-        buckets.push(bucket_json(alloc, *term, *count)?)?;
+        list.push(bucket_of(alloc, *term, *count)?)?;
     }
-    Ok(Value::Array(buckets))
+    Ok(list)
 }
 
-// A bucket of some documents, with one facet.
-fn faceted_json(alloc: Global, count: u64, name: &str, buckets: Value) -> Result<Value, WantMemory>
-    ensures { IfOk result (λ json. view json
-        ≡ object (put name.now (object (member (codes "buckets") (view buckets) no_members))
-        (member (codes "count") (natural_data count) no_members))) }
+// The facet with a bucket for each value.
+fn facet_of(
+    alloc: Global,
+    facet: &ValueFacet<'_>,
+    tally: &Tally<'_>,
+) -> Result<ReplyFacet, WantMemory>
+    ensures { IfOk result (λ made. (more : Facets) → facet_view made more
+        ≡ many (value_facet_view facet.now).0 (counted_row (tally_view tally.now)) more) }
 {
-    Ok(json!(in alloc; {"count": count, (name): {"buckets": buckets}})?)
+    let name = facet.name.copy(alloc)?;
+    let buckets = ReplyBuckets {
+        list: list_of(alloc, tally)?,
+        missing: None,
+        before: None,
+        between: None,
+        after: None,
+    };
+    Ok(ReplyFacet {
+        name,
+        body: ReplyBody::Many(buckets),
+    })
 }
 
-// The reply of so many documents, of which so many have each value of the facet's field.
-fn reply_json(
+// The facets of so many documents, of which so many have each value of the facet's field.
+fn facets_of(
     alloc: Global,
     count: u64,
     facet: &Option<ValueFacet<'_>>,
     tally: &Tally<'_>,
-) -> Result<Value, WantMemory>
-    ensures { IfOk result (λ json. view json
-        ≡ bucket_data (reply_with count (option_map value_facet_view facet.now) (tally_view tally.now))) }
+) -> Result<Vec<ReplyFacet>, WantMemory>
+    ensures { IfOk result (λ made. facets_view made.items ≡ if count == 0 then no_facets
+        else facets_with (option_map value_facet_view facet.now) (tally_view tally.now)) }
 {
+    let mut facets = Vec::new(alloc);
     match facet {
-        Some(facet) if count > 0 => {
-            let buckets = buckets_json(alloc, tally)?;
-            faceted_json(alloc, count, facet.name.text(), buckets)
-        }
-        _ => Ok(json!(in alloc; {"count": count})?),
+        Some(facet) if count > 0 => facets.push(facet_of(alloc, facet, tally)?)?,
+        _ => {}
     }
+    Ok(facets)
 }
 
-// What the line of a search says.
-fn line_json(
+// The reply of so many documents, of which so many have each value of the facet's field.
+fn reply_of(
     alloc: Global,
-    facets: Value,
-    generation: u64,
-    session: &str,
-) -> Result<Value, WantMemory>
-    ensures { IfOk result (λ json. view json ≡ object (put (codes "facets") (view facets)
-        (put (codes "generations") (array (numbers_data (generation ∷ [])))
-        (put (codes "session") (string session.now) no_members)))) }
+    count: u64,
+    facet: &Option<ValueFacet<'_>>,
+    tally: &Tally<'_>,
+) -> Result<Reply, WantMemory>
+    ensures { IfOk result (λ reply. reply_view reply
+        ≡ reply_with count (option_map value_facet_view facet.now) (tally_view tally.now)) }
 {
-    Ok(json!(in alloc; {"facets": facets, "generations": [generation], "session": session})?)
+    let root = ReplyBucket {
+        val: None,
+        count,
+        facets: facets_of(alloc, count, facet, tally)?,
+    };
+    Ok(Reply { root })
 }
 
 /// The reply line of a request over the segments of one shard, whose generation has so many segments.
@@ -124,7 +142,6 @@ pub(crate) fn reply_line(
 {
     plain_replies();
     let found = find(alloc, segments, request)?;
-    let facets = reply_json(alloc, found.count, &asked_facet(request), &found.tally)?;
-    let line = line_json(alloc, facets, segments.len() as u64, session.text())?;
-    text_line(alloc, &line)
+    let reply = reply_of(alloc, found.count, &asked_facet(request), &found.tally)?;
+    fc_reply::reply_line(alloc, &reply, &[segments.len() as u64], session)
 }

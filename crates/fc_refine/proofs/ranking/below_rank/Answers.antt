@@ -1,4 +1,4 @@
-use Rattle.std.proofs.Common.{◌≡◌, ◌∙◌, ap, sym, subst, map, take, length, Some, arith, rules}
+use Rattle.std.proofs.Common.{◌∙◌, ap, sym, subst, map, arith}
 use Rattle.std.proofs.lemmas.List.{take-map, length-map}
 use Rattle.fc_spec.specs.laws.SortingLaw.{IsSortOf}
 use Rattle.fc_spec.specs.requests.Ranks.{below_rank}

@@ -1,4 +1,4 @@
-use Rattle.std.proofs.Common.{◌≡◌, ◌∙◌, ap, sym, subst, drop, take, length, map, min, rules, Option, Some, None, List}
+use Rattle.std.proofs.Common.{◌≡◌, ◌∙◌, ap, sym, subst, drop, take, length, map, min, rules, Some}
 use Rattle.std.proofs.lemmas.List.{drop-map, take-map}
 use Rattle.std.proofs.lemmas.List.Sorted.{IsPermutation-refl}
 use Rattle.fc_spec.specs.laws.SortingLaw.{up_to}
@@ -25,7 +25,7 @@ returns-clause-ranks g c =
     let law = page_is_cut s offset c.args.limit V (map entry ordered) c.in_ok-entries.ensures.order in
     let all : c.len.result ≡ length ordered = search rules in
     let cut : map entry rest ≡ drop offset (map entry ordered) =
-        ap (map entry) (c.in_ok-page.ensures.tail ∙ ap (λ k. drop k ordered) (c.min-cut.ensures ∙ ap (λ n. min n offset) all) ∙ drop-min offset ordered) ∙ sym (drop-map entry offset ordered) in
+    ap (map entry) (c.in_ok-page.ensures.tail ∙ ap (λ k. drop k ordered) (c.min-cut.ensures ∙ ap (λ n. min n offset) all) ∙ drop-min offset ordered) ∙ sym (drop-map entry offset ordered) in
     elim c.match-limit.branch [
       | in-Some w ↦ ap (λ v. map entry v.items) w.page-is ∙ ap (map entry) w.truncate.ensures.items ∙ sym (take-map entry w.in-Some.limit rest)
           ∙ ap (λ l. up_to (Some w.in-Some.limit) l) cut ∙ ap (λ b. up_to b (drop offset (map entry ordered))) (sym w.in-Some.is) ∙ sym law

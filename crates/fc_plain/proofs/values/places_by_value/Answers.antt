@@ -1,0 +1,27 @@
+use Rattle.std.proofs.Common.{◌≡◌, ◌+◌, ◌++◌, ◌∷◌, [], List, take, sym, ◌∙◌, ap, subst}
+use Rattle.std.proofs.lemmas.List.{map_more}
+use Rattle.fc_facet.specs.KindView.{terms_view}
+use Rattle.fc_plain.proofs.GrowingGroups.{holds_none, holds_more}
+use Rattle.fc_plain.specs.Groups.{Holds, map_view}
+use Rattle.fc_plain.specs.PlaceView.{place_view, places_view}
+use Rattle.fc_reading.specs.FacetNode.{vals_view}
+use Rattle.fc_spec.specs.documents.World.{Place}
+use Rattle.fc_plain.proofs.values.places_by_value.Goals as goal
+
+pub loop-place-init : goal.loop-place-init
+loop-place-init c = rw c.new-by_value.ensures.empty (holds_none (terms_view c.args.terms.now))
+
+pub loop-place-preserved : goal.loop-place-preserved
+loop-place-preserved c =
+    let t = terms_view c.args.terms.now in
+    let xs = c.args.places.now in
+    let i = c.loop-place.place-index in
+    let x = c.place-item.result in
+    let old = c.loop-place.by_value in
+    let new = c.push_for_each.new.by_value in
+    let vals = vals_view c.in_ok-vals.vals.keys in
+    let done = places_view (take i xs) in
+    let more : places_view (take (i + 1) xs) ≡ done ++ place_view x ∷ [] =
+    map_more place_view xs i x c.loop-place-test.true ∙ ap (λ y. done ++ place_view y ∷ []) (sym c.place-item.is) in
+    subst (λ (Y : List Place). Holds t Y (map_view new)) (sym more)
+    (holds_more t done (place_view x) old new vals c.loop-place.invariant c.in_ok-vals.ensures c.in_ok-push_for_each.ensures)

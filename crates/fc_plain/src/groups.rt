@@ -1,0 +1,1 @@
+// What else is made of a facet's domain, by its kind.
