@@ -11,6 +11,8 @@ pub mod Longs
 pub mod Moved
 pub mod NearGaps
 pub mod NoFilters
+pub mod NonePass
+pub mod Numbered
 pub mod OfferedLists
 pub mod OfferedValues
 pub mod OnShards

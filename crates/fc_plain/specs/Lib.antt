@@ -3,6 +3,7 @@ pub mod EntryView
 pub mod Fitting
 pub mod GapPlaces
 pub mod GroupEntries
+pub mod Grouped
 pub mod Groups
 pub mod Limits
 pub mod Offers

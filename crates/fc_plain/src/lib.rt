@@ -4,6 +4,7 @@
 
 mod base;
 mod blocks;
+mod buckets;
 mod domain;
 mod entries;
 mod gaps;

@@ -1,6 +1,7 @@
 // What a search looks into.
 ghost use Rattle.std.specs.Prelude.{◌≡◌};
 ghost use Rattle.fc_spec.specs.documents.World as definition;
+ghost use Rattle.fc_plain.specs.Limits.{IsWithinLimits};
 ghost use Rattle.fc_plain.specs.PlaceView.{places_view};
 ghost use Rattle.fc_plain.specs.WorldView.{world_view};
 
@@ -20,12 +21,12 @@ pub(crate) struct Search<'a> {
     pub(crate) world: &'a [&'a [Block]],
     pub(crate) places: Vec<Place<'a>>,
     ghost all: { places_view places.items ≡ definition.places (world_view world.now) },
+    ghost limits: { IsWithinLimits (world_view world.now) },
 }
 
 impl<'a> Search<'a> {
     ghost use Rattle.std.specs.Prelude.{◌==◌, ◌&&◌, IfOk};
     ghost use Rattle.std.specs.List.{filter};
-    ghost use Rattle.fc_plain.specs.Limits.{IsWithinLimits};
 
     /// A search of a request in a world.
     pub(crate) fn new(
