@@ -11,11 +11,11 @@ pub mod Longs
 pub mod Moved
 pub mod NearGaps
 pub mod NoFilters
-pub mod NonePass
 pub mod Numbered
 pub mod OfferedLists
 pub mod OfferedValues
 pub mod OnShards
+pub mod OtherKeys
 pub mod PlacesAscend
 pub mod TakenPlaces
 pub mod ValueGroups

@@ -49,7 +49,6 @@ fn is_whole(key: &Key) -> bool
 }
 
 // The places in a bucket of a terms facet.
-#[tactic(auto, using(crate::proofs::NonePass::none_pass))]
 fn terms_places<'a>(
     alloc: Global,
     terms: &Terms,

@@ -1,0 +1,23 @@
+use Rattle.std.proofs.Common.{◌≡◌, ◌∙◌, ap, map}
+use Rattle.fc_base.specs.StatisticView.{stat_view}
+use Rattle.fc_spec.specs.documents.World.{on_shards}
+use Rattle.fc_spec.specs.requests.Statistics.{stats_over}
+use Rattle.fc_plain.specs.PlaceView.{places_view}
+use Rattle.fc_plain.proofs.FittingDomains.{on_shards_fit}
+use Rattle.fc_plain.proofs.Numbered.{part_stats_same}
+use Rattle.fc_plain.proofs.reading.part_stats.Goals as goal
+
+pub stats_over-requires : goal.stats_over-requires
+stats_over-requires c =
+    let shards = c.args.shards.now in
+    let places = places_view c.args.places.now in
+    let part : places_view c.deref.result.now ≡ on_shards shards places = ap places_view c.deref.ensures.value ∙ c.in_ok-part.ensures in
+    rw part (on_shards_fit shards places c.requires)
+
+pub returns : goal.returns
+returns c = λ r W.
+    let stats = map stat_view c.args.stats.now in
+    let shards = c.args.shards.now in
+    let places = places_view c.args.places.now in
+    let part : places_view c.deref.result.now ≡ on_shards shards places = ap places_view c.deref.ensures.value ∙ c.in_ok-part.ensures in
+    c.in_ok-found.ensures ∙ ap (stats_over stats) part ∙ part_stats_same r W stats shards places
