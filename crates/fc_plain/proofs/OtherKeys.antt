@@ -1,5 +1,5 @@
 -- A terms facet has no place in the buckets of other facets.
-use Rattle.std.proofs.Common.{◌≡◌, ◌⊎◌, inl, inr, ℕ, Bool, false, List, [], ◌∷◌, refl}
+use Rattle.std.proofs.Common.{◌≡◌, ◌⊎◌, inl, inr, ℕ, false, List, [], ◌∷◌, refl}
 use Rattle.std.specs.List.{filter}
 use Rattle.fc_partial.specs.View.{key_view}
 use Rattle.fc_partial.specs.declared.key.Key.{Key}

@@ -45,7 +45,7 @@ fn root_bucket<'a>(alloc: Global, search: &Search<'a>) -> Result<BucketPlaces<'a
     Ok(BucketPlaces { places })
 }
 
-// The distributed reply to the request that is searched for.
+// The distributed reply of a search.
 fn search_reply(alloc: Global, search: &Search) -> Result<Reply, WantMemory>
     requires { AreCountable (request_view search.now.request.now).nodes }
     ensures { IfOk result (λ reply. reply_view reply
@@ -60,11 +60,7 @@ fn search_reply(alloc: Global, search: &Search) -> Result<Reply, WantMemory>
 /// The distributed reply to a request over a world: for each shard its blocks. Where exclusions stand on
 /// outermost facets alone, as in each request that was read, the buckets on refined paths are exact over all
 /// shards, and without limits the reply is that of a single index with all the blocks.
-pub fn reply(
-    alloc: Global,
-    request: &Request,
-    world: &[&[Block]],
-) -> Result<Reply, WantMemory>
+pub fn reply(alloc: Global, request: &Request, world: &[&[Block]]) -> Result<Reply, WantMemory>
     requires ranges { AreCountable (request_view request.now).nodes }
     requires limits { IsWithinLimits (world_view world.now) }
     ensures distributed { IfOk result (λ reply. reply_view reply

@@ -81,6 +81,7 @@ fn part_stats(
 
 impl<'a> BucketReading for Search<'a> {
     type Bucket = BucketPlaces<'a>;
+
     type Domain = DomainPlaces<'a>;
 
     ghost Held = { List definition.Place };

@@ -12,6 +12,6 @@ invariant_of-result c =
     let key = key_view c.args.key.now in
     let domain = c.args.domain.now in
     let own : places_view c.in_ok-places.places.items ≡ bucket_places kind key (places_view domain.places.items) =
-        c.in_ok-places.ensures ∙ ap (λ items. bucket_places kind key (places_view items)) c.deref.ensures.value
+    c.in_ok-places.ensures ∙ ap (λ items. bucket_places kind key (places_view items)) c.deref.ensures.value
     in
     record { fit = rw own (bucket_fits kind key (places_view domain.places.items) domain.fit) }
