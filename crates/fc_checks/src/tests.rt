@@ -1,3 +1,4 @@
-// What no clause says: whole runs and scripts beside their answers, with memory enough.
+// What no clause says: whole runs, scripts and replies beside their answers, with memory enough.
+mod replies;
 mod runs;
 mod scripts;

@@ -46,6 +46,13 @@ impl Document {
         }
     }
 
+    /// How many fields its schema has.
+    pub fn field_count(&self) -> u16
+        ensures { result ≡ length self.now }
+    {
+        self.fields
+    }
+
     /// The values in a field. There are none where no field has the number.
     pub fn values(&self, field: FieldId) -> &[Val]
         ensures { map val_view result.now ≡ values_of self.now field.0 }

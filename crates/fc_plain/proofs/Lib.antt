@@ -17,5 +17,6 @@ pub mod OfferedValues
 pub mod OnShards
 pub mod OtherKeys
 pub mod PlacesAscend
+pub mod SumsPast
 pub mod TakenPlaces
 pub mod ValueGroups

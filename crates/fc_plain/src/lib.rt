@@ -10,6 +10,7 @@ mod entries;
 mod gaps;
 mod groups;
 mod keep;
+mod limits;
 mod matching;
 mod missing;
 mod numbers;
@@ -24,4 +25,5 @@ mod shards;
 mod statistics;
 mod values;
 
+pub use limits::is_within_limits;
 pub use plain::reply;

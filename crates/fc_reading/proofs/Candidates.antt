@@ -1,12 +1,11 @@
 -- What is known of candidates.
-use Rattle.std.proofs.Common.{◌≡◌, ℕ, List, [], ◌∷◌, ◌++◌, map, Bool, true, false, Option, None, Some, not, ◌&&◌, refl, ap, sym, ◌∙◌, subst, cond}
-use Rattle.std.specs.Prelude.{All, nat_le, is_some, IsPermutation}
-use Rattle.std.specs.List.{filter, flat_map}
+use Rattle.std.proofs.Common.{◌≡◌, ℕ, List, [], ◌∷◌, map, Bool, true, false, Option, None, Some, ◌&&◌, refl, ap, sym, ◌∙◌, subst, cond}
+use Rattle.std.specs.Prelude.{All, is_some}
+use Rattle.std.specs.List.{flat_map}
 use Rattle.std.specs.List.Sorted.{IsStrictlySortedBy}
-use Rattle.std.proofs.lemmas.List.Elements.{All-head, All-tail, All-nil, All-cons, All-append, All-filter}
-use Rattle.std.proofs.lemmas.List.Sorted.{All-permutation}
-use Rattle.fc_spec.specs.documents.Val.{Val, val_cmp, distinct}
-use Rattle.fc_spec.specs.requests.Request.{Terms, terms, Nodes}
+use Rattle.std.proofs.lemmas.List.Elements.{All-head, All-tail}
+use Rattle.fc_spec.specs.documents.Val.{Val, val_cmp}
+use Rattle.fc_spec.specs.requests.Request.{Terms, Nodes}
 use Rattle.fc_spec.specs.requests.Ranks.{Entry, below_rank, rank_bound}
 use Rattle.fc_spec.specs.requests.Shape.{asks_again}
 use Rattle.fc_spec.specs.replies.Reading.{Reading}
@@ -14,9 +13,9 @@ use Rattle.fc_spec.specs.replies.Chosen as chosen
 use Rattle.fc_spec.proofs.documents.Ascending.{distinct_ascends}
 use Rattle.fc_spec.proofs.words.Counting.{filter-all}
 use Rattle.fc_base.specs.View.{val_view}
-use Rattle.fc_refine.specs.Entries.{HaveAscendingValues, AreAmong}
+use Rattle.fc_refine.specs.Entries.{HaveAscendingValues}
 use Rattle.fc_reading.specs.declared.candidate.Candidate.{Candidate}
-use Rattle.fc_reading.specs.Terms.{candidate_view, candidate_vals, candidates_view, counted_first, IsOn}
+use Rattle.fc_reading.specs.Terms.{candidate_vals, candidates_view, counted_first, IsOn}
 
 -- the values of the entries are those of the candidates
 pub entry_vals : {B : Type 0} (cs : List (Candidate B)) → map (λ (e : Entry). e.val) (candidates_view cs) ≡ candidate_vals cs
@@ -43,8 +42,10 @@ module _ {B H D : Type 0} (R : Reading H D) (t : Terms) (inner : Nodes) (K : Lis
     where
       E : List Entry
       E = map (λ v. chosen.entry_on R t inner K Y (chosen.offering R t inner K Y v) v) (chosen.candidates R t inner K Y)
+
       all : map (λ (e : Entry). e.val) (below_rank t.sort None E) ≡ chosen.candidates R t inner K Y
       all = ap (λ es. map (λ (e : Entry). e.val) es) (filter-all E) ∙ vals_made (chosen.offering R t inner K Y) (chosen.candidates R t inner K Y)
+
       go : (refine : Bool) (limit : Option ℕ) → (refine && is_some limit) ≡ false
           → map (λ (e : Entry). e.val) (below_rank t.sort (cond refine (rank_bound t.offset limit t.overrefine) None) E) ≡ chosen.candidates R t inner K Y
       go true None h = all
@@ -81,14 +82,13 @@ module _ {B H D : Type 0} (R : Reading H D) (t : Terms) (inner : Nodes) (K : Lis
   -- those whose rank is low enough are the chosen ones
   pub front_vals : asks_again t ≡ true → (cs front : List (Candidate B)) → All (IsOn R t inner K Y held (counted_first R t inner K Y)) cs
       → candidate_vals cs ≡ chosen.candidates R t inner K Y
-      → candidates_view front ≡ below_rank t.sort (rank_bound t.offset t.limit t.overrefine) (candidates_view cs)
+      → candidate_vals front ≡ map (λ (e : Entry). e.val) (below_rank t.sort (rank_bound t.offset t.limit t.overrefine) (candidates_view cs))
       → candidate_vals front ≡ chosen.chosen R t inner K Y
   front_vals again cs front on vals is =
       let E : List Entry = map (λ v. chosen.entry_on R t inner K Y (chosen.offering R t inner K Y v) v) (chosen.candidates R t inner K Y) in
       let entries : candidates_view cs ≡ E = entries_on (chosen.offering R t inner K Y) cs (first_offering again cs on)
-          ∙ ap (λ vs. map (λ v. chosen.entry_on R t inner K Y (chosen.offering R t inner K Y v) v) vs) vals in
-      sym (entry_vals front) ∙ ap (λ es. map (λ (e : Entry). e.val) es) is
-      ∙ ap (λ es. map (λ (e : Entry). e.val) (below_rank t.sort (rank_bound t.offset t.limit t.overrefine) es)) entries
+      ∙ ap (λ vs. map (λ v. chosen.entry_on R t inner K Y (chosen.offering R t inner K Y v) v) vs) vals in
+      is ∙ ap (λ es. map (λ (e : Entry). e.val) (below_rank t.sort (rank_bound t.offset t.limit t.overrefine) es)) entries
       ∙ ap (λ b. map (λ (e : Entry). e.val) (below_rank t.sort (cond b (rank_bound t.offset t.limit t.overrefine) None) E)) (sym (refines again))
 
   -- counted on all shards, as those of a facet with refine are
@@ -99,11 +99,3 @@ module _ {B H D : Type 0} (R : Reading H D) (t : Terms) (inner : Nodes) (K : Lis
       → candidate_vals cs ≡ chosen.chosen R t inner K Y → candidates_view cs ≡ chosen.chosen_entries R t inner K Y
   refined_entries again cs h vals = entries_on (chosen.known R t inner K Y) cs (known_all again cs h)
       ∙ ap (λ vs. map (λ v. chosen.entry_on R t inner K Y (chosen.known R t inner K Y v) v) vs) vals
-
--- what holds of all holds of some of them
-pub all_among : {T : Type 0} (P : T → Type 0) (some all : List T) → AreAmong some all → All P all → All P some
-all_among P some all among h = all_front P some among.0 (All-permutation P all (some ++ among.0) among.1 h)
-  where
-    all_front : {T : Type 0} (P : T → Type 0) (xs ys : List T) → All P (xs ++ ys) → All P xs
-    all_front P [] ys h = All-nil P
-    all_front P (x ∷ xs) ys h = All-cons P x xs (All-head P x (xs ++ ys) h) (all_front P xs ys (All-tail P x (xs ++ ys) h))

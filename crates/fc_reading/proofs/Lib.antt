@@ -1,6 +1,14 @@
-mod RowsMade
-mod Rows
-mod Candidates
+pub mod Candidates
 pub mod Growing
-mod Nodes
-mod Printing
+pub mod MadeLists
+pub mod Merging
+pub mod Nodes
+pub mod OfferedValues
+pub mod Printing
+pub mod RangeParts
+pub mod Rows
+pub mod RowsMade
+pub mod Sizes
+pub mod Steps
+pub mod ValidRanges
+pub mod ValueParts

@@ -65,3 +65,10 @@ module _ (n : Node) where
 
   pub countable_inside : has_buckets (kind_of n) ≡ true → AreCountable (node_before (node_view n) no_nodes) → AreCountable (inner_view n)
   countable_inside h all = (subst AreCountable (facet_is h no_nodes) all).1
+
+-- a kind that is no statistic has buckets
+pub has_buckets_by : (kind : Kind) → ((s : _) → kind ≡ k.Stat s → ⊥) → has_buckets kind ≡ true
+has_buckets_by (k.Terms t) h = refl
+has_buckets_by (k.Range g) h = refl
+has_buckets_by (k.Query q) h = refl
+has_buckets_by (k.Stat s) h = absurd (h s refl)

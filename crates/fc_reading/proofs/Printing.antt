@@ -21,25 +21,18 @@ use Rattle.fc_reading.specs.Tree.{node_before, one_more_if, statistics_after, Ha
 use Rattle.fc_reading.proofs.Nodes.{facet_is, facet_is_no_statistic, statistic_is, statistic_of}
 use Rattle.fc_reading.proofs.Rows.{facets_more}
 
--- a number before others, where it is there
-number_over : (name : Text) (b : Bool) (v o : Option ℤ) (more : Facets) → o ≡ cond b None v → facet_over (option_map (λ n. number name n) o) more ≡ cond b more (with_number name v more)
-number_over name true v o more h = ap (λ o. facet_over (option_map (λ n. number name n) o) more) h
-number_over name false None o more h = ap (λ o. facet_over (option_map (λ n. number name n) o) more) h
-number_over name false (Some n) o more h = ap (λ o. facet_over (option_map (λ n. number name n) o) more) h
-
 module _ {B D : Type 0} (R : Reading B D) (H : List ℕ) (X : B) (n : Node) (at m : ℕ) (rest : Nodes) where
   abbrev after : ℕ
   after = statistics_after (node_view n) m
 
   -- of a statistic its number
-  pub statistic_prints : (s : _) (count : ℕ) (v : StatValue) (o : Option ℤ) → kind_of n ≡ k.Stat s → count ≡ R.count_on H X → v ≡ R.statistic_on m (stat_view s) H X
-      → o ≡ cond (count == 0) None (shown v)
-      → facet_over (option_map (λ number_there. number ((out-Node n).name) number_there) o) (dist_facets R rest (suc at) after H X) ≡ dist_facets R (node_before (node_view n) rest) at m H X
-  statistic_prints s count v o is counted value prints =
-      number_over ((out-Node n).name) (count == 0) (shown v) o (dist_facets R rest (suc at) after H X) prints
-      ∙ ap (λ a. cond (count == 0) (dist_facets R rest (suc at) (one_more_if a m) H X) (with_number ((out-Node n).name) (shown v) (dist_facets R rest (suc at) (one_more_if a m) H X))) (statistic_of n s is)
-      ∙ ap (λ c. cond (c == 0) (dist_facets R rest (suc at) (suc m) H X) (with_number ((out-Node n).name) (shown v) (dist_facets R rest (suc at) (suc m) H X))) counted
-      ∙ ap (λ w. statistic_part (R.count_on H X == 0) ((out-Node n).name) (shown w) (dist_facets R rest (suc at) (suc m) H X)) value
+  pub statistic_prints : (put : Option (Facets → Facets)) (s : _) (count : ℕ) → kind_of n ≡ k.Stat s → count ≡ R.count_on H X
+      → ((more : Facets) → facet_over put more ≡ statistic_part (count == 0) ((out-Node n).name) (shown (R.statistic_on m (stat_view s) H X)) more)
+      → facet_over put (dist_facets R rest (suc at) after H X) ≡ dist_facets R (node_before (node_view n) rest) at m H X
+  statistic_prints put s count is counted prints =
+      ap (λ a. facet_over put (dist_facets R rest (suc at) (one_more_if a m) H X)) (statistic_of n s is)
+      ∙ prints (dist_facets R rest (suc at) (suc m) H X)
+      ∙ ap (λ c. statistic_part (c == 0) ((out-Node n).name) (shown (R.statistic_on m (stat_view s) H X)) (dist_facets R rest (suc at) (suc m) H X)) counted
       ∙ ap (λ ns. dist_facets R ns at m H X) (sym (statistic_is n s is rest))
 
   -- of a facet its buckets

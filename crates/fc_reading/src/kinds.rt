@@ -42,7 +42,16 @@ pub(crate) fn printed<R: BucketReading>(
             Ok(Printed::Many(parts))
         }
         Kind::Query(_) => {
-            let part = part_at(alloc, reading, kind, &stats, shards, domain, &Key::Whole, None)?;
+            let part = part_at(
+                alloc,
+                reading,
+                kind,
+                &stats,
+                shards,
+                domain,
+                &Key::Whole,
+                None,
+            )?;
             Ok(Printed::One(part))
         }
         Kind::Stat(_) => unreachable!(),

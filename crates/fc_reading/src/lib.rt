@@ -3,6 +3,7 @@
 
 mod candidate;
 mod kinds;
+mod law;
 mod offered;
 mod part;
 mod range;
@@ -11,5 +12,6 @@ mod reply;
 mod terms;
 mod tree;
 
+pub use law::valid_requests_are_countable;
 pub use reading::BucketReading;
 pub use reply::reply_over;

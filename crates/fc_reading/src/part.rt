@@ -58,10 +58,10 @@ pub(crate) fn part_at<R: BucketReading>(
     requires made { R.is_for domain.now kind.now }
     requires there { IsThere (kind_view kind.now) (key_view key.now) }
     ensures part { IfOk result (λ part. part_view R.held listed part ≡ record {
-        spot = listed;
-        val = option_map val_view val;
-        shards = shards.now;
-        bucket = (R.reading reading.now).bucket_at (kind_view kind.now) (R.over domain.now) (key_view key.now);
+      spot = listed;
+      val = option_map val_view val;
+      shards = shards.now;
+      bucket = (R.reading reading.now).bucket_at (kind_view kind.now) (R.over domain.now) (key_view key.now);
     }) }
     ensures counted { IfOk result (IsCounted (R.reading reading.now) R.held (map stat_view stats.now)) }
 {
@@ -91,10 +91,10 @@ pub(crate) fn part_beside<R: BucketReading>(
     requires made { R.is_for domain.now kind.now }
     requires there { IsThere (kind_view kind.now) (key_view key) }
     ensures part { IfOk result (λ part. beside R.held (spot_of (key_view key)) part ≡ map (λ k. record {
-        spot = spot_of k;
-        val = None;
-        shards = shards.now;
-        bucket = (R.reading reading.now).bucket_at (kind_view kind.now) (R.over domain.now) k;
+      spot = spot_of k;
+      val = None;
+      shards = shards.now;
+      bucket = (R.reading reading.now).bucket_at (kind_view kind.now) (R.over domain.now) k;
     }) (asked_of asked (key_view key))) }
     ensures counted { IfOk result (λ part. IfSome part (IsCounted (R.reading reading.now) R.held (map stat_view stats.now))) }
 {

@@ -63,9 +63,36 @@ pub(crate) fn range_parts<R: BucketReading>(
     ensures counted { IfOk result (AreCounted (R.reading reading.now) R.held (map stat_view stats.now)) }
 {
     let list = gap_parts(alloc, reading, kind, range, stats, shards, domain)?;
-    let before = part_beside(alloc, reading, kind, stats, shards, domain, range.before, Key::Before)?;
-    let between = part_beside(alloc, reading, kind, stats, shards, domain, range.between, Key::Between)?;
-    let after = part_beside(alloc, reading, kind, stats, shards, domain, range.after, Key::After)?;
+    let before = part_beside(
+        alloc,
+        reading,
+        kind,
+        stats,
+        shards,
+        domain,
+        range.before,
+        Key::Before,
+    )?;
+    let between = part_beside(
+        alloc,
+        reading,
+        kind,
+        stats,
+        shards,
+        domain,
+        range.between,
+        Key::Between,
+    )?;
+    let after = part_beside(
+        alloc,
+        reading,
+        kind,
+        stats,
+        shards,
+        domain,
+        range.after,
+        Key::After,
+    )?;
     Ok(Parts {
         list,
         missing: None,

@@ -29,9 +29,13 @@ pub trait BucketReading {
 
     // What they mean, and the definition's reading of these meanings.
     ghost Held: { Type 0 };
+
     ghost Over: { Type 0 };
+
     ghost held: { Self.Bucket → Self.Held };
+
     ghost over: { Self.Domain → Self.Over };
+
     ghost reading: { Self → Reading Self.Held Self.Over };
     // What else is made of a domain for a kind of facet.
     ghost is_for: { Self.Domain → code.Kind → Type 0 };

@@ -303,7 +303,16 @@ pub(crate) fn terms_parts<R: BucketReading>(
 {
     let printed = printed(alloc, reading, node, terms, stats, shards, domain)?;
     let list = value_parts(alloc, printed)?;
-    let missing = part_beside(alloc, reading, &node.kind, stats, shards, domain, terms.missing, Key::Missing)?;
+    let missing = part_beside(
+        alloc,
+        reading,
+        &node.kind,
+        stats,
+        shards,
+        domain,
+        terms.missing,
+        Key::Missing,
+    )?;
     Ok(Parts {
         list,
         missing,

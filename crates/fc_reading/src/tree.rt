@@ -6,6 +6,7 @@ ghost use Rattle.fc_spec.specs.replies.Distributed as definition;
 ghost use Rattle.fc_spec.specs.replies.Printed as print;
 ghost use Rattle.fc_spec.specs.replies.Reading.{stats_on};
 ghost use Rattle.fc_spec.specs.documents.Val.{Text};
+ghost use Rattle.fc_spec.specs.words.Lists.{is_empty};
 ghost use Rattle.fc_spec.specs.replies.Reply as reply;
 ghost use Rattle.fc_partial.specs.StatsView.{stats_view};
 ghost use Rattle.fc_partial.specs.View.{stat_value_view};
@@ -20,7 +21,7 @@ ghost use Rattle.fc_reading.specs.Tree.{AreCountedIn, count_in, facet_over, HasV
 use crate::BucketReading;
 use crate::kinds::printed;
 use crate::part::{Part, Parts, Printed};
-use fc_base::WantMemory;
+use fc_base::{Name, WantMemory};
 use fc_facet::Kind;
 use fc_partial::{StatValue, Stats};
 use fc_reply::{ReplyBody, ReplyBucket, ReplyBuckets, ReplyFacet};
@@ -42,11 +43,31 @@ fn number_of(stats: &Stats, number: usize) -> Option<i64>
     }
 }
 
+// The same as the body of a facet.
+fn number_body(stats: &Stats, number: usize) -> Option<ReplyBody>
+    ensures { (v : statistics.StatValue) (name : Text) (more : reply.Facets)
+        → slice_get (stats_view stats.now).values number ≡ Some v
+        → facet_over (option_map (λ body. body_view body name) result) more
+        ≡ print.statistic_part (stats.now.count == 0) name (statistics.shown v) more }
+{
+    match number_of(stats, number) {
+        Some(number) => Some(ReplyBody::Number(number)),
+        None => None,
+    }
+}
+
 // Whether a node is a statistic.
 fn is_statistic(node: &Node) -> bool
     ensures { result ≡ is_some (statistic_of_node (node_view node.now).1) }
 {
     matches!(&node.kind, Kind::Stat(_))
+}
+
+// Whether there is no tag.
+fn is_none(tags: &[Name]) -> bool
+    ensures { result ≡ is_empty tags.now }
+{
+    tags.is_empty()
 }
 
 // A printed bucket with the facets in it.
@@ -62,7 +83,14 @@ fn bucket<R: BucketReading>(
     ensures { IfOk result (λ bucket. bucket_view bucket ≡ bucket_with (count_in (R.reading reading.now))
         (inside (R.reading reading.now) (inner_view node.now)) (part_view R.held reply.listed part)) }
 {
-    let facets = facets(alloc, reading, node, &part.shards, &part.bucket, &part.stats)?;
+    let facets = facets(
+        alloc,
+        reading,
+        node,
+        &part.shards,
+        &part.bucket,
+        &part.stats,
+    )?;
     Ok(ReplyBucket {
         val: part.val,
         count: part.stats.count,
@@ -181,7 +209,7 @@ fn buckets_body<R: BucketReading>(
         (inner_view node.now) (inside (R.reading reading.now) (inner_view node.now)) shards.now
         ((R.reading reading.now).domain_on number (facet_view node.now) shards.now (R.held around.now)) more) more) }
 {
-    if count == 0 && node.domain.exclude.is_empty() {
+    if count == 0 && is_none(&node.domain.exclude) {
         return Ok(None);
     }
     let domain = reading.domain_on(alloc, number, node, shards, around)?;
@@ -211,7 +239,7 @@ fn facet<R: BucketReading>(
         ≡ definition.dist_facets (R.reading reading.now) (node_before (node_view node.now) rest) number statistic shards.now (R.held around.now)) }
 {
     let body = match &node.kind {
-        Kind::Stat(_) => number_of(stats, statistic).map(ReplyBody::Number),
+        Kind::Stat(_) => number_body(stats, statistic),
         _ => buckets_body(alloc, reading, number, node, shards, around, stats.count)?,
     };
     match body {
@@ -241,7 +269,9 @@ pub(crate) fn facets<R: BucketReading>(
     let mut printed = Vec::new(alloc);
     let mut statistics = 0;
     for (number, nested) in node.nodes.iter().enumerate() {
-        if let Some(facet) = facet(alloc, reading, number, statistics, nested, shards, around, stats)? {
+        if let Some(facet) = facet(
+            alloc, reading, number, statistics, nested, shards, around, stats,
+        )? {
             printed.push(facet)?;
         }
         if is_statistic(nested) {

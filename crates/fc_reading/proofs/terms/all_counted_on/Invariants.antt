@@ -1,4 +1,4 @@
-use Rattle.std.proofs.Common.{◌≡◌, ◌×◌, ◌++◌, ℕ, List, map}
+use Rattle.std.proofs.Common.{◌≡◌, ◌++◌, ℕ, List, map}
 use Rattle.std.specs.Prelude.{All}
 use Rattle.fc_base.specs.StatisticView.{stat_view}
 use Rattle.fc_spec.specs.documents.Val.{Val}

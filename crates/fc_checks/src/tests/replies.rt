@@ -1,0 +1,138 @@
+// Replies to requests over small worlds, byte by byte.
+mod commits;
+mod domains;
+mod queries;
+mod ranges;
+mod shards;
+mod shops;
+mod statistics;
+mod terms;
+
+ghost use Rattle.std.specs.Prelude.{IfOk};
+ghost use Rattle.serde_json.specs.View.{view};
+ghost use Rattle.fc_spec.specs.scripts.JsonValues.{HasAscendingKeys, HasNumbers};
+ghost use Rattle.fc_request.specs.RequestView.{request_view};
+ghost use Rattle.fc_reading.specs.GoodRanges.{AreCountable};
+
+use fc_base::{Name, Schema};
+use fc_docs::{Block, read_block};
+use fc_plain::{is_within_limits, reply};
+use fc_reading::valid_requests_are_countable;
+use fc_reply::reply_line;
+use fc_request::Request;
+use fc_spec::texts_are_json;
+use serde_json::Value;
+use std::alloc::Global;
+use std::process::Abort;
+use std::test::Fail;
+
+// What is asked over one world, and the lines of the replies.
+struct Table {
+    // The JSON of the schema, and for each shard that of its blocks.
+    schema: &'static str,
+    shards: &'static [&'static str],
+    // The number of each shard's generation, and the session.
+    generations: &'static [u64],
+    session: &'static str,
+    // What follows the facets in each line.
+    ending: &'static str,
+    // For each request a name, its JSON, and the facets of its line.
+    rows: &'static [(&'static str, &'static str, &'static str)],
+}
+
+fn json_of(alloc: Global, text: &str) -> Result<Value, Fail>
+    ensures { IfOk result (λ json. HasNumbers (view json) × HasAscendingKeys (view json)) }
+{
+    texts_are_json();
+    Ok(Value::from_slice(alloc, text.as_bytes())?)
+}
+
+fn blocks_of(alloc: Global, schema: &Schema, text: &str) -> Result<Vec<Block>, Fail> {
+    let json = json_of(alloc, text)?;
+    let mut blocks = Vec::new(alloc);
+    if let Some(items) = json.as_array() {
+        for item in items {
+            blocks.push(read_block(alloc, schema, item)?)?;
+        }
+    }
+    Ok(blocks)
+}
+
+fn request_of(alloc: Global, schema: &Schema, text: &str) -> Result<Request, Fail>
+    ensures { IfOk result (λ request. AreCountable (request_view request).nodes) }
+{
+    valid_requests_are_countable();
+    let json = json_of(alloc, text)?;
+    Ok(Request::read(alloc, schema, &json)?)
+}
+
+// Each request of the table has its line.
+fn compare_lines(rt: &impl Abort, alloc: Global, table: &Table) -> Result<(), Fail> {
+    let schema = Schema::read(alloc, &json_of(alloc, table.schema)?)?;
+    let session = Name::new(alloc, table.session)?;
+    let mut shards = Vec::new(alloc);
+    for text in table.shards {
+        shards.push(blocks_of(alloc, &schema, text)?)?;
+    }
+    let mut world = Vec::new(alloc);
+    for blocks in &shards {
+        world.push(blocks.as_slice())?;
+    }
+    assert!(rt; is_within_limits(alloc, &world)?);
+    for (name, asked, facets) in table.rows {
+        let request = request_of(alloc, &schema, asked)?;
+        let reply = reply(alloc, &request, &world)?;
+        let line = reply_line(alloc, &reply, table.generations, &session)?;
+        let found = String::from_utf8_lossy(alloc, &line)?;
+        let wanted = format!(in alloc; "{{\"facets\":{facets}{}\n", table.ending)?;
+        assert!(rt; found.as_str() == wanted.as_str(), "{name}: {found}");
+    }
+    Ok(())
+}
+
+fn compare(rt: &impl Abort, alloc: Global, tables: &[Table]) -> Result<(), Fail> {
+    for table in tables {
+        compare_lines(rt, alloc, table)?;
+    }
+    Ok(())
+}
+
+#[test]
+fn terms_facets(rt: HostRuntime) -> Result<(), Fail> {
+    compare(&rt, rt.alloc(), terms::TABLES)
+}
+
+#[test]
+fn statistics_of_buckets(rt: HostRuntime) -> Result<(), Fail> {
+    compare(&rt, rt.alloc(), statistics::TABLES)
+}
+
+#[test]
+fn several_shards(rt: HostRuntime) -> Result<(), Fail> {
+    compare(&rt, rt.alloc(), shards::TABLES)
+}
+
+#[test]
+fn range_facets(rt: HostRuntime) -> Result<(), Fail> {
+    compare(&rt, rt.alloc(), ranges::TABLES)
+}
+
+#[test]
+fn changed_domains(rt: HostRuntime) -> Result<(), Fail> {
+    compare(&rt, rt.alloc(), domains::TABLES)
+}
+
+#[test]
+fn query_texts(rt: HostRuntime) -> Result<(), Fail> {
+    compare(&rt, rt.alloc(), queries::TABLES)
+}
+
+#[test]
+fn whole_pages(rt: HostRuntime) -> Result<(), Fail> {
+    compare(&rt, rt.alloc(), shops::TABLES)
+}
+
+#[test]
+fn generations_and_sessions(rt: HostRuntime) -> Result<(), Fail> {
+    compare(&rt, rt.alloc(), commits::TABLES)
+}

@@ -1,0 +1,55 @@
+-- What is known of offered values and of the lists that their candidates are counted on.
+use Rattle.std.proofs.Common.{◌≡◌, ℕ, List, [], ◌∷◌, map, Bool, true, false, cond, Option, None, Some, not, ◌&&◌, refl, ap, sym, ◌∙◌, subst}
+use Rattle.std.specs.Prelude.{All, is_some}
+use Rattle.std.proofs.lemmas.List.Elements.{All-head, All-tail, All-nil, All-cons, All-map}
+use Rattle.fc_spec.specs.documents.Val.{Val}
+use Rattle.fc_spec.specs.requests.Request.{Terms, Nodes}
+use Rattle.fc_spec.specs.replies.Reading.{Reading}
+use Rattle.fc_spec.specs.replies.Chosen as chosen
+use Rattle.fc_base.specs.View.{val_view}
+use Rattle.fc_reading.specs.declared.candidate.Candidate.{Candidate}
+use Rattle.fc_reading.specs.declared.offered.Offered.{Offered}
+use Rattle.fc_reading.specs.Terms.{counted_first, IsOn, offered_view}
+
+All-unmap : {X Y : Type 0} (P : Y → Type 0) (f : X → Y) (xs : List X) → All P (map f xs) → All (λ x. P (f x)) xs
+All-unmap P f [] all = All-nil (λ x. P (f x))
+All-unmap P f (x ∷ xs) all = All-cons (λ x. P (f x)) x xs (All-head P (f x) (map f xs) all) (All-unmap P f xs (All-tail P (f x) (map f xs) all))
+
+firsts : (os : List Offered) → map (λ (p : Val × List ℕ). p.0) (map offered_view os) ≡ map (λ o. val_view o.val.now) os
+firsts [] = refl
+firsts (o ∷ os) = ap (λ vs. val_view o.val.now ∷ vs) (firsts os)
+
+firsts_made : (h : Val → List ℕ) (vs : List Val) → map (λ (p : Val × List ℕ). p.0) (map (λ v. (v, h v)) vs) ≡ vs
+firsts_made h [] = refl
+firsts_made h (v ∷ vs) = ap (λ ws. v ∷ ws) (firsts_made h vs)
+
+module _ (h : Val → List ℕ) (vs : List Val) (os : List Offered) (is : map offered_view os ≡ map (λ v. (v, h v)) vs) where
+  -- each has the shards of its value
+  pub offered_shards : All (λ (o : Offered). o.shards.items ≡ h (val_view o.val.now)) os
+  offered_shards = All-unmap (λ (p : Val × List ℕ). p.1 ≡ h p.0) offered_view os
+      (subst (All (λ (p : Val × List ℕ). p.1 ≡ h p.0)) (sym is) (All-map (λ (p : Val × List ℕ). p.1 ≡ h p.0) (λ v. (v, h v)) vs (λ k d lt. refl)))
+
+  -- their values
+  pub offered_vals : map (λ o. val_view o.val.now) os ≡ vs
+  offered_vals = sym (firsts os) ∙ ap (λ ps. map (λ (p : Val × List ℕ). p.0) ps) is ∙ firsts_made h vs
+
+module _ {B H D : Type 0} (R : Reading H D) (t : Terms) (inner : Nodes) (K : List ℕ) (Y : D) (held : B → H) where
+  -- the shards that are counted first
+  first_shards : (offering : List ℕ) (refine : Bool) (limit : Option ℕ) → cond (refine && not (is_some limit)) K offering ≡ cond (refine && is_some limit) offering (cond refine K offering)
+  first_shards offering true None = refl
+  first_shards offering true (Some n) = refl
+  first_shards offering false limit = refl
+
+  -- counted on the shards that are its value's
+  pub on_where : (counted : Val → List ℕ) (shards : List ℕ) (c : Candidate B) → shards ≡ counted (val_view c.val) → IsOn R t inner K Y held (λ v. shards) c → IsOn R t inner K Y held counted c
+  on_where counted shards c is h = record {
+    bucket = h.bucket;
+    shards_are = h.shards_are ∙ is;
+    entry = h.entry ∙ ap (λ s. chosen.entry_on R t inner K Y s (val_view c.val)) is;
+  }
+
+  pub on_first : (val : Val) (offered shards : List ℕ) (c : Candidate B) → val_view c.val ≡ val → offered ≡ chosen.offering R t inner K Y val
+      → shards ≡ cond (t.refine && not (is_some t.limit)) K offered → IsOn R t inner K Y held (λ v. shards) c → IsOn R t inner K Y held (counted_first R t inner K Y) c
+  on_first val offered shards c same offers is h =
+      on_where (counted_first R t inner K Y) shards c
+      (is ∙ ap (λ o. cond (t.refine && not (is_some t.limit)) K o) offers ∙ first_shards (chosen.offering R t inner K Y val) t.refine t.limit ∙ ap (counted_first R t inner K Y) (sym same)) h
