@@ -6,7 +6,6 @@ pub mod Fitting
 pub mod FittingDomains
 pub mod FoundGroup
 pub mod Gathered
-pub mod GrowingGroups
 pub mod Longs
 pub mod Moved
 pub mod NearGaps

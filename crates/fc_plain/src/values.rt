@@ -9,7 +9,8 @@ ghost use Rattle.fc_spec.specs.requests.Request as request;
 ghost use Rattle.fc_base.specs.View.{val_view};
 ghost use Rattle.fc_facet.specs.KindView.{terms_view};
 ghost use Rattle.fc_reading.specs.FacetNode.{vals_view};
-ghost use Rattle.fc_plain.specs.Groups.{AreValueGroups, Grows, Holds, groups_view, map_view};
+ghost use Rattle.fc_reading.specs.Grouped.{Grows, Holds, map_view};
+ghost use Rattle.fc_plain.specs.Groups.{AreValueGroups, groups_view};
 ghost use Rattle.fc_plain.specs.PlaceView.{place_view, places_view};
 
 use crate::place::Place;
@@ -57,8 +58,8 @@ fn places_by_value<'a>(
     terms: &Terms,
     places: &[Place<'a>],
 ) -> Result<BTreeMap<&'a Val, Vec<Place<'a>>>, WantMemory>
-    ensures { IfOk result (λ by_value. Holds
-        (terms_view terms.now) (places_view places.now) (map_view by_value)) }
+    ensures { IfOk result (λ by_value. Holds (λ v. value_places
+        (terms_view terms.now) v (places_view places.now)) (map_view place_view by_value)) }
 {
     let mut by_value = BTreeMap::new(alloc);
     for place in places {
@@ -72,7 +73,7 @@ fn groups_of<'a>(
     alloc: Global,
     by_value: BTreeMap<&'a Val, Vec<Place<'a>>>,
 ) -> Result<Vec<Group<'a>>, WantMemory>
-    ensures { IfOk result (λ groups. groups_view groups.items ≡ map_view by_value.entry) }
+    ensures { IfOk result (λ groups. groups_view groups.items ≡ map_view place_view by_value.entry) }
 {
     let mut groups = Vec::with_capacity(alloc, by_value.len())?;
     for (val, places) in by_value {
@@ -125,7 +126,7 @@ fn push_for_each<'a>(
     vals: &BTreeSet<&'a Val>,
     place: Place<'a>,
 ) -> Result<(), WantMemory>
-    ensures { OnOk result (Grows
+    ensures { OnOk result (Grows place_view
         by_value.old by_value.new (vals_view vals.now.keys) (place_view place.entry)) }
 {
     for val in vals {
@@ -141,7 +142,7 @@ fn push_place<'a>(
     val: &'a Val,
     place: Place<'a>,
 ) -> Result<(), WantMemory>
-    ensures { OnOk result (Grows
+    ensures { OnOk result (Grows place_view
         by_value.old by_value.new (val_view val.now ∷ []) (place_view place.entry)) }
 {
     let places = by_value.entry(val)?.or_insert(Vec::new(alloc));

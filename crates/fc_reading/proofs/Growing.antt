@@ -1,5 +1,5 @@
 -- Items put under values, one after another.
-use Rattle.std.proofs.Common.{◌≡◌, ℕ, List, [], ◌∷◌, ◌++◌, map, Bor, Bool, true, false, cond, ◌||◌, Option, Some, None, Vec, unwrap_or, option_map, is_some, refl, sym, ◌∙◌, ap, subst, append-nil}
+use Rattle.std.proofs.Common.{◌≡◌, ℕ, List, [], ◌∷◌, ◌++◌, map, Bor, Bool, true, false, cond, ◌||◌, Option, Some, None, Vec, unwrap_or, option_map, is_some, length, not, suc, arith, refl, sym, ◌∙◌, ap, subst, append-nil}
 use Rattle.std.specs.BTreeMap.{get, insert_entry, is_at}
 use Rattle.std.specs.List.{AllByRecursion, list_any}
 use Rattle.std.specs.List.Sorted.{IsStrictlySortedBy}
@@ -8,12 +8,13 @@ use Rattle.std.specs.Ordering.{on}
 use Rattle.std.specs.declared.alloc.Global.{Global}
 use Rattle.std.specs.declared.cmp.Ordering.{Ordering}
 use Rattle.std.specs.declared.cmp.Ordering.TheVariants.{Less}
-use Rattle.std.proofs.lemmas.Bool.{true≢false, false≢true}
+use Rattle.std.proofs.lemmas.Bool.{true≢false, false≢true, ne_eqb}
 use Rattle.std.proofs.lemmas.List.{map_push}
 use Rattle.fc_base.specs.View.{val_view}
 use Rattle.fc_base.specs.declared.value.Val as code
 use Rattle.fc_partial.proofs.ViewedEntries.{lookup-seen, keys_of-seen, insert_entry-seen, sorted_seen, lookup-insert_entry}
 use Rattle.fc_reading.specs.Grouped.{Group, ValueMap, map_view, list_at, grown, Ascend, Grows, if_any, Holds}
+use Rattle.fc_spec.specs.words.Lists.{is_empty}
 use Rattle.fc_spec.specs.documents.Val.{Val, val_cmp, same_val, has_val}
 use Rattle.fc_spec.specs.documents.ValOrder.{val_cmp_total}
 use Rattle.fc_spec.proofs.documents.Ascending.{not_among}
@@ -149,6 +150,10 @@ module _ {V : Type 0} where
       ap (λ b. cond b (Some g.1) (list_at v gs)) (sym other) ∙ at v (ap (λ b. b || has_val v (keys_of gs)) other ∙ among) in
       let rest = groups_by_key f gs sorted.1 later in
       λ i. (g.0, first i) ∷ rest i
+
+  pub is_some-if_any : (xs : List V) → is_some (if_any xs) ≡ not (is_empty xs)
+  is_some-if_any [] = refl
+  is_some-if_any (x ∷ xs) = sym (ap not (ne_eqb (suc (length xs)) 0 (λ e. omega arith)))
 
   pub if_any-some : (xs : List V) → is_some (if_any xs) ≡ true → if_any xs ≡ Some xs
   if_any-some [] h = absurd (false≢true h)

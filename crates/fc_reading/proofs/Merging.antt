@@ -13,7 +13,7 @@ use Rattle.fc_spec.proofs.requests.FoundValues.{not-is_empty-filter}
 use Rattle.fc_spec.proofs.words.Members.{list_any-flat_map}
 use Rattle.fc_reading.specs.Grouped.{Group, if_any, Holds}
 use Rattle.fc_reading.specs.Terms.{merged}
-use Rattle.fc_reading.proofs.Growing.{has_val-keys, held_groups}
+use Rattle.fc_reading.proofs.Growing.{has_val-keys, held_groups, is_some-if_any}
 
 -- the shards that offer a value
 abbrev pub shards_with : (ℕ → List Val) → List ℕ → Val → List ℕ
@@ -36,10 +36,6 @@ pub offered_at : {X : Type 0} (see : X → List Val) (f : ℕ → List Val) (off
     → at < length offers → at < length shards → x ≡ get_or offers at x → see x ≡ f (get_or shards at 0)
 offered_at see f offers shards at x same h k is =
     ap see is ∙ sym (get_or-map see offers at x [] h) ∙ ap (λ l. get_or l at []) same ∙ get_or-map f shards at 0 [] k
-
-is_some-if_any : (xs : List ℕ) → is_some (if_any xs) ≡ not (is_empty xs)
-is_some-if_any [] = refl
-is_some-if_any (x ∷ xs) = sym (ap not (ne_eqb (suc (length xs)) 0 (λ e. omega arith)))
 
 -- the groups are those of the offered values
 pub merged_groups : (f : ℕ → List Val) (shards : List ℕ) (gs : List (Group ℕ)) → Holds (shards_with f shards) gs → gs ≡ merged f shards

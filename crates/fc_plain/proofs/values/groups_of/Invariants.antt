@@ -1,7 +1,9 @@
 use Rattle.std.proofs.Common.{◌≡◌, ◌++◌}
-use Rattle.fc_plain.specs.Groups.{groups_view, map_view}
-use Rattle.fc_plain.proofs.GrowingGroups.{seen}
+use Rattle.fc_plain.specs.Groups.{groups_view}
+use Rattle.fc_plain.specs.PlaceView.{place_view}
+use Rattle.fc_reading.specs.Grouped.{map_view}
+use Rattle.fc_reading.proofs.Growing.{seen}
 use Rattle.fc_plain.proofs.values.groups_of.Given as goal
 
 abbrev pub invariant-loop-val : goal.invariant-loop-val
-invariant-loop-val l = groups_view l.groups.items ++ seen l.val-iterator ≡ map_view l.fn.by_value
+invariant-loop-val l = groups_view l.groups.items ++ seen place_view l.val-iterator ≡ map_view place_view l.fn.by_value

@@ -1,15 +1,17 @@
 use Rattle.std.proofs.Common.{◌≡◌, ◌+◌, ◌++◌, ◌∷◌, [], List, take, sym, ◌∙◌, ap, subst}
 use Rattle.std.proofs.lemmas.List.{map_more}
 use Rattle.fc_facet.specs.KindView.{terms_view}
-use Rattle.fc_plain.proofs.GrowingGroups.{holds_none, holds_more}
-use Rattle.fc_plain.specs.Groups.{Holds, map_view}
+use Rattle.fc_plain.proofs.ValueGroups.{no_places, one_more_place}
+use Rattle.fc_reading.proofs.Growing.{holds_more}
+use Rattle.fc_reading.specs.Grouped.{Holds, map_view}
+use Rattle.fc_spec.specs.replies.Values.{value_places}
 use Rattle.fc_plain.specs.PlaceView.{place_view, places_view}
 use Rattle.fc_reading.specs.FacetNode.{vals_view}
 use Rattle.fc_spec.specs.documents.World.{Place}
 use Rattle.fc_plain.proofs.values.places_by_value.Goals as goal
 
 pub loop-place-init : goal.loop-place-init
-loop-place-init c = rw c.new-by_value.ensures.empty (holds_none (terms_view c.args.terms.now))
+loop-place-init c = rw c.new-by_value.ensures.empty (no_places (terms_view c.args.terms.now))
 
 pub loop-place-preserved : goal.loop-place-preserved
 loop-place-preserved c =
@@ -23,5 +25,6 @@ loop-place-preserved c =
     let done = places_view (take i xs) in
     let more : places_view (take (i + 1) xs) ≡ done ++ place_view x ∷ [] =
     map_more place_view xs i x c.loop-place-test.true ∙ ap (λ y. done ++ place_view y ∷ []) (sym c.place-item.is) in
-    subst (λ (Y : List Place). Holds t Y (map_view new)) (sym more)
-    (holds_more t done (place_view x) old new vals c.loop-place.invariant c.in_ok-vals.ensures c.in_ok-push_for_each.ensures)
+    subst (λ (Y : List Place). Holds (λ v. value_places t v Y) (map_view place_view new)) (sym more)
+    (holds_more place_view (λ v. value_places t v done) (λ v. value_places t v (done ++ place_view x ∷ [])) (place_view x) old new vals c.loop-place.invariant c.in_ok-push_for_each.ensures
+    (one_more_place t done (place_view x) vals c.in_ok-vals.ensures))

@@ -1,7 +1,8 @@
 use Rattle.fc_plain.specs.PlaceView.{place_view}
 use Rattle.fc_reading.specs.FacetNode.{vals_view}
-use Rattle.fc_plain.proofs.GrowingGroups.{IsGrowing}
+use Rattle.fc_reading.proofs.Growing.{IsGrowing}
+use Rattle.fc_reading.specs.Grouped.{map_view}
 use Rattle.fc_plain.proofs.values.push_for_each.Given as goal
 
 abbrev pub invariant-loop-val : goal.invariant-loop-val
-invariant-loop-val l = IsGrowing l.fn.by_value l.by_value (vals_view l.val-iterator) (vals_view l.vals.keys) (place_view l.place)
+invariant-loop-val l = IsGrowing (map_view place_view l.fn.by_value) (map_view place_view l.by_value) (vals_view l.val-iterator) (vals_view l.vals.keys) (place_view l.place)

@@ -1,11 +1,12 @@
 use Rattle.std.proofs.Common.{◌∙◌, ap, unwrap_or, rules}
 use Rattle.std.specs.BTreeMap.Entry.{map_with_value}
-use Rattle.fc_plain.proofs.GrowingGroups.{pushed}
+use Rattle.fc_reading.proofs.Growing.{pushed_written}
+use Rattle.fc_plain.specs.PlaceView.{place_view}
 use Rattle.fc_plain.proofs.values.push_place.Goals as goal
 
 pub returns : goal.returns
 returns c =
     let writes = c.in_ok-by_value.ensures.update in
     let empty = c.new.result in
-    pushed c.args.by_value.now _ (map_with_value c.in_ok-by_value.field-0) c.args.val (λ w. writes.1 w) (λ w. writes.2 w) empty c.or_insert-places.result.now c.push.new.self c.args.place
+    pushed_written place_view c.args.by_value.now _ (map_with_value c.in_ok-by_value.field-0) c.args.val (λ w. writes.1 w) (λ w. writes.2 w) empty c.or_insert-places.result.now c.push.new.self c.args.place
     c.new.ensures.items (c.or_insert-places.ensures.value ∙ ap (λ o. unwrap_or o empty) c.in_ok-by_value.ensures.value) c.in_ok-push.ensures.items (search rules)
