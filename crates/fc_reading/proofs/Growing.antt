@@ -1,7 +1,7 @@
 -- Items put under values, one after another.
-use Rattle.std.proofs.Common.{◌≡◌, ℕ, List, [], ◌∷◌, ◌++◌, map, Bor, Bool, true, false, cond, ◌||◌, Option, Some, None, Vec, unwrap_or, option_map, is_some, length, not, suc, arith, refl, sym, ◌∙◌, ap, subst, append-nil}
+use Rattle.std.proofs.Common.{◌≡◌, List, [], ◌∷◌, ◌++◌, map, Bor, Bool, true, false, cond, ◌||◌, Option, Some, None, Vec, unwrap_or, option_map, is_some, length, not, suc, arith, refl, sym, ◌∙◌, ap, subst, append-nil}
 use Rattle.std.specs.BTreeMap.{get, insert_entry, is_at}
-use Rattle.std.specs.List.{AllByRecursion, list_any}
+use Rattle.std.specs.List.{AllByRecursion}
 use Rattle.std.specs.List.Sorted.{IsStrictlySortedBy}
 use Rattle.std.specs.Map.{lookup, keys_of}
 use Rattle.std.specs.Ordering.{on}

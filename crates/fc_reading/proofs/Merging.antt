@@ -1,17 +1,15 @@
 -- The values that shards offer, each with its shards.
-use Rattle.std.proofs.Common.{◌≡◌, ℕ, ◌+◌, ◌<◌, suc, List, [], ◌∷◌, ◌++◌, map, length, take, get_or, Bool, cond, not, is_some, refl, sym, ◌∙◌, ap, arith}
+use Rattle.std.proofs.Common.{◌≡◌, ℕ, ◌+◌, ◌<◌, List, [], ◌∷◌, ◌++◌, map, length, take, get_or, Bool, cond, is_some, refl, sym, ◌∙◌, ap}
 use Rattle.std.specs.List.{filter, flat_map}
 use Rattle.std.specs.List.Sorted.{IsStrictlySortedBy}
 use Rattle.std.specs.Map.{keys_of}
-use Rattle.std.proofs.lemmas.Bool.{ne_eqb}
 use Rattle.std.proofs.lemmas.List.{take_more, get_or-map}
 use Rattle.std.proofs.lemmas.List.Elements.{filter-append}
 use Rattle.fc_spec.specs.documents.Val.{Val, same_val, has_val, distinct}
-use Rattle.fc_spec.specs.words.Lists.{is_empty}
 use Rattle.fc_spec.proofs.documents.Ascending.{same_ascending, has_val-distinct, distinct_ascends}
 use Rattle.fc_spec.proofs.requests.FoundValues.{not-is_empty-filter}
 use Rattle.fc_spec.proofs.words.Members.{list_any-flat_map}
-use Rattle.fc_reading.specs.Grouped.{Group, if_any, Holds}
+use Rattle.fc_reading.specs.Grouped.{Group, Holds}
 use Rattle.fc_reading.specs.Terms.{merged}
 use Rattle.fc_reading.proofs.Growing.{has_val-keys, held_groups, is_some-if_any}
 

@@ -1,15 +1,8 @@
 -- What a node is, kind by kind.
-use Rattle.std.proofs.Common.{◌≡◌, ℕ, suc, ◌+◌, List, [], ◌∷◌, Bool, true, false, cond, Option, None, Some, option_map, refl, ap, sym, ◌∙◌, subst, ◌==◌}
-use Rattle.std.specs.Prelude.{ℤ, slice_get, length, map}
+use Rattle.std.proofs.Common.{◌≡◌, true, None, Some, refl, ap, ◌∙◌, subst}
 use Rattle.fc_spec.specs.documents.Val.{Text}
 use Rattle.fc_spec.specs.requests.Request as request
 use Rattle.fc_spec.specs.requests.Request.{Stat, Nodes, no_nodes}
-use Rattle.fc_spec.specs.requests.RequestReading.{of_statistic, of_facet}
-use Rattle.fc_spec.specs.requests.Statistics.{StatValue, Stats, shown}
-use Rattle.fc_spec.specs.replies.Reply.{Facets, with_number, number}
-use Rattle.fc_spec.specs.replies.Printed.{facet_part, statistic_part}
-use Rattle.fc_spec.specs.replies.Reading.{Reading}
-use Rattle.fc_spec.specs.replies.Distributed.{dist_facets, dist_buckets}
 use Rattle.fc_base.specs.StatisticView.{stat_view}
 use Rattle.fc_facet.specs.declared.kind.Kind.{Kind}
 use Rattle.fc_facet.specs.declared.kind.Kind.TheVariants as k
@@ -20,7 +13,7 @@ use Rattle.fc_request.specs.NodeView.{Part, node_of, node_step, node_view, inner
 use Rattle.fc_request.specs.NodeStatistics.{statistic_of_node}
 use Rattle.fc_reading.specs.FacetNode.{has_buckets, kind_of, kind_view, facet_view}
 use Rattle.fc_reading.specs.GoodRanges.{IsCountable, AreCountable}
-use Rattle.fc_reading.specs.Tree.{node_before, statistics_after, HasValue, inside}
+use Rattle.fc_reading.specs.Tree.{node_before}
 
 pub node_is : (n : Node) → node_view n ≡ ((out-Node n).name, node_of (domain_view (out-Node n).domain) (kind_of n) (inner_view n))
 node_is n = fold_out-Node Part node_step n

@@ -1,25 +1,18 @@
 -- What a node prints in a bucket.
-use Rattle.std.proofs.Common.{◌≡◌, ℕ, suc, ◌+◌, List, [], ◌∷◌, ◌++◌, Bool, true, false, cond, Option, None, Some, option_map, refl, ap, sym, ◌∙◌, subst, ◌==◌, map, drop}
-use Rattle.std.specs.Prelude.{ℤ, slice_get}
-use Rattle.fc_spec.specs.documents.Val.{Text}
-use Rattle.fc_spec.specs.requests.Request as request
-use Rattle.fc_spec.specs.requests.Request.{Stat, Nodes, no_nodes, Facet}
-use Rattle.fc_spec.specs.requests.Statistics.{StatValue, Stats, shown}
-use Rattle.fc_spec.specs.replies.Reply.{Facets, with_number, number}
+use Rattle.std.proofs.Common.{◌≡◌, ℕ, suc, List, true, Option, ap, sym, ◌∙◌, ◌==◌}
+use Rattle.fc_spec.specs.requests.Request.{Nodes}
+use Rattle.fc_spec.specs.requests.Statistics.{shown}
+use Rattle.fc_spec.specs.replies.Reply.{Facets}
 use Rattle.fc_spec.specs.replies.Printed.{facet_part, statistic_part}
 use Rattle.fc_spec.specs.replies.Reading.{Reading}
 use Rattle.fc_spec.specs.replies.Distributed.{dist_facets, dist_buckets}
 use Rattle.fc_base.specs.StatisticView.{stat_view}
 use Rattle.fc_facet.specs.declared.kind.Kind.TheVariants as k
 use Rattle.fc_request.specs.declared.node.Node.{Node, out-Node}
-use Rattle.fc_request.specs.NodeView.{node_view, inner_view, linked}
-use Rattle.fc_request.specs.NodeStatistics.{statistic_of_node}
-use Rattle.fc_reply.specs.declared.reply.ReplyFacet.{ReplyFacet}
-use Rattle.fc_reply.specs.ReplyView.{facet_view as printed_facet_view, facets_over}
-use Rattle.fc_reading.specs.FacetNode.{has_buckets, kind_of, kind_view, facet_view}
-use Rattle.fc_reading.specs.Tree.{node_before, one_more_if, statistics_after, HasValue, inside, facet_over}
+use Rattle.fc_request.specs.NodeView.{node_view, inner_view}
+use Rattle.fc_reading.specs.FacetNode.{has_buckets, kind_of, facet_view}
+use Rattle.fc_reading.specs.Tree.{node_before, one_more_if, statistics_after, inside, facet_over}
 use Rattle.fc_reading.proofs.Nodes.{facet_is, facet_is_no_statistic, statistic_is, statistic_of}
-use Rattle.fc_reading.proofs.Rows.{facets_more}
 
 module _ {B D : Type 0} (R : Reading B D) (H : List ℕ) (X : B) (n : Node) (at m : ℕ) (rest : Nodes) where
   abbrev after : ℕ

@@ -3,7 +3,7 @@ use Rattle.std.proofs.Common.{◌≡◌, ℕ, List, [], ◌∷◌, ◌++◌, map
 use Rattle.fc_spec.specs.documents.Val.{Text}
 use Rattle.fc_spec.specs.requests.Request.{Kind, terms, range, query, Nodes}
 use Rattle.fc_spec.specs.requests.Buckets.{Key}
-use Rattle.fc_spec.specs.replies.Reply.{Bucket, Facets, Row, no_parts, part, Spot, listed, as_missing, as_before, as_between, as_after, row_of, with_buckets, spot_of, many, one}
+use Rattle.fc_spec.specs.replies.Reply.{Bucket, Facets, no_parts, part, Spot, listed, as_missing, as_before, as_between, as_after, row_of, with_buckets, spot_of, many, one}
 use Rattle.fc_spec.specs.replies.Reading.{Reading}
 use Rattle.fc_spec.specs.replies.Distributed.{carried, printed_keys}
 use Rattle.fc_reply.specs.declared.reply.ReplyFacet.{ReplyFacet}

@@ -1,11 +1,11 @@
 -- What a row of buckets stands for.
-use Rattle.std.proofs.Common.{◌≡◌, List, map, Option, None, Some, option_map, refl, ◌∙◌}
+use Rattle.std.proofs.Common.{◌≡◌, map, Option, None, Some, option_map}
 use Rattle.std.specs.declared.vec.Vec.{Vec}
 use Rattle.std.specs.declared.alloc.Global.{Global}
 use Rattle.fc_spec.specs.replies.Reply as definition
 use Rattle.fc_reply.specs.ReplyView.{PutBody, PutFacet, body_step, bucket_step, buckets_step, facet_step, bucket_view, buckets_view, part_over, parts_over}
 use Rattle.fc_reply.specs.declared.reply.ReplyBucket.{ReplyBucket}
-use Rattle.fc_reply.specs.declared.reply.ReplyBuckets.{ReplyBuckets, roll-ReplyBuckets}
+use Rattle.fc_reply.specs.declared.reply.ReplyBuckets.{roll-ReplyBuckets}
 use Rattle.fc_reply.specs.declared.reply.ReplyBody.TheFolds.{fold-roll-ReplyBuckets}
 
 abbrev Beside : Type 0

@@ -1,5 +1,5 @@
 -- How many nodes there are, at any depth.
-use Rattle.std.proofs.Common.{◌≡◌, ℕ, zero, suc, ◌+◌, ◌*◌, ◌≤◌, List, [], ◌∷◌, drop, true, ap, ◌∙◌, arith}
+use Rattle.std.proofs.Common.{◌≡◌, ℕ, zero, suc, ◌+◌, ◌≤◌, List, [], ◌∷◌, drop, true, ap, arith}
 use Rattle.fc_spec.specs.requests.Request.{Nodes, no_nodes, statistic, facet}
 use Rattle.fc_spec.specs.requests.RequestReading.{of_statistic, of_facet}
 use Rattle.fc_request.specs.declared.node.Node.{Node}

@@ -1,18 +1,15 @@
 -- One node after another.
-use Rattle.std.proofs.Common.{◌≡◌, ℕ, zero, suc, ◌+◌, List, [], ◌∷◌, ◌++◌, map, drop, Bool, true, false, Option, None, Some, option_map, is_some, refl, ap, sym, ◌∙◌, subst, append_assoc, add-one, ◌&&◌, arith}
+use Rattle.std.proofs.Common.{◌≡◌, ℕ, zero, suc, ◌+◌, List, [], ◌∷◌, ◌++◌, map, drop, Bool, true, false, Option, None, Some, option_map, is_some, refl, ap, sym, ◌∙◌, append_assoc, add-one, ◌&&◌, arith}
 use Rattle.std.specs.Prelude.{slice_get}
 use Rattle.std.specs.List.{enumerate_from}
 use Rattle.std.proofs.lemmas.Bool.{true≢false, false≢true}
 use Rattle.std.proofs.lemmas.List.{map-append}
-use Rattle.fc_spec.specs.documents.Val.{Text}
 use Rattle.fc_spec.specs.requests.Request.{Stat, Nodes, no_nodes, stats_of}
-use Rattle.fc_spec.specs.requests.RequestReading as reading
 use Rattle.fc_spec.specs.requests.RequestReading.{of_statistic, of_facet}
 use Rattle.fc_spec.specs.requests.Statistics.{StatValue, Stats}
 use Rattle.fc_spec.specs.replies.Reply.{Facets, Bucket}
 use Rattle.fc_spec.specs.replies.Reading.{Reading}
 use Rattle.fc_request.specs.NodeView.{Part}
-use Rattle.fc_request.specs.NodeStatistics.{statistic_of_node}
 use Rattle.fc_reply.specs.declared.reply.ReplyFacet.{ReplyFacet}
 use Rattle.fc_reply.specs.declared.reply.ReplyBucket.{ReplyBucket}
 use Rattle.fc_reply.specs.ReplyView.{facet_view, facets_over, bucket_view}

@@ -1,6 +1,6 @@
 -- What is asked of the ranges of a request.
 use Rattle.std.specs.Prelude.{◌<◌}
-use Rattle.fc_spec.specs.requests.Request.{Kind, terms, range, query, Nodes, no_nodes, statistic, facet}
+use Rattle.fc_spec.specs.requests.Request.{Kind, range, Nodes, no_nodes, statistic, facet}
 use Rattle.fc_spec.specs.requests.Gaps.{gap_count}
 use Rattle.fc_spec.specs.requests.Buckets.{Key, gap}
 use Rattle.fc_facet.specs.RangeGaps.{HasFewGaps}

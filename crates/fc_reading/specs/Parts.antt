@@ -1,7 +1,7 @@
 -- Printed buckets without the facets in them.
 use Rattle.std.specs.Prelude.{◌≡◌, ℕ, List, [], ◌∷◌, ◌++◌, map, Option, None, Some, option_map, All, IfSome}
 use Rattle.fc_spec.specs.documents.Val.{Val}
-use Rattle.fc_spec.specs.requests.Request.{Kind, terms, range, query, Nodes, Stat, stats_of}
+use Rattle.fc_spec.specs.requests.Request.{Kind, query, Nodes, Stat, stats_of}
 use Rattle.fc_spec.specs.requests.Buckets.{Key, whole}
 use Rattle.fc_spec.specs.replies.Reply.{Spot, listed, as_missing, as_before, as_between, as_after, spot_of, val_of, bucket, Bucket, Facets, Row, no_parts, part}
 use Rattle.fc_spec.specs.replies.Reading.{Reading, stats_on}

@@ -1,10 +1,8 @@
 -- Candidates of a terms facet.
-use Rattle.std.specs.Prelude.{◌≡◌, ℕ, List, map, Bool, None, Some, if◌then◌else◌}
+use Rattle.std.specs.Prelude.{◌≡◌, ℕ, List, map, Some, if◌then◌else◌}
 use Rattle.std.specs.List.{filter, flat_map}
-use Rattle.std.specs.Borrow.{Bor}
-use Rattle.fc_spec.specs.documents.Val as value
 use Rattle.fc_spec.specs.documents.Val.{Val, has_val, distinct}
-use Rattle.fc_spec.specs.requests.Request.{Terms, terms, Nodes, stats_of}
+use Rattle.fc_spec.specs.requests.Request.{Terms, terms, Nodes}
 use Rattle.fc_spec.specs.requests.Buckets.{value as value_key}
 use Rattle.fc_spec.specs.requests.Ranks.{Entry}
 use Rattle.fc_spec.specs.requests.Shape.{asks_again}

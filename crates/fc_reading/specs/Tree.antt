@@ -1,7 +1,7 @@
 -- What a node adds to the facets of a bucket.
-use Rattle.std.specs.Prelude.{◌≡◌, ℕ, suc, List, [], ◌∷◌, Option, None, Some, slice_get, option_map}
+use Rattle.std.specs.Prelude.{◌≡◌, ℕ, suc, List, Option, None, Some, slice_get}
 use Rattle.fc_spec.specs.documents.Val.{Text}
-use Rattle.fc_spec.specs.requests.Request.{Stat, Nodes, no_nodes}
+use Rattle.fc_spec.specs.requests.Request.{Stat, Nodes}
 use Rattle.fc_spec.specs.requests.RequestReading.{with_node}
 use Rattle.fc_spec.specs.requests.Statistics.{Stats}
 use Rattle.fc_spec.specs.replies.Reading.{Reading}

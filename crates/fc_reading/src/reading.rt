@@ -19,8 +19,7 @@ use fc_partial::{Key, Stats};
 use fc_request::Node;
 use std::alloc::Global;
 
-/// What the reply to a request asks of its buckets, however these are held. A list of shards names each
-/// once.
+/// What the reply to a request asks of its buckets, however these are held.
 pub trait BucketReading {
     /// A bucket.
     type Bucket: Drop;
@@ -37,7 +36,7 @@ pub trait BucketReading {
     ghost over: { Self.Domain → Self.Over };
 
     ghost reading: { Self → Reading Self.Held Self.Over };
-    // What else is made of a domain for a kind of facet.
+    // That a domain was made for a kind of facet.
     ghost is_for: { Self.Domain → code.Kind → Type 0 };
 
     /// The domain of a facet, by its number among the nodes, in a bucket's part on the shards.

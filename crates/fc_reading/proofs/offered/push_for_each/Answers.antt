@@ -1,4 +1,4 @@
-use Rattle.std.proofs.Common.{◌≡◌, ◌+◌, ◌∷◌, List, suc, drop, drop-cons, map, ap, sym, subst, ◌∙◌, add-one}
+use Rattle.std.proofs.Common.{◌≡◌, ◌+◌, ◌∷◌, List, suc, drop, drop-cons, ap, sym, subst, ◌∙◌, add-one}
 use Rattle.fc_base.specs.View.{val_view}
 use Rattle.fc_reading.specs.FacetNode.{vals_view}
 use Rattle.fc_reading.specs.Grouped.{map_view}

@@ -1,4 +1,4 @@
-use Rattle.std.proofs.Common.{◌≡◌, ◌∙◌, ap, sym, map}
+use Rattle.std.proofs.Common.{◌∙◌, ap, sym, map}
 use Rattle.fc_spec.specs.replies.Chosen as chosen
 use Rattle.fc_facet.specs.KindView.{terms_view}
 use Rattle.fc_request.specs.NodeView.{inner_view}

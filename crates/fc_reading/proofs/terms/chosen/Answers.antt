@@ -1,9 +1,9 @@
-use Rattle.std.proofs.Common.{◌≡◌, ◌∙◌, ◌&&◌, ap, sym, Bool, true, false, Option}
+use Rattle.std.proofs.Common.{◌≡◌, ◌∙◌, ◌&&◌, ap, sym, Bool, true, false}
 use Rattle.std.specs.Prelude.{is_some}
 use Rattle.fc_spec.specs.requests.Request.{Terms}
 use Rattle.fc_spec.specs.requests.Ranks.{rank_bound}
 use Rattle.fc_spec.specs.requests.Shape.{asks_again}
-use Rattle.fc_facet.specs.KindView.{sort_view, terms_view}
+use Rattle.fc_facet.specs.KindView.{terms_view}
 use Rattle.fc_request.specs.NodeView.{inner_view}
 use Rattle.fc_reading.specs.Terms.{counted_first}
 use Rattle.fc_reading.proofs.Candidates.{all_known, candidates_ascend, front_vals, known_all, known_entries, refined_entries}

@@ -1,12 +1,9 @@
-use Rattle.std.proofs.Common.{◌≡◌, ◌∙◌, ap, sym, subst, nat_le}
+use Rattle.std.proofs.Common.{sym, subst, nat_le}
 use Rattle.std.specs.Prelude.{All}
-use Rattle.std.specs.List.{filter}
 use Rattle.std.proofs.lemmas.List.Elements.{All-filter}
-use Rattle.fc_spec.specs.requests.Ranks.{Entry, page}
 use Rattle.fc_spec.specs.replies.Chosen as chosen
-use Rattle.fc_facet.specs.KindView.{sort_view, terms_view}
+use Rattle.fc_facet.specs.KindView.{terms_view}
 use Rattle.fc_request.specs.NodeView.{inner_view}
-use Rattle.fc_reading.specs.declared.candidate.Candidate.{Candidate}
 use Rattle.fc_reading.specs.Terms.{candidates_view, IsOn}
 use Rattle.fc_refine.proofs.Among.{All-among}
 use Rattle.fc_reading.proofs.ValueParts.{counted_ascend, page_entries}

@@ -1,4 +1,4 @@
-use Rattle.std.proofs.Common.{◌≡◌, ◌∙◌, ap, sym, subst}
+use Rattle.std.proofs.Common.{ap, sym, subst}
 use Rattle.std.specs.Prelude.{All}
 use Rattle.fc_spec.specs.replies.Reply.{as_missing}
 use Rattle.fc_facet.specs.KindView.{terms_view}

@@ -1,12 +1,12 @@
-use Rattle.std.proofs.Common.{◌≡◌, ◌∙◌, ◌+◌, ◌++◌, ◌∷◌, [], ℕ, List, suc, drop, drop-cons, add-one, ap, sym, subst, map, option_map, Option, None, Some, cond, true, false, ◌==◌, ◌&&◌, rules, arith}
+use Rattle.std.proofs.Common.{◌≡◌, ◌∙◌, ◌+◌, ◌++◌, ◌∷◌, suc, drop, drop-cons, add-one, ap, sym, subst, map, option_map, cond, false, ◌==◌, ◌&&◌, rules, arith}
 use Rattle.std.proofs.lemmas.Bool.{ne_eqb}
 use Rattle.std.proofs.lemmas.List.Elements.{All-rest}
 use Rattle.fc_base.specs.StatisticView.{stat_view}
 use Rattle.fc_reading.proofs.Nodes.{has_buckets_by, statistic_of}
-use Rattle.fc_spec.specs.requests.Request.{Nodes, stats_of}
+use Rattle.fc_spec.specs.requests.Request.{stats_of}
 use Rattle.std.specs.List.{enumerate_from}
 use Rattle.fc_spec.specs.words.Lists.{is_empty}
-use Rattle.fc_spec.specs.replies.Reply.{Bucket, Facets, Row, listed}
+use Rattle.fc_spec.specs.replies.Reply.{Bucket, Row, listed}
 use Rattle.fc_spec.specs.replies.Distributed.{dist_buckets, dist_facets}
 use Rattle.fc_reading.specs.FacetNode.{facet_view as asked_facet, kind_of, kind_view}
 use Rattle.fc_reading.specs.GoodRanges.{AreCountable}
@@ -18,7 +18,7 @@ use Rattle.fc_request.specs.NodeStatistics.{statistic_of_node}
 use Rattle.fc_request.specs.NodeView.{inner_view, node_view, nodes_view}
 use Rattle.fc_request.specs.declared.node.Node.{out-Node}
 use Rattle.fc_reading.specs.Parts.{bucket_with, IsCounted, part_view}
-use Rattle.fc_reading.specs.Tree.{count_in, facet_over, inside, node_before, one_more_if, statistics_after}
+use Rattle.fc_reading.specs.Tree.{count_in, facet_over, inside, node_before, statistics_after}
 use Rattle.fc_reading.proofs.Sizes.{node_total, single_below, left_below}
 use Rattle.fc_reading.proofs.Rows.{put_as_defined, row_of_parts}
 use Rattle.fc_reading.proofs.Printing.{facet_prints, statistic_prints}
