@@ -13,12 +13,14 @@ ghost use Rattle.serde_json.specs.View.{view};
 ghost use Rattle.fc_spec.specs.scripts.JsonValues.{HasAscendingKeys, HasNumbers};
 ghost use Rattle.fc_request.specs.RequestView.{request_view};
 ghost use Rattle.fc_reading.specs.GoodRanges.{AreCountable};
+ghost use Rattle.fc_plain.specs.Limits.{IsWithinLimits};
+ghost use Rattle.fc_plain.specs.WorldView.{world_view};
 
 use fc_base::{Name, Schema};
 use fc_docs::{Block, read_block};
 use fc_plain::{is_within_limits, reply};
 use fc_reading::valid_requests_are_countable;
-use fc_reply::reply_line;
+use fc_reply::{Reply, reply_line};
 use fc_request::Request;
 use fc_spec::texts_are_json;
 use serde_json::Value;
@@ -66,33 +68,59 @@ fn request_of(alloc: Global, schema: &Schema, text: &str) -> Result<Request, Fai
     Ok(Request::read(alloc, schema, &json)?)
 }
 
-// Each request of the table has its line.
-fn compare_lines(rt: &impl Abort, alloc: Global, table: &Table) -> Result<(), Fail> {
-    let schema = Schema::read(alloc, &json_of(alloc, table.schema)?)?;
+fn reply_to(alloc: Global, schema: &Schema, world: &[&[Block]], asked: &str) -> Result<Reply, Fail>
+    requires { IsWithinLimits (world_view world.now) }
+{
+    let request = request_of(alloc, schema, asked)?;
+    Ok(reply(alloc, &request, world)?)
+}
+
+fn line_of(alloc: Global, table: &Table, reply: &Reply) -> Result<String, Fail> {
     let session = Name::new(alloc, table.session)?;
-    let mut shards = Vec::new(alloc);
-    for text in table.shards {
-        shards.push(blocks_of(alloc, &schema, text)?)?;
-    }
-    let mut world = Vec::new(alloc);
-    for blocks in &shards {
-        world.push(blocks.as_slice())?;
-    }
-    assert!(rt; is_within_limits(alloc, &world)?);
+    let line = reply_line(alloc, reply, table.generations, &session)?;
+    Ok(String::from_utf8_lossy(alloc, &line)?)
+}
+
+// Each request of the table has its line.
+fn compare_rows(
+    rt: &impl Abort,
+    alloc: Global,
+    table: &Table,
+    schema: &Schema,
+    world: &[&[Block]],
+) -> Result<(), Fail> {
+    assert!(rt; is_within_limits(alloc, world)?);
     for (name, asked, facets) in table.rows {
-        let request = request_of(alloc, &schema, asked)?;
-        let reply = reply(alloc, &request, &world)?;
-        let line = reply_line(alloc, &reply, table.generations, &session)?;
-        let found = String::from_utf8_lossy(alloc, &line)?;
+        let reply = reply_to(alloc, schema, world, asked)?;
+        let found = line_of(alloc, table, &reply)?;
         let wanted = format!(in alloc; "{{\"facets\":{facets}{}\n", table.ending)?;
         assert!(rt; found.as_str() == wanted.as_str(), "{name}: {found}");
     }
     Ok(())
 }
 
+fn shards_of(alloc: Global, schema: &Schema, texts: &[&str]) -> Result<Vec<Vec<Block>>, Fail> {
+    let mut shards = Vec::new(alloc);
+    for text in texts {
+        shards.push(blocks_of(alloc, schema, text)?)?;
+    }
+    Ok(shards)
+}
+
+fn compare_table(rt: &impl Abort, alloc: Global, table: &Table) -> Result<(), Fail> {
+    let json = json_of(alloc, table.schema)?;
+    let schema = Schema::read(alloc, &json)?;
+    let shards = shards_of(alloc, &schema, table.shards)?;
+    let mut world = Vec::new(alloc);
+    for blocks in &shards {
+        world.push(blocks.as_slice())?;
+    }
+    compare_rows(rt, alloc, table, &schema, world.as_slice())
+}
+
 fn compare(rt: &impl Abort, alloc: Global, tables: &[Table]) -> Result<(), Fail> {
     for table in tables {
-        compare_lines(rt, alloc, table)?;
+        compare_table(rt, alloc, table)?;
     }
     Ok(())
 }
