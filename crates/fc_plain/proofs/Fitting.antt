@@ -16,7 +16,7 @@ use Rattle.fc_spec.specs.words.Lists.{joined}
 use Rattle.fc_spec.proofs.documents.BlockTotals.{documents_in-append}
 use Rattle.fc_spec.proofs.documents.PlacedDocuments.{documents_at, documents_at-shard}
 use Rattle.fc_plain.specs.Fitting.{StatisticsFit}
-use Rattle.fc_plain.specs.Limits.{IsWithinLimits}
+use Rattle.fc_spec.specs.scripts.WorldLimits.{IsWithinLimits}
 
 -- the absolute values of a field at places, place by place
 absolute_sum : (field : ℕ) (X : List Place) → sum_by nat_abs (longs_of field X) ≡ sum_by (λ p. sum_by nat_abs (longs_in (values_of p.document field))) X

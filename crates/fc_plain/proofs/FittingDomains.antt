@@ -10,7 +10,7 @@ use Rattle.fc_spec.specs.requests.Domain.{domain, moved, is_parent_of}
 use Rattle.fc_spec.specs.requests.Request.{Request, BlockStep, stay, parents, children, DomainChange, Kind}
 use Rattle.fc_spec.specs.words.Lists.{is_empty}
 use Rattle.fc_plain.specs.Fitting.{StatisticsFit}
-use Rattle.fc_plain.specs.Limits.{IsWithinLimits}
+use Rattle.fc_spec.specs.scripts.WorldLimits.{IsWithinLimits}
 use Rattle.fc_plain.proofs.Fitting.{filtered_fit, places_fit}
 
 pub on_shards_fit : (shards : List ℕ) (X : List Place) → StatisticsFit X → StatisticsFit (on_shards shards X)

@@ -5,7 +5,6 @@ pub mod GapPlaces
 pub mod GroupEntries
 pub mod Grouped
 pub mod Groups
-pub mod Limits
 pub mod Offers
 pub mod Parts
 pub mod PlaceView

@@ -5,7 +5,7 @@ ghost use Rattle.fc_spec.specs.documents.Totals.{documents_of, documents_in};
 ghost use Rattle.fc_spec.specs.scripts.ScriptTotals.{absolute_total, are_few as few, script_limits, total_limit};
 ghost use Rattle.fc_spec.specs.words.Lists.{joined};
 ghost use Rattle.fc_docs.specs.View.{block_view};
-ghost use Rattle.fc_plain.specs.Limits.{IsWithinLimits};
+ghost use Rattle.fc_spec.specs.scripts.WorldLimits.{IsWithinLimits};
 ghost use Rattle.fc_plain.specs.WorldView.{documents_view, world_view};
 
 use fc_base::WantMemory;

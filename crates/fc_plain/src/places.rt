@@ -3,7 +3,7 @@ ghost use Rattle.std.specs.Prelude.{◌≡◌, ◌≤◌, ◌<◌, ◌+◌, ◌+
 ghost use Rattle.fc_spec.specs.documents.Totals.{document_total};
 ghost use Rattle.fc_spec.specs.documents.World as definition;
 ghost use Rattle.fc_docs.specs.View.{block_view};
-ghost use Rattle.fc_plain.specs.Limits.{IsWithinLimits};
+ghost use Rattle.fc_spec.specs.scripts.WorldLimits.{IsWithinLimits};
 ghost use Rattle.fc_plain.specs.PlaceView.{places_view};
 ghost use Rattle.fc_plain.specs.WorldView.{world_view};
 

@@ -11,7 +11,7 @@ ghost use Rattle.fc_spec.specs.words.Lists as words;
 ghost use Rattle.fc_request.specs.RequestView.{request_view};
 ghost use Rattle.fc_reading.specs.GoodRanges.{AreCountable};
 ghost use Rattle.fc_reply.specs.ReplyView.{reply_view};
-ghost use Rattle.fc_plain.specs.Limits.{IsWithinLimits};
+ghost use Rattle.fc_spec.specs.scripts.WorldLimits.{IsWithinLimits};
 ghost use Rattle.fc_plain.specs.PlaceView.{places_view};
 ghost use Rattle.fc_plain.specs.WorldView.{world_view};
 

@@ -1,7 +1,7 @@
 // What a search looks into.
 ghost use Rattle.std.specs.Prelude.{◌≡◌};
 ghost use Rattle.fc_spec.specs.documents.World as definition;
-ghost use Rattle.fc_plain.specs.Limits.{IsWithinLimits};
+ghost use Rattle.fc_spec.specs.scripts.WorldLimits.{IsWithinLimits};
 ghost use Rattle.fc_plain.specs.PlaceView.{places_view};
 ghost use Rattle.fc_plain.specs.WorldView.{world_view};
 

@@ -10,7 +10,7 @@ use Rattle.fc_spec.specs.scripts.ScriptFault.{too_many_commits, too_many_session
 use Rattle.fc_spec.specs.scripts.ScriptReading.{check_last, check_documents}
 use Rattle.fc_spec.specs.scripts.ScriptTotals.{Limits, added, session_in, first_ones}
 use Rattle.fc_spec.specs.documents.Totals.{documents_in}
-use Rattle.fc_spec.specs.scripts.ValidScripts.{line_asking}
+use Rattle.fc_spec.specs.scripts.AskedScripts.{line_asking}
 use Rattle.fc_spec.specs.words.Walks.{unless}
 
 module _ {A B : Type 0} (see : A → B) where

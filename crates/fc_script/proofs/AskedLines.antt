@@ -14,7 +14,7 @@ use Rattle.fc_spec.specs.scripts.ScriptFault.{ScriptFault, too_long}
 use Rattle.fc_spec.specs.scripts.ScriptReading.{Numbered, numbered_lines, check_last, script_limit, script_of, value_on}
 use Rattle.fc_spec.specs.scripts.LineReading.{line_said}
 use Rattle.fc_spec.specs.scripts.ScriptTotals.{Limits}
-use Rattle.fc_spec.specs.scripts.ValidScripts.{line_asking}
+use Rattle.fc_spec.specs.scripts.AskedScripts.{line_asking}
 use Rattle.fc_spec.specs.words.Walks.{unless, with_fault}
 use Rattle.fc_spec.proofs.words.ReadingWords.{going_on, whatever, seen, passed}
 use Rattle.fc_spec.proofs.scripts.ValidSearches.{scripts_ask_valid}

@@ -15,7 +15,7 @@ use Rattle.fc_spec.specs.scripts.ScriptReading.{Numbered, at_line as script_at_l
 use Rattle.fc_spec.specs.scripts.ScriptLines.{lines_of}
 use Rattle.fc_spec.specs.scripts.ScriptTotals.{Limits}
 use Rattle.fc_spec.specs.scripts.LineReading.{line_said}
-use Rattle.fc_spec.specs.scripts.ValidScripts.{line_asking}
+use Rattle.fc_spec.specs.scripts.AskedScripts.{line_asking}
 use Rattle.fc_spec.specs.words.Walks.{◌>>=◌, unless, with_fault}
 use Rattle.fc_script.specs.ShownFaults.{ShownFault, not_built, shown, FirstFault}
 use Rattle.fc_script.specs.BuiltRequests.{is_answered}

@@ -10,7 +10,7 @@ use Rattle.fc_spec.specs.scripts.ScriptFault.{LineFault, ScriptFault}
 use Rattle.fc_spec.specs.scripts.ScriptTotals.{Limits, script_limits}
 use Rattle.fc_spec.specs.scripts.ScriptReading.{Numbered, numbered_lines, schema_on, script_of, value_on}
 use Rattle.fc_spec.specs.scripts.LineReading.{line_said}
-use Rattle.fc_spec.specs.scripts.ValidScripts.{asking}
+use Rattle.fc_spec.specs.scripts.AskedScripts.{asking}
 use Rattle.fc_spec.specs.words.Walks.{◌>>=◌}
 use Rattle.fc_script.specs.ShownFaults.{not_built, shown, FirstFault}
 use Rattle.fc_script.specs.BuiltRequests.{is_answered}

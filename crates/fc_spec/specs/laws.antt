@@ -10,3 +10,4 @@ pub mod QuerySpellingLaw
 pub mod QueryReadingLaw
 pub mod RequestLaws
 pub mod ScheduleLaw
+pub mod ScriptLaws

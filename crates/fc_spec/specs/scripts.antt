@@ -11,4 +11,7 @@ pub mod LineReading
 pub mod ScriptReading
 pub mod ScriptParts
 pub mod ValidScripts
+pub mod AskedScripts
+pub mod WorldLimits
+pub mod PhaseEnds
 pub mod JsonValues

@@ -13,7 +13,7 @@ ghost use Rattle.serde_json.specs.View.{view};
 ghost use Rattle.fc_spec.specs.scripts.JsonValues.{HasAscendingKeys, HasNumbers};
 ghost use Rattle.fc_request.specs.RequestView.{request_view};
 ghost use Rattle.fc_reading.specs.GoodRanges.{AreCountable};
-ghost use Rattle.fc_plain.specs.Limits.{IsWithinLimits};
+ghost use Rattle.fc_spec.specs.scripts.WorldLimits.{IsWithinLimits};
 ghost use Rattle.fc_plain.specs.WorldView.{world_view};
 
 use fc_base::{Name, Schema};

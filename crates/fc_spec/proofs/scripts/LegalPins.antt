@@ -13,7 +13,8 @@ use Rattle.fc_spec.specs.scripts.Script.{commits_up_to, commits_before}
 use Rattle.fc_spec.specs.scripts.ScriptTotals.{sessions}
 use Rattle.fc_spec.specs.scripts.Outputs.{legal_on, legal}
 use Rattle.fc_spec.specs.scripts.PhaseCore.{Event, numbers_of, opening, pins_on, search_numbers, numbers_shown}
-use Rattle.fc_spec.specs.laws.ScheduleLaw.{AskedScript, IsScheduleOf, HasFinished, IsFromBefore, PinsAreLegal, shown_before, RunsAreLegal, PhasesGoOn}
+use Rattle.fc_spec.specs.scripts.AskedScripts.{AskedScript}
+use Rattle.fc_spec.specs.laws.ScheduleLaw.{IsScheduleOf, HasFinished, IsFromBefore, PinsAreLegal, shown_before, RunsAreLegal, PhasesGoOn}
 use Rattle.fc_spec.proofs.scripts.CommitOrder.{commits_are_before, commits_before_end}
 use Rattle.fc_spec.proofs.scripts.RisingPins.{Rises, rises_at, rises_between, IsWithin, pins_rise, pins_end_within}
 

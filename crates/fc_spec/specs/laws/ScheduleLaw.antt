@@ -1,15 +1,9 @@
 -- Whatever the schedules, what searches pin is legal.
-use Rattle.std.specs.Prelude.{ℕ, zero, suc, ◌+◌, ◌<◌, ◌≤◌, List, [], ◌++◌, length, All, IsTrue, slice_index, Result}
-use Rattle.fc_spec.specs.requests.Request.{Request}
-use Rattle.fc_spec.specs.requests.RequestFault.{RequestFault}
-use Rattle.fc_spec.specs.scripts.Script.{Script}
+use Rattle.std.specs.Prelude.{ℕ, zero, suc, ◌+◌, ◌<◌, ◌≤◌, List, [], ◌++◌, length, All, IsTrue, slice_index}
+use Rattle.fc_spec.specs.scripts.AskedScripts.{AskedScript}
 use Rattle.fc_spec.specs.scripts.ScriptTotals.{sessions}
 use Rattle.fc_spec.specs.scripts.Outputs.{legal}
 use Rattle.fc_spec.specs.scripts.PhaseCore.{Event, numbers_of, opening, is_schedule, behind, pins_on, search_numbers, numbers_shown}
-
--- a script with its requests read
-abbrev pub AskedScript : Type 0
-AskedScript = Script (Result Request RequestFault)
 
 -- the events are a schedule of the phase
 abbrev pub IsScheduleOf : AskedScript → (phase : ℕ) → List Event → Type 0

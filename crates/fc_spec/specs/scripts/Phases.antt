@@ -20,6 +20,10 @@ search_at phase _ = None
 abbrev pub searches : {A : Type 0} → List (Line A) → List (Search A)
 searches lines = filter_map (λ n. search_at (phase_of lines n.0) n.1) (enumerate_from 0 lines)
 
+-- for each shard the number of its commits up to the end of a phase
+abbrev pub numbers_at_end : {A : Type 0} → Script A → (phase : ℕ) → List ℕ
+numbers_at_end S p = map (λ s. commits_up_to S.lines s p) (numbers_below S.schema.shards)
+
 -- a phase: the commits of each shard up to its end, and its searches in script order
 pub record Phase (A : Type 0) : Type 0 where
   pub commits : List ℕ
@@ -27,7 +31,7 @@ pub record Phase (A : Type 0) : Type 0 where
 
 -- the p-th phase, from 0
 abbrev pub phase : {A : Type 0} → Script A → ℕ → Phase A
-phase S p = record { commits = map (λ s. commits_up_to S.lines s p) (numbers_below S.schema.shards); searches = filter (λ q. q.phase == p) (searches S.lines) }
+phase S p = record { commits = numbers_at_end S p; searches = filter (λ q. q.phase == p) (searches S.lines) }
 
 -- the phases of a script: one more than its sync lines
 abbrev pub phases : {A : Type 0} → Script A → List (Phase A)

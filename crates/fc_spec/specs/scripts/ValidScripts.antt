@@ -1,8 +1,8 @@
 -- What is known of a script that was read.
-use Rattle.std.specs.Prelude.{◌≡◌, All, IsTrue, Ok, map}
+use Rattle.std.specs.Prelude.{◌≡◌, All, IsTrue, Ok}
 use Rattle.std.specs.List.{filter_map}
 use Rattle.fc_spec.specs.documents.ValidBlocks.{IsBlockOf}
-use Rattle.fc_spec.specs.scripts.Script.{Line, add, commit, sync, asks, Script}
+use Rattle.fc_spec.specs.scripts.Script.{Script}
 use Rattle.fc_spec.specs.scripts.ScriptTotals.{Limits, added, documents_added, few_commits, few_sessions, few_syncs}
 use Rattle.fc_spec.specs.scripts.ScriptReading.{check_documents}
 
@@ -13,13 +13,3 @@ pub record IsWithin {A : Type 0} (limits : Limits) (S : Script A) : Type 0 where
   pub commits : IsTrue (few_commits S.schema S.lines)
   pub sessions : IsTrue (few_sessions S.lines)
   pub syncs : IsTrue (few_syncs S.lines)
-
--- a line, and a script, with what its searches ask read further
-abbrev pub line_asking : {A B : Type 0} → (A → B) → Line A → Line B
-line_asking see (add s b) = add s b
-line_asking see (commit s) = commit s
-line_asking see sync = sync
-line_asking see (asks session a) = asks session (see a)
-
-abbrev pub asking : {A B : Type 0} → (A → B) → Script A → Script B
-asking see S = record { schema = S.schema; lines = map (line_asking see) S.lines }
