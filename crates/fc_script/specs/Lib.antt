@@ -12,3 +12,4 @@ pub mod Counts
 pub mod ReadSoFar
 pub mod AskedRequests
 pub mod ReadView
+pub mod Gathered
