@@ -4,3 +4,5 @@ pub mod ValidSearches
 pub mod CommitOrder
 pub mod RisingPins
 pub mod LegalPins
+pub mod RisingPhases
+pub mod PhaseSearches

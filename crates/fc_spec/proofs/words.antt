@@ -13,3 +13,4 @@ pub mod Orderings
 pub mod SortedLists
 pub mod Texts
 pub mod ReadingWords
+pub mod NumbersBelow

@@ -4,10 +4,10 @@ use Rattle.std.specs.Prelude.{All}
 use Rattle.std.specs.List.{list_all}
 use Rattle.std.proofs.lemmas.Bool.{and_parts, and_from, le-leb, leb-true, eq-eqb}
 use Rattle.std.proofs.lemmas.List.{get_or-map}
-use Rattle.std.proofs.lemmas.List.Elements.{All-nil, All-append, All-map, All-weaker, All-get_or, All-from_get_or}
+use Rattle.std.proofs.lemmas.List.Elements.{All-nil, All-append, All-map, All-weaker}
 use Rattle.std.proofs.lemmas.List.Sums.{AllPass-from_list_all, list_all-from_AllPass}
 use Rattle.std.proofs.lemmas.List.Folds.{list_all-append}
-use Rattle.std.proofs.lemmas.List.FromFn.{get_or-map-range_with_len, get_or-range_with_len, length-range_with_len, length-map-range_with_len}
+use Rattle.std.proofs.lemmas.List.FromFn.{length-map-range_with_len}
 use Rattle.fc_spec.specs.words.Lists.{numbers_below}
 use Rattle.fc_spec.specs.scripts.Script.{commits_up_to, commits_before}
 use Rattle.fc_spec.specs.scripts.ScriptTotals.{sessions}
@@ -15,35 +15,22 @@ use Rattle.fc_spec.specs.scripts.Outputs.{legal_on, legal}
 use Rattle.fc_spec.specs.scripts.PhaseCore.{Event, numbers_of, opening, pins_on, search_numbers, numbers_shown}
 use Rattle.fc_spec.specs.scripts.AskedScripts.{AskedScript}
 use Rattle.fc_spec.specs.laws.ScheduleLaw.{IsScheduleOf, HasFinished, IsFromBefore, PinsAreLegal, shown_before, RunsAreLegal, PhasesGoOn}
+use Rattle.fc_spec.proofs.words.NumbersBelow.{all_below, below_all, at_number}
 use Rattle.fc_spec.proofs.scripts.CommitOrder.{commits_are_before, commits_before_end}
 use Rattle.fc_spec.proofs.scripts.RisingPins.{Rises, rises_at, rises_between, IsWithin, pins_rise, pins_end_within}
-
--- ---- numbers below a bound
-
-all_below : (P : ℕ → Type 0) (n : ℕ) → ((i : ℕ) → i < n → P i) → All P (numbers_below n)
-all_below P n each = All-from_get_or P (numbers_below n) 0 (λ i there.
-    let below : i < n = omega (arith, length-range_with_len 0 n) in
-    subst P (sym (get_or-range_with_len 0 n i 0 below ∙ zero-add i)) (each i below))
-
-below_all : (P : ℕ → Type 0) (n i : ℕ) → All P (numbers_below n) → i < n → P i
-below_all P n i all below =
-    subst P (get_or-range_with_len 0 n i 0 below ∙ zero-add i) (All-get_or P (numbers_below n) i 0 (omega (arith, length-range_with_len 0 n)) all)
-
-at_shard : (f : ℕ → ℕ) (n s : ℕ) → s < n → slice_index (map f (numbers_below n)) s ≡ f s
-at_shard f n s below = get_or-map-range_with_len f 0 n s s 0 below (zero-add s)
 
 -- ---- one phase
 
 opens_within : (S : AskedScript) (p s : ℕ) → s < S.schema.shards → IsWithin s (opening S p)
 opens_within S p s below =
-    let first = at_shard (λ t. commits_before S.lines t p) S.schema.shards s below in
-    let last = at_shard (λ t. commits_up_to S.lines t p) S.schema.shards s below in
+    let first = at_number (λ t. commits_before S.lines t p) S.schema.shards s below in
+    let last = at_number (λ t. commits_up_to S.lines t p) S.schema.shards s below in
     omega (arith, first, last, commits_before_end S s p)
 
 phase_pins : (S : AskedScript) (p : ℕ) (es : List Event) (c s : ℕ) → IsScheduleOf S p es → s < S.schema.shards → Rises (commits_before S.lines s p) (commits_up_to S.lines s p) (pins_on c s (opening S p) es)
 phase_pins S p es c s ok below =
     subst (λ (z : ℕ × ℕ). Rises z.0 z.1 (pins_on c s (opening S p) es))
-    (λ i. (at_shard (λ t. commits_before S.lines t p) S.schema.shards s below i, at_shard (λ t. commits_up_to S.lines t p) S.schema.shards s below i))
+    (λ i. (at_number (λ t. commits_before S.lines t p) S.schema.shards s below i, at_number (λ t. commits_up_to S.lines t p) S.schema.shards s below i))
     (pins_rise c s (opening S p) es ok (opens_within S p s below))
 
 -- what was legal in an earlier phase is no more than this phase begins with
@@ -60,7 +47,7 @@ from_before S p s g below was =
 module _ (S : AskedScript) (p : ℕ) (es : List Event) (c k : ℕ) (ok : IsScheduleOf S p es) (finished : HasFinished S p es c (k + 1)) where
   -- what it shows on a shard
   shown_on : (j s : ℕ) → s < S.schema.shards → slice_index (search_numbers S p es c j) s ≡ slice_index (pins_on c s (opening S p) es) j
-  shown_on j s below = at_shard (λ t. slice_index (pins_on c t (opening S p) es) j) S.schema.shards s below
+  shown_on j s below = at_number (λ t. slice_index (pins_on c t (opening S p) es) j) S.schema.shards s below
 
   within_phase : (s : ℕ) → s < S.schema.shards → (commits_before S.lines s p ≤ slice_index (search_numbers S p es c k) s) × (slice_index (search_numbers S p es c k) s ≤ commits_up_to S.lines s p)
   within_phase s below =
@@ -128,9 +115,9 @@ numbers_at_opening S p c there = get_or-map (λ session. (opening S p).published
 
 pub phases_go_on : PhasesGoOn
 phases_go_on S p es c s ok there below =
-    let first = at_shard (λ t. commits_before S.lines t p) S.schema.shards s below in
-    let last = at_shard (λ t. commits_up_to S.lines t p) S.schema.shards s below in
-    let next = at_shard (λ t. commits_before S.lines t (suc p)) S.schema.shards s below in
+    let first = at_number (λ t. commits_before S.lines t p) S.schema.shards s below in
+    let last = at_number (λ t. commits_up_to S.lines t p) S.schema.shards s below in
+    let next = at_number (λ t. commits_before S.lines t (suc p)) S.schema.shards s below in
     let opens = ap (λ ns. slice_index ns s) (numbers_at_opening S p c there) in
     let opens_next = ap (λ ns. slice_index ns s) (numbers_at_opening S (suc p) c there) in
     let end = pins_end_within c s (opening S p) es ok (opens_within S p s below) (let within = opens_within S p s below in omega (arith, opens)) in

@@ -1,0 +1,18 @@
+-- What holds of each number below a bound, and lists with one member for each.
+use Rattle.std.proofs.Common.{◌≡◌, ℕ, ◌+◌, ◌<◌, length, map, slice_index, sym, ◌∙◌, subst, zero-add, arith}
+use Rattle.std.specs.Prelude.{All}
+use Rattle.std.proofs.lemmas.List.Elements.{All-get_or, All-from_get_or}
+use Rattle.std.proofs.lemmas.List.FromFn.{get_or-map-range_with_len, get_or-range_with_len, length-range_with_len}
+use Rattle.fc_spec.specs.words.Lists.{numbers_below}
+
+pub all_below : (P : ℕ → Type 0) (n : ℕ) → ((i : ℕ) → i < n → P i) → All P (numbers_below n)
+all_below P n each = All-from_get_or P (numbers_below n) 0 (λ i there.
+    let below : i < n = omega (arith, length-range_with_len 0 n) in
+    subst P (sym (get_or-range_with_len 0 n i 0 below ∙ zero-add i)) (each i below))
+
+pub below_all : (P : ℕ → Type 0) (n i : ℕ) → All P (numbers_below n) → i < n → P i
+below_all P n i all below =
+    subst P (get_or-range_with_len 0 n i 0 below ∙ zero-add i) (All-get_or P (numbers_below n) i 0 (omega (arith, length-range_with_len 0 n)) all)
+
+pub at_number : (f : ℕ → ℕ) (n i : ℕ) → i < n → slice_index (map f (numbers_below n)) i ≡ f i
+at_number f n i below = get_or-map-range_with_len f 0 n i i 0 below (zero-add i)
