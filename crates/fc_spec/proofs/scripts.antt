@@ -6,3 +6,6 @@ pub mod RisingPins
 pub mod LegalPins
 pub mod RisingPhases
 pub mod PhaseSearches
+pub mod LegalEnds
+pub mod QuietPhases
+pub mod OnlyOutput
