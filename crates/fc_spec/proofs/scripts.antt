@@ -9,3 +9,5 @@ pub mod PhaseSearches
 pub mod LegalEnds
 pub mod QuietPhases
 pub mod OnlyOutput
+pub mod WorldBlocks
+pub mod WorldTotals

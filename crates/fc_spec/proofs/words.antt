@@ -14,3 +14,4 @@ pub mod SortedLists
 pub mod Texts
 pub mod ReadingWords
 pub mod NumbersBelow
+pub mod Sums

@@ -1,0 +1,46 @@
+-- The blocks of a world of a script are among those that its lines add, each at most once.
+use Rattle.std.proofs.Common.{◌≡◌, ℕ, ◌≤◌, List, count_by, slice_index, Option, Some, refl, ◌∙◌, ap, arith}
+use Rattle.std.specs.Prelude.{sum_by}
+use Rattle.std.specs.List.{filter_map, enumerate_from}
+use Rattle.std.proofs.lemmas.List.Sums.{sum_by-le-sum_by}
+use Rattle.fc_spec.specs.documents.Document.{Document, Block}
+use Rattle.fc_spec.specs.documents.Totals.{documents_of, documents_in}
+use Rattle.fc_spec.specs.words.Lists.{joined, numbers_below}
+use Rattle.fc_spec.specs.scripts.Script.{Line, add, commit, sync, asks, Script, commits_shard, added_to, earlier, batch_of, stream, generation, world}
+use Rattle.fc_spec.specs.scripts.ScriptTotals.{added, documents_added}
+use Rattle.fc_spec.proofs.words.Sums.{sum_by-none, sum_by-flat_map, sum_by-joined, sum_by-first, sum_by-shared, sum_by-part, part, filter_map-enumerate, of_option}
+
+-- the batches of a shard share out its blocks
+stream_sum : {A : Type 0} (f : Block → ℕ) (lines : List (Line A)) (s : ℕ) → sum_by f (joined (stream lines s)) ≤ sum_by f (filter_map (added_to s) lines)
+stream_sum f lines s =
+    let n = count_by (commits_shard s) lines in
+    let number = earlier (commits_shard s) lines in
+    let whole : sum_by f (joined (stream lines s)) ≡ sum_by (λ j. sum_by f (batch_of lines s j)) (numbers_below n) = sum_by-joined f (batch_of lines s) (numbers_below n) in
+    let share : sum_by (λ j. sum_by f (batch_of lines s j)) (numbers_below n) ≤ sum_by f (filter_map (λ x. added_to s x.1) (enumerate_from 0 lines)) =
+    sum_by-shared f (λ j x. part (number x.0) (added_to s x.1) j) (λ x. added_to s x.1) (numbers_below n) (λ x. sum_by-part f (number x.0) (added_to s x.1) 0 n) (enumerate_from 0 lines) in
+    let all = ap (sum_by f) (filter_map-enumerate (added_to s) 0 lines) in
+    omega (arith, whole, share, all)
+
+generation_sum : {A : Type 0} (f : Block → ℕ) (lines : List (Line A)) (s k : ℕ) → sum_by f (generation lines s k) ≤ sum_by f (filter_map (added_to s) lines)
+generation_sum f lines s k = omega (arith, sum_by-first f k (stream lines s), stream_sum f lines s)
+
+-- the shards share out the blocks that are added
+line_sum : {A : Type 0} (f : Block → ℕ) (n : ℕ) (l : Line A) → sum_by (λ s. of_option f (added_to s l)) (numbers_below n) ≤ of_option f (added l)
+line_sum f n (add shard block) = sum_by-part f shard (Some block) 0 n
+line_sum f n (commit c) = let none = sum_by-none (λ s. 0) (numbers_below n) (λ s. refl) in omega arith
+line_sum f n (sync) = let none = sum_by-none (λ s. 0) (numbers_below n) (λ s. refl) in omega arith
+line_sum f n (asks session a) = let none = sum_by-none (λ s. 0) (numbers_below n) (λ s. refl) in omega arith
+
+world_sum : {A : Type 0} (f : Block → ℕ) (S : Script A) (g : List ℕ) → sum_by f (joined (world S g)) ≤ sum_by f (filter_map added S.lines)
+world_sum f S g =
+    let shards = numbers_below S.schema.shards in
+    let whole = sum_by-joined f (λ s. generation S.lines s (slice_index g s)) shards in
+    let each = sum_by-le-sum_by (λ s. sum_by f (generation S.lines s (slice_index g s))) (λ s. sum_by f (filter_map (added_to s) S.lines)) shards (λ s. generation_sum f S.lines s (slice_index g s)) in
+    let share = sum_by-shared f added_to added shards (line_sum f S.schema.shards) S.lines in
+    omega (arith, whole, each, share)
+
+-- so its documents measure no more
+pub world_documents : {A : Type 0} (f : Document → ℕ) (S : Script A) (g : List ℕ) → sum_by f (documents_in (joined (world S g))) ≤ sum_by f (documents_added S.lines)
+world_documents f S g =
+    let block = λ (b : Block). sum_by f (documents_of b) in
+    omega (arith, sum_by-flat_map f documents_of (joined (world S g)), sum_by-flat_map f documents_of (filter_map added S.lines), world_sum block S g)
