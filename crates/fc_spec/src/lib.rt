@@ -21,6 +21,7 @@ ghost use Rattle.fc_spec.specs.laws.RequestLaws.{
 };
 ghost use Rattle.fc_spec.specs.laws.RoundsEnd.{NothingLacksBeyond, RoundsAnswer, RoundsAreFew, RoundsComplete, SearchesEnd};
 ghost use Rattle.fc_spec.specs.laws.ScheduleLaw.{PhasesGoOn, PinsAreLegal, RunsAreLegal};
+ghost use Rattle.fc_spec.specs.laws.ScriptLaws.{EndsAreOutputs, IsOnlyOutput, StandByPhase, WorldsAreWithin};
 ghost use Rattle.fc_spec.specs.laws.ShardAlone.{AnswersFromItsBlocks};
 ghost use Rattle.fc_spec.specs.laws.SortingLaw.{PagesAreCuts, RanksAreFronts};
 ghost use Rattle.fc_spec.specs.laws.SpellingLaw.{HasOneSpelling};
@@ -123,4 +124,21 @@ pub fn schedules_are_legal()
     ensures pins { PinsAreLegal }
     ensures runs { RunsAreLegal }
     ensures phases { PhasesGoOn }
+{}
+
+/// The searches of a script, one phase after another, are all of them in order. Whatever the replies, what they write
+/// over the generations at the ends of their phases is an output.
+pub fn phase_ends_are_outputs()
+    ensures by_phase { StandByPhase }
+    ensures ends { EndsAreOutputs }
+{}
+
+/// Where no phase has both a commit and a search, all outputs of the script are one.
+pub fn scripts_have_one_output()
+    ensures { IsOnlyOutput }
+{}
+
+/// Where a script of at most 64 shards is within the limits, each of its worlds is, whatever the generations.
+pub fn worlds_are_within_limits()
+    ensures { WorldsAreWithin }
 {}

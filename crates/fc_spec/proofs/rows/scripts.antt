@@ -11,3 +11,4 @@ pub mod LongLines
 pub mod LineForms
 pub mod DocumentLimits
 pub mod PhaseSchedules
+pub mod ApartScripts
