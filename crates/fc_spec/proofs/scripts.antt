@@ -2,8 +2,6 @@ pub mod JsonMembers
 pub mod JsonTexts
 pub mod ValidSearches
 pub mod CommitOrder
-pub mod RisingPins
-pub mod LegalPins
 pub mod RisingPhases
 pub mod PhaseSearches
 pub mod LegalEnds
@@ -11,3 +9,5 @@ pub mod QuietPhases
 pub mod OnlyOutput
 pub mod WorldBlocks
 pub mod WorldTotals
+pub mod RisingPins
+pub mod LegalPins

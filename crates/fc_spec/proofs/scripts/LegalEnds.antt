@@ -1,6 +1,6 @@
 -- The lines over the generations at the ends of phases are an output.
-use Rattle.std.proofs.Common.{◌≡◌, ℕ, ◌<◌, ◌≤◌, List, [], ◌∷◌, ◌++◌, length, map, true, ◌&&◌, ◌==◌, nat_le, slice_index, Result, Ok, Err, refl, arith}
-use Rattle.std.specs.Prelude.{All, IsTrue}
+use Rattle.std.proofs.Common.{◌≡◌, ℕ, ◌<◌, ◌≤◌, List, [], ◌∷◌, ◌++◌, length, true, ◌&&◌, ◌==◌, nat_le, slice_index, Ok, Err, refl, arith}
+use Rattle.std.specs.Prelude.{All}
 use Rattle.std.specs.List.{filter, flat_map, list_all}
 use Rattle.std.proofs.lemmas.Bool.{and_from, le-leb, eq-eqb}
 use Rattle.std.proofs.lemmas.List.Elements.{All-nil, All-map, All-filter, All-push, All-weaker}
@@ -8,7 +8,7 @@ use Rattle.std.proofs.lemmas.List.Sums.{list_all-from_AllPass}
 use Rattle.std.proofs.lemmas.List.FromFn.{length-map-range_with_len}
 use Rattle.fc_spec.specs.documents.Val.{Text, same_text}
 use Rattle.fc_spec.specs.words.Lists.{numbers_below}
-use Rattle.fc_spec.specs.scripts.Script.{commits_up_to, commits_before, is_sync}
+use Rattle.fc_spec.specs.scripts.Script.{commits_up_to, commits_before}
 use Rattle.fc_spec.specs.scripts.Phases.{Search, numbers_at_end, searches}
 use Rattle.fc_spec.specs.scripts.AskedScripts.{Asked, AskedScript}
 use Rattle.fc_spec.specs.scripts.Outputs.{legal_on, legal, Seen, shown_to, Replies, IsLineThen, AreLinesOf}

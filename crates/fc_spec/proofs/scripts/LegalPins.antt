@@ -1,5 +1,5 @@
 -- What searches pin is legal, whatever the schedules.
-use Rattle.std.proofs.Common.{◌≡◌, ℕ, zero, suc, ◌+◌, ◌<◌, ◌≤◌, List, [], ◌++◌, length, map, true, ◌&&◌, ◌==◌, nat_le, slice_index, sym, ◌∙◌, ap, subst, zero-add, add-one, arith}
+use Rattle.std.proofs.Common.{◌≡◌, ℕ, zero, suc, ◌+◌, ◌<◌, ◌≤◌, List, [], ◌++◌, length, true, ◌&&◌, ◌==◌, nat_le, slice_index, ◌∙◌, ap, subst, add-one, arith}
 use Rattle.std.specs.Prelude.{All}
 use Rattle.std.specs.List.{list_all}
 use Rattle.std.proofs.lemmas.Bool.{and_parts, and_from, le-leb, leb-true, eq-eqb}

@@ -1,5 +1,5 @@
 -- The phases of the searches of a script never fall, and none is past its last sync line.
-use Rattle.std.proofs.Common.{◌≡◌, ℕ, zero, suc, ◌+◌, ◌≤◌, List, [], ◌∷◌, take, cond, count_by, add-one, arith}
+use Rattle.std.proofs.Common.{ℕ, zero, suc, ◌+◌, ◌≤◌, List, [], ◌∷◌, take, cond, count_by, add-one, arith}
 use Rattle.std.specs.List.{filter_map, enumerate_from}
 use Rattle.std.proofs.lemmas.List.Sums.{sum_by-take-le}
 use Rattle.fc_spec.specs.scripts.Script.{Line, add, commit, sync, asks, is_sync, phase_of}

@@ -1,5 +1,5 @@
 -- The blocks of a world of a script are among those that its lines add, each at most once.
-use Rattle.std.proofs.Common.{◌≡◌, ℕ, ◌≤◌, List, count_by, slice_index, Option, Some, refl, ◌∙◌, ap, arith}
+use Rattle.std.proofs.Common.{◌≡◌, ℕ, ◌≤◌, List, count_by, slice_index, Some, refl, ap, arith}
 use Rattle.std.specs.Prelude.{sum_by}
 use Rattle.std.specs.List.{filter_map, enumerate_from}
 use Rattle.std.proofs.lemmas.List.Sums.{sum_by-le-sum_by}

@@ -1,7 +1,6 @@
 -- Each world of a script that is within the limits is within them.
-use Rattle.std.proofs.Common.{◌≡◌, ◌⊎◌, inl, inr, ℕ, ◌<◌, ◌≤◌, List, [], ◌∷◌, length, map, Bool, true, false, ◌&&◌, nat_le, nat_abs, get_or, slice_index, Result, Ok, Err, refl, ◌∙◌, ap, arith}
-use Rattle.std.specs.Prelude.{sum_by, All, IsTrue}
-use Rattle.std.specs.List.{list_all}
+use Rattle.std.proofs.Common.{◌≡◌, inl, inr, ℕ, ◌≤◌, List, [], ◌∷◌, length, Bool, true, false, nat_le, nat_abs, slice_index, Ok, refl, ap, arith}
+use Rattle.std.specs.Prelude.{sum_by, All}
 use Rattle.std.proofs.lemmas.Bool.{and_parts, and_from, leb-true, le-leb, cases_lt}
 use Rattle.std.proofs.lemmas.List.{get_or_past}
 use Rattle.std.proofs.lemmas.List.Elements.{All-head, All-tail}
@@ -15,11 +14,8 @@ use Rattle.fc_spec.specs.documents.Schema.{Schema}
 use Rattle.fc_spec.specs.documents.Totals.{documents_in, value_count}
 use Rattle.fc_spec.specs.documents.ValidBlocks.{IsDocumentOf}
 use Rattle.fc_spec.specs.scripts.Script.{Script, generation, world}
-use Rattle.fc_spec.specs.scripts.ScriptFault.{LineFault}
-use Rattle.fc_spec.specs.scripts.ScriptTotals.{Limits, script_limits, documents_added, has_repeat, ids_in, are_few, absolute_total, total_limit, sums_fit}
+use Rattle.fc_spec.specs.scripts.ScriptTotals.{Limits, script_limits, documents_added, are_few, absolute_total, total_limit, sums_fit}
 use Rattle.fc_spec.specs.scripts.ScriptReading.{check_documents}
-use Rattle.fc_spec.specs.scripts.ValidScripts.{IsWithin}
-use Rattle.fc_spec.specs.scripts.WorldLimits.{IsWithinLimits}
 use Rattle.fc_spec.specs.laws.ScriptLaws.{WorldsAreWithin}
 use Rattle.fc_spec.proofs.words.NumbersBelow.{below_all}
 use Rattle.fc_spec.proofs.words.Sums.{sum_by-ones}
@@ -51,7 +47,7 @@ no_values s (d ∷ ds) field past valid =
 total_within : (s : Schema) (ds : List Document) (field : ℕ) → All (IsDocumentOf s) ds → sums_fit s ds ≡ true → absolute_total ds field ≤ total_limit
 total_within s ds field valid fit = elim (cases_lt field (length s.fields)) [
   | inl below ↦ leb-true (absolute_total ds field) total_limit
-    (below_all (λ n. nat_le (absolute_total ds n) total_limit ≡ true) (length s.fields) field (AllPass-from_list_all (λ n. nat_le (absolute_total ds n) total_limit) (numbers_below (length s.fields)) fit) below)
+      (below_all (λ n. nat_le (absolute_total ds n) total_limit ≡ true) (length s.fields) field (AllPass-from_list_all (λ n. nat_le (absolute_total ds n) total_limit) (numbers_below (length s.fields)) fit) below)
   | inr past ↦ (let none = no_values s ds field past valid in omega arith)
 ]
 
@@ -74,7 +70,7 @@ worlds_are_within S g few valid = record {
   shards = (let is = length-map-range_with_len (λ s. generation S.lines s (slice_index g s)) 0 S.schema.shards in omega arith);
   few = few_within script_limits (documents_added S.lines) (documents_in (joined (world S g))) (fewer_documents S g) (world_documents (λ d. sum_by (λ vs. length vs) d) S g) now.1;
   sums = λ field. (let all = total_within S.schema (documents_added S.lines) field (valid_documents S.schema _ valid.blocks) now.0 in
-    let less = world_documents (λ d. sum_by nat_abs (longs_in (values_of d field))) S g in omega (arith, all, less));
+      let less = world_documents (λ d. sum_by nat_abs (longs_in (values_of d field))) S g in omega (arith, all, less));
 }
   where
     now : (sums_fit S.schema (documents_added S.lines) ≡ true) × (are_few script_limits (documents_added S.lines) ≡ true)

@@ -1,5 +1,5 @@
 -- Laws about the outputs and the worlds of scripts.
-use Rattle.std.specs.Prelude.{◌≡◌, ℕ, ◌≤◌, List, map, Bool, true, false, not, ◌==◌, Option, None, Some, IsTrue, if◌then◌else◌}
+use Rattle.std.specs.Prelude.{◌≡◌, ℕ, ◌≤◌, List, map, Bool, true, false, not, ◌==◌, None, Some, IsTrue, if◌then◌else◌}
 use Rattle.std.specs.List.{filter_map, enumerate_from, list_all, list_any}
 use Rattle.fc_spec.specs.documents.Val.{Text}
 use Rattle.fc_spec.specs.words.Lists.{joined}
