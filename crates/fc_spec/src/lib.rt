@@ -133,7 +133,8 @@ pub fn phase_ends_are_outputs()
     ensures ends { EndsAreOutputs }
 {}
 
-/// Where no phase has both a commit and a search, all outputs of the script are one.
+/// Where no phase has both a commit and a search, all outputs of the script are one: with `phase_ends_are_outputs`, it has
+/// exactly one.
 pub fn scripts_have_one_output()
     ensures { IsOnlyOutput }
 {}

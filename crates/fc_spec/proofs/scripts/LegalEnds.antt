@@ -8,11 +8,11 @@ use Rattle.std.proofs.lemmas.List.Sums.{list_all-from_AllPass}
 use Rattle.std.proofs.lemmas.List.FromFn.{length-map-range_with_len}
 use Rattle.fc_spec.specs.documents.Val.{Text, same_text}
 use Rattle.fc_spec.specs.words.Lists.{numbers_below}
-use Rattle.fc_spec.specs.scripts.Script.{commits_up_to, commits_before}
+use Rattle.fc_spec.specs.scripts.Script.{world, commits_up_to, commits_before}
 use Rattle.fc_spec.specs.scripts.Phases.{Search, numbers_at_end, searches}
 use Rattle.fc_spec.specs.scripts.AskedScripts.{Asked, AskedScript}
 use Rattle.fc_spec.specs.scripts.Outputs.{legal_on, legal, Seen, shown_to, Replies, IsLineThen, AreLinesOf}
-use Rattle.fc_spec.specs.scripts.PhaseEnds.{line_over, line_at_end}
+use Rattle.fc_spec.specs.scripts.PhaseEnds.{line_in, line_at_end}
 use Rattle.fc_spec.specs.laws.ScriptLaws.{EndsAreOutputs}
 use Rattle.fc_spec.proofs.words.NumbersBelow.{all_below, at_number}
 use Rattle.fc_spec.proofs.scripts.CommitOrder.{commits_later, commits_before_end}
@@ -59,7 +59,7 @@ legal_end S earlier p up =
 -- ---- line by line
 
 line_at : (reply : Replies) (S : AskedScript) (seen : List Seen) (p : ℕ) (session : Text) (a : Asked) (Rest : List Seen → Text → Type 0) (rest : Text) → AreUpTo S p seen
-    → ((now : List Seen) → AreUpTo S p now → Rest now rest) → IsLineThen reply S seen p session a Rest (line_over reply S (numbers_at_end S p) session a ++ rest)
+    → ((now : List Seen) → AreUpTo S p now → Rest now rest) → IsLineThen reply S seen p session a Rest (line_in reply (world S (numbers_at_end S p)) (numbers_at_end S p) session a ++ rest)
 line_at reply S seen p session (Err f) Rest rest up next = (rest, refl, next seen up)
 line_at reply S seen p session (Ok r) Rest rest up next =
     let g = numbers_at_end S p in

@@ -11,7 +11,7 @@ use Rattle.fc_spec.specs.scripts.Phases.{Search, numbers_at_end, searches}
 use Rattle.fc_spec.specs.scripts.AskedScripts.{Asked, AskedScript}
 use Rattle.fc_spec.specs.scripts.Outputs.{legal_on, legal, shown_to, Seen, Replies, IsLineThen, AreLinesOf, IsOutputBy}
 use Rattle.fc_spec.specs.scripts.Lines.{reply_line, error_line}
-use Rattle.fc_spec.specs.scripts.PhaseEnds.{line_over, line_at_end, text_at_ends}
+use Rattle.fc_spec.specs.scripts.PhaseEnds.{line_in, line_at_end, text_at_ends}
 use Rattle.fc_spec.specs.laws.ScriptLaws.{are_apart, IsOnlyOutput}
 use Rattle.fc_spec.proofs.words.NumbersBelow.{below_all}
 use Rattle.fc_spec.proofs.scripts.QuietPhases.{IsQuiet, quiet_phase, quiet_searches}
@@ -37,7 +37,7 @@ only_numbers S earlier p g still ok =
 -- ---- line by line
 
 only_line : (reply : Replies) (S : AskedScript) (seen : List Seen) (p : ℕ) (session : Text) (a : Asked) (Rest : List Seen → Text → Type 0) (more t : Text) → IsStill S p
-    → ((now : List Seen) (rest : Text) → Rest now rest → rest ≡ more) → IsLineThen reply S seen p session a Rest t → t ≡ line_over reply S (numbers_at_end S p) session a ++ more
+    → ((now : List Seen) (rest : Text) → Rest now rest → rest ≡ more) → IsLineThen reply S seen p session a Rest t → t ≡ line_in reply (world S (numbers_at_end S p)) (numbers_at_end S p) session a ++ more
 only_line reply S seen p session (Err f) Rest more t still same (rest, is, then) = is ∙ ap (λ u. error_line f session ++ u) (same seen rest then)
 only_line reply S seen p session (Ok r) Rest more t still same (g, rest, ok, is, then) =
     is ∙ (λ i. reply_line (reply r (world S (only_numbers S (shown_to session seen) p g still ok i))) (only_numbers S (shown_to session seen) p g still ok i) session

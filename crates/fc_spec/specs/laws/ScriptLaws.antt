@@ -38,7 +38,7 @@ phases_where test lines = filter_map (λ n. if test n.1 then Some (phase_of line
 abbrev pub are_apart : {A : Type 0} → Script A → Bool
 are_apart S = list_all (λ p. not (list_any (λ q. q == p) (phases_where is_commit S.lines))) (phases_where is_search S.lines)
 
--- then all outputs are one
+-- where they are apart, a script has at most one output, whatever the replies
 abbrev pub IsOnlyOutput : Type 0
 IsOnlyOutput = (reply : Replies) (S : AskedScript) (t u : Text) → IsTrue (are_apart S) → IsOutputBy reply S t → IsOutputBy reply S u → t ≡ u
 

@@ -10,7 +10,7 @@ use Rattle.fc_spec.specs.scripts.ScriptReading.{script_of}
 use Rattle.fc_spec.specs.scripts.ScriptTotals.{Limits, script_limits}
 use Rattle.fc_spec.specs.words.Walks.{◌>>=◌}
 
--- a line, and a script, with what its searches ask read further
+-- a line, and a script, with what each search asks changed by `see`
 abbrev pub line_asking : {A B : Type 0} → (A → B) → Line A → Line B
 line_asking see (add s b) = add s b
 line_asking see (commit s) = commit s

@@ -1,7 +1,8 @@
 -- The core of a phase: what each shard has published and what each session has pinned, event by event. Guide: SolrCloud Shards and Indexing; Commits and Transaction Logs.
 use Rattle.std.specs.Prelude.{ℕ, ◌+◌, List, [], ◌∷◌, ◌++◌, length, map, fold, Bool, true, ◌&&◌, ◌==◌, nat_lt, slice_index, slice_index_or, slice_set, if◌then◌else◌}
 use Rattle.fc_spec.specs.words.Lists.{numbers_below}
-use Rattle.fc_spec.specs.scripts.Script.{Script, commits_up_to, commits_before}
+use Rattle.fc_spec.specs.scripts.Phases.{numbers_at_end}
+use Rattle.fc_spec.specs.scripts.Script.{Script, commits_before}
 use Rattle.fc_spec.specs.scripts.ScriptTotals.{sessions}
 
 -- a shard publishes its next generation; or a session, told by its place among the sessions, pins what a shard has published
@@ -23,7 +24,7 @@ numbers_of x c = slice_index_or x.pinned c []
 abbrev pub opening : {A : Type 0} → Script A → (phase : ℕ) → PhaseState
 opening S p =
     let before = map (λ s. commits_before S.lines s p) (numbers_below S.schema.shards) in
-    record { published = before; last = map (λ s. commits_up_to S.lines s p) (numbers_below S.schema.shards); pinned = map (λ session. before) (sessions S.lines) }
+    record { published = before; last = numbers_at_end S p; pinned = map (λ session. before) (sessions S.lines) }
 
 -- a shard publishes no further than the phase's commits; sessions and shards are there
 abbrev pub allows : PhaseState → Event → Bool

@@ -24,7 +24,7 @@ searches lines = filter_map (λ n. search_at (phase_of lines n.0) n.1) (enumerat
 abbrev pub numbers_at_end : {A : Type 0} → Script A → (phase : ℕ) → List ℕ
 numbers_at_end S p = map (λ s. commits_up_to S.lines s p) (numbers_below S.schema.shards)
 
--- a phase: the commits of each shard up to its end, and its searches in script order
+-- a phase: the number of commits of each shard up to its end, and its searches in script order
 pub record Phase (A : Type 0) : Type 0 where
   pub commits : List ℕ
   pub searches : List (Search A)

@@ -1,4 +1,4 @@
--- What is known of a script that was read.
+-- What is counted over the lines of a script is within its limits.
 use Rattle.std.specs.Prelude.{◌≡◌, All, IsTrue, Ok}
 use Rattle.std.specs.List.{filter_map}
 use Rattle.fc_spec.specs.documents.ValidBlocks.{IsBlockOf}
