@@ -11,3 +11,5 @@ pub mod WorldBlocks
 pub mod WorldTotals
 pub mod RisingPins
 pub mod LegalPins
+pub mod NumberedLines
+pub mod BatchesSoFar
