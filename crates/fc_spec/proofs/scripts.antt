@@ -13,3 +13,4 @@ pub mod RisingPins
 pub mod LegalPins
 pub mod NumberedLines
 pub mod BatchesSoFar
+pub mod PhasesSoFar
