@@ -15,3 +15,4 @@ pub mod PassedFaults
 pub mod SessionOrder
 pub mod SumsOfBlocks
 pub mod WithinLimits
+pub mod gathered

@@ -13,3 +13,5 @@ pub mod ReadSoFar
 pub mod AskedRequests
 pub mod ReadView
 pub mod Gathered
+pub mod CutBatches
+pub mod KnownSessions

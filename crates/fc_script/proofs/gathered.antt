@@ -1,0 +1,4 @@
+pub mod ShardsBehind
+pub mod GatheredParts
+pub mod CutBatches
+pub mod KnownSessions
