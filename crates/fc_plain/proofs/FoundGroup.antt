@@ -12,7 +12,7 @@ use Rattle.std.proofs.lemmas.List.Sorted.{searchable_from_sorted}
 use Rattle.std.proofs.lemmas.Map.Keys.{Less-from_sorted}
 use Rattle.fc_base.specs.View.{val_view}
 use Rattle.fc_plain.specs.Groups.{Group, group_view, groups_view, AreValueGroups}
-use Rattle.fc_plain.specs.PlaceView.{places_view}
+use Rattle.fc_places.specs.PlaceView.{places_view}
 use Rattle.fc_plain.specs.declared.values.Group as group
 use Rattle.fc_spec.specs.documents.Val.{Val, val_cmp, same_val, has_val}
 use Rattle.fc_spec.specs.documents.ValOrder.{val_cmp_total}

@@ -4,7 +4,7 @@ use Rattle.fc_spec.specs.documents.World as definition
 use Rattle.fc_spec.specs.requests.Buckets.{bucket_places, gap}
 use Rattle.fc_spec.specs.requests.Gaps.{gap_count}
 use Rattle.fc_spec.specs.requests.Request.{Range, range}
-use Rattle.fc_plain.specs.PlaceView.{places_view}
+use Rattle.fc_places.specs.PlaceView.{places_view}
 use Rattle.fc_plain.specs.declared.gaps.held.Gap.{Gap}
 
 -- the places, and how many places had been read when the last of them came

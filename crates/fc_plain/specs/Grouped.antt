@@ -5,10 +5,10 @@ use Rattle.fc_facet.specs.declared.kind.Kind.{Kind}
 use Rattle.fc_facet.specs.declared.kind.Kind.TheVariants as kind
 use Rattle.fc_facet.specs.KindView.{terms_view, range_view}
 use Rattle.fc_plain.specs.Groups.{AreValueGroups, groups_view}
-use Rattle.fc_plain.specs.PlaceView.{places_view}
+use Rattle.fc_places.specs.PlaceView.{places_view}
 use Rattle.fc_plain.specs.declared.groups.Groups.{Groups}
 use Rattle.fc_plain.specs.declared.groups.Groups.TheVariants.{Values, Gaps, Whole}
-use Rattle.fc_plain.specs.declared.place.Place as code
+use Rattle.fc_places.specs.declared.place.Place as code
 use Rattle.fc_spec.specs.documents.World.{Place}
 use Rattle.fc_spec.specs.requests.Buckets.{bucket_places, gap}
 use Rattle.fc_spec.specs.requests.Gaps.{gap_count}

@@ -1,7 +1,7 @@
 -- Places grouped by a value of their documents.
 use Rattle.std.specs.Prelude.{◌≡◌, List, map}
 use Rattle.fc_base.specs.View.{val_view}
-use Rattle.fc_plain.specs.PlaceView.{places_view}
+use Rattle.fc_places.specs.PlaceView.{places_view}
 use Rattle.fc_plain.specs.declared.values.Group as group
 use Rattle.fc_spec.specs.documents.Val.{Val}
 use Rattle.fc_spec.specs.documents.World.{Place}

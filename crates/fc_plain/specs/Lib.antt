@@ -1,11 +1,6 @@
-pub mod BlockOrder
 pub mod EntryView
-pub mod Fitting
 pub mod GapPlaces
 pub mod GroupEntries
 pub mod Grouped
 pub mod Groups
 pub mod Offers
-pub mod Parts
-pub mod PlaceView
-pub mod WorldView

@@ -7,21 +7,19 @@ ghost use Rattle.fc_facet.specs.RangeGaps.{HasFewGaps};
 ghost use Rattle.fc_partial.specs.View.{key_view};
 ghost use Rattle.fc_query.specs.QueryView.{query_view};
 ghost use Rattle.fc_reading.specs.FacetNode.{has_buckets, kind_view};
-ghost use Rattle.fc_reading.specs.GoodRanges.{IsCountable, IsThere};
+ghost use Rattle.fc_reading.specs.CountableRanges.{IsCountable, IsThere};
 ghost use Rattle.fc_plain.specs.Grouped.{AreGapLists, AreGroupsOf};
 ghost use Rattle.fc_plain.specs.Groups.{AreValueGroups, groups_view};
-ghost use Rattle.fc_plain.specs.PlaceView.{places_view};
+ghost use Rattle.fc_places.specs.PlaceView.{places_view};
 
 use crate::gaps::beside_places;
 use crate::groups::Groups;
-use crate::keep::{Test, kept};
-use crate::matching::is_match;
 use crate::missing::missing_places;
-use crate::place::Place;
 use crate::values::{Group, group_of};
 use fc_base::WantMemory;
 use fc_facet::{Kind, Range, Terms};
 use fc_partial::Key;
+use fc_places::{Place, Test, is_match, kept};
 use fc_query::Query;
 use std::alloc::Global;
 

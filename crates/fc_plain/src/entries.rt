@@ -4,17 +4,16 @@ ghost use Rattle.fc_spec.specs.replies.Values.{entries_in};
 ghost use Rattle.fc_base.specs.StatisticView.{stat_view};
 ghost use Rattle.fc_facet.specs.KindView.{terms_view};
 ghost use Rattle.fc_plain.specs.EntryView.{entries_view, entry_view};
-ghost use Rattle.fc_plain.specs.Fitting.{StatisticsFit};
+ghost use Rattle.fc_places.specs.Fitting.{StatisticsFit};
 ghost use Rattle.fc_plain.specs.GroupEntries.{group_entry};
-ghost use Rattle.fc_plain.specs.PlaceView.{places_view};
+ghost use Rattle.fc_places.specs.PlaceView.{places_view};
 ghost use Rattle.fc_plain.specs.Groups.{groups_view};
 
-use crate::place::Place;
-use crate::statistics::stats_over;
 use crate::values::{Group, value_groups};
 use fc_base::{Stat, Val, WantMemory};
 use fc_facet::Terms;
 use fc_partial::Stats;
+use fc_places::{Place, stats_over};
 use fc_refine::Ranked;
 use std::alloc::Global;
 

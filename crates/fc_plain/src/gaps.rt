@@ -10,17 +10,16 @@ ghost use Rattle.fc_facet.specs.KindView.{range_view};
 ghost use Rattle.fc_facet.specs.RangeGaps.{HasFewGaps};
 ghost use Rattle.fc_partial.specs.View.{key_view};
 ghost use Rattle.fc_plain.specs.GapPlaces.{AreGaps, HaveTaken, gaps_view};
-ghost use Rattle.fc_plain.specs.PlaceView.{place_view, places_view};
+ghost use Rattle.fc_places.specs.PlaceView.{place_view, places_view};
 
 mod ends;
 mod held;
 mod holding;
 
-use crate::keep::{Test, kept};
-use crate::place::Place;
 use fc_base::{Val, WantMemory};
 use fc_facet::Range;
 use fc_partial::Key;
+use fc_places::{Place, Test, kept};
 use held::Gap;
 use holding::{holds_any, is_in_gap};
 use std::alloc::Global;
@@ -62,7 +61,7 @@ pub(crate) fn beside_places<'a>(
 }
 
 // The gap of this number takes the place if it is there and holds the integer.
-fn offer<'a>(
+fn take_at<'a>(
     range: &Range,
     number: u64,
     x: i64,
@@ -83,7 +82,7 @@ fn offer<'a>(
 }
 
 // The gap before the one of this number takes the place if it is there and holds the integer.
-fn offer_before<'a>(
+fn take_before<'a>(
     range: &Range,
     number: u64,
     x: i64,
@@ -100,7 +99,7 @@ fn offer_before<'a>(
     if number == 0 {
         return Ok(());
     }
-    offer(range, number - 1, x, read, place, gaps)?;
+    take_at(range, number - 1, x, read, place, gaps)?;
     Ok(())
 }
 
@@ -131,8 +130,8 @@ fn take_integer<'a>(
         return Ok(());
     }
     let number = gaps_before(range, x);
-    offer_before(range, number, x, read, place, gaps)?;
-    offer(range, number, x, read, place, gaps)?;
+    take_before(range, number, x, read, place, gaps)?;
+    take_at(range, number, x, read, place, gaps)?;
     Ok(())
 }
 

@@ -5,16 +5,16 @@ ghost use Rattle.fc_spec.specs.requests.Request as request;
 ghost use Rattle.fc_facet.specs.KindView.{range_view, terms_view};
 ghost use Rattle.fc_facet.specs.declared.kind.Kind.TheVariants as variant;
 ghost use Rattle.fc_reading.specs.FacetNode.{has_buckets, kind_view};
-ghost use Rattle.fc_reading.specs.GoodRanges.{IsCountable};
+ghost use Rattle.fc_reading.specs.CountableRanges.{IsCountable};
 ghost use Rattle.fc_plain.specs.Grouped.{AreGapLists, AreGroupsOf};
 ghost use Rattle.fc_plain.specs.Groups.{AreValueGroups, groups_view};
-ghost use Rattle.fc_plain.specs.PlaceView.{places_view};
+ghost use Rattle.fc_places.specs.PlaceView.{places_view};
 
 use crate::gaps::gap_places;
-use crate::place::Place;
 use crate::values::{Group, value_groups};
 use fc_base::WantMemory;
 use fc_facet::Kind;
+use fc_places::Place;
 use std::alloc::Global;
 
 /// The places of a domain by value or by gap, or as they are.

@@ -4,11 +4,10 @@ ghost use Rattle.fc_spec.specs.documents.Document.{values_of};
 ghost use Rattle.fc_spec.specs.requests.Buckets.{bucket_places, missing};
 ghost use Rattle.fc_spec.specs.requests.Request as request;
 ghost use Rattle.fc_spec.specs.words.Lists.{is_empty};
-ghost use Rattle.fc_plain.specs.PlaceView.{places_view};
+ghost use Rattle.fc_places.specs.PlaceView.{places_view};
 
-use crate::keep::{Test, kept};
-use crate::place::Place;
 use fc_base::{FieldId, WantMemory};
+use fc_places::{Place, Test, kept};
 use std::alloc::Global;
 
 // Without a value in the field.

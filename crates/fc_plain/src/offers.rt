@@ -8,18 +8,17 @@ ghost use Rattle.fc_base.specs.StatisticView.{stat_view};
 ghost use Rattle.fc_facet.specs.KindView.{terms_view};
 ghost use Rattle.fc_reading.specs.FacetNode.{vals_view};
 ghost use Rattle.fc_plain.specs.EntryView.{entries_view};
-ghost use Rattle.fc_plain.specs.Fitting.{StatisticsFit};
+ghost use Rattle.fc_places.specs.Fitting.{StatisticsFit};
 ghost use Rattle.fc_plain.specs.Groups.{groups_view};
 ghost use Rattle.fc_plain.specs.Offers.{offered_of};
-ghost use Rattle.fc_plain.specs.Parts.{places_in};
-ghost use Rattle.fc_plain.specs.PlaceView.{places_view};
+ghost use Rattle.fc_places.specs.Parts.{places_in};
+ghost use Rattle.fc_places.specs.PlaceView.{places_view};
 
 use crate::entries::{Entry, entries};
-use crate::place::Place;
-use crate::shard_parts::shard_parts;
 use crate::values::{Group, value_groups};
 use fc_base::{Stat, Val, WantMemory};
 use fc_facet::Terms;
+use fc_places::{Place, shard_parts};
 use fc_refine::{below_rank, rank_bound};
 use std::alloc::Global;
 

@@ -9,18 +9,17 @@ ghost use Rattle.fc_spec.specs.requests.Paths.{at_root};
 ghost use Rattle.fc_spec.specs.requests.Shape.{no_limits, outermost_exclusions};
 ghost use Rattle.fc_spec.specs.words.Lists as words;
 ghost use Rattle.fc_request.specs.RequestView.{request_view};
-ghost use Rattle.fc_reading.specs.GoodRanges.{AreCountable};
+ghost use Rattle.fc_reading.specs.CountableRanges.{AreCountable};
 ghost use Rattle.fc_reply.specs.ReplyView.{reply_view};
 ghost use Rattle.fc_spec.specs.scripts.WorldLimits.{IsWithinLimits};
-ghost use Rattle.fc_plain.specs.PlaceView.{places_view};
-ghost use Rattle.fc_plain.specs.WorldView.{world_view};
+ghost use Rattle.fc_places.specs.PlaceView.{places_view};
+ghost use Rattle.fc_places.specs.WorldView.{world_view};
 
-use crate::base::root_domain;
 use crate::numbers::numbers_below;
-use crate::reading::BucketPlaces;
-use crate::search::Search;
+use crate::reading::{BucketPlaces, PlaceReading};
 use fc_base::WantMemory;
-use fc_docs::Block;
+use fc_docs::Batch;
+use fc_places::{Search, root_domain};
 use fc_reading::reply_over;
 use fc_reply::Reply;
 use fc_request::Request;
@@ -46,21 +45,24 @@ fn root_bucket<'a>(alloc: Global, search: &Search<'a>) -> Result<BucketPlaces<'a
 }
 
 // The distributed reply of a search.
-fn search_reply(alloc: Global, search: &Search) -> Result<Reply, WantMemory>
-    requires { AreCountable (request_view search.now.request.now).nodes }
+fn search_reply(alloc: Global, search: Search) -> Result<Reply, WantMemory>
+    requires { AreCountable (request_view search.request.now).nodes }
     ensures { IfOk result (λ reply. reply_view reply
-        ≡ distributed (request_view search.now.request.now) (world_view search.now.world.now)) }
+        ≡ distributed (request_view search.entry.request.now) (world_view search.entry.world.now)) }
 {
-    let shards = shard_numbers(alloc, search)?;
-    let root = root_bucket(alloc, search)?;
-    let reply = reply_over(alloc, search, &search.request.root, &shards, &root)?;
+    let request = search.request;
+    let shards = shard_numbers(alloc, &search)?;
+    let root = root_bucket(alloc, &search)?;
+    let reading = PlaceReading { search };
+    let reply = reply_over(alloc, &reading, &request.root, &shards, &root)?;
     Ok(reply)
 }
 
-/// The distributed reply to a request over a world: for each shard its blocks. Where exclusions stand on
+/// The distributed reply to a request over a world: for each shard its batches, whose blocks one after
+/// another are the shard's. Where exclusions stand on
 /// outermost facets alone, as in each request that was read, the buckets on refined paths are exact over all
 /// shards, and without limits the reply is that of a single index with all the blocks.
-pub fn reply(alloc: Global, request: &Request, world: &[&[Block]]) -> Result<Reply, WantMemory>
+pub fn reply(alloc: Global, request: &Request, world: &[&[Batch]]) -> Result<Reply, WantMemory>
     requires ranges { AreCountable (request_view request.now).nodes }
     requires limits { IsWithinLimits (world_view world.now) }
     ensures distributed { IfOk result (λ reply. reply_view reply
@@ -77,6 +79,6 @@ pub fn reply(alloc: Global, request: &Request, world: &[&[Block]]) -> Result<Rep
     refined_paths_are_exact();
     without_limits();
     let search = Search::new(alloc, request, world)?;
-    let reply = search_reply(alloc, &search)?;
+    let reply = search_reply(alloc, search)?;
     Ok(reply)
 }

@@ -8,25 +8,27 @@ ghost use Rattle.fc_base.specs.StatisticView.{stat_view};
 ghost use Rattle.fc_facet.specs.KindView.{domain_view};
 ghost use Rattle.fc_partial.specs.StatsView.{stats_view};
 ghost use Rattle.fc_request.specs.RequestView.{request_view};
-ghost use Rattle.fc_plain.specs.Fitting.{StatisticsFit};
+ghost use Rattle.fc_places.specs.Fitting.{StatisticsFit};
 ghost use Rattle.fc_plain.specs.Grouped.{AreGroupsOf};
-ghost use Rattle.fc_plain.specs.PlaceView.{places_view};
-ghost use Rattle.fc_plain.specs.WorldView.{world_view};
+ghost use Rattle.fc_places.specs.PlaceView.{places_view};
+ghost use Rattle.fc_places.specs.WorldView.{world_view};
 
 use crate::buckets::places_at;
-use crate::domain::domain;
 use crate::groups::{Groups, grouped};
 use crate::offers::offers;
-use crate::place::Place;
-use crate::search::Search;
-use crate::shards::on_shards;
-use crate::statistics::stats_over;
 use fc_base::{Stat, Val, WantMemory};
 use fc_facet::{Kind, Terms};
 use fc_partial::{Key, Stats};
+use fc_places::{Place, Search, are_on_shards, domain, kept_on_shards, on_shards, stats_over};
 use fc_reading::BucketReading;
 use fc_request::{Domain, Node};
 use std::alloc::Global;
+
+/// A search, asked by a reply.
+#[derive(Drop)]
+pub(crate) struct PlaceReading<'a> {
+    pub(crate) search: Search<'a>,
+}
 
 /// The places of a bucket.
 #[derive(Drop)]
@@ -59,7 +61,7 @@ fn changed_places<'a>(
 {
     let part = on_shards(alloc, shards, places)?;
     let changed = domain(alloc, search, change, part)?;
-    let own = on_shards(alloc, shards, &changed)?;
+    let own = kept_on_shards(alloc, shards, changed)?;
     Ok(own)
 }
 
@@ -74,12 +76,16 @@ fn part_stats(
     ensures { IfOk result (λ found. (r : request.Request) (W : definition.World) → stats_view found
         ≡ stats_of_bucket (over_places r W) (map stat_view stats.now) shards.now (places_view places.now)) }
 {
+    if are_on_shards(shards, places) {
+        let whole = stats_over(alloc, stats, places)?;
+        return Ok(whole);
+    }
     let part = on_shards(alloc, shards, places)?;
     let found = stats_over(alloc, stats, &part)?;
     Ok(found)
 }
 
-impl<'a> BucketReading for Search<'a> {
+impl<'a> BucketReading for PlaceReading<'a> {
     type Bucket = BucketPlaces<'a>;
 
     type Domain = DomainPlaces<'a>;
@@ -92,7 +98,7 @@ impl<'a> BucketReading for Search<'a> {
 
     ghost over = { λ domain. places_view domain.places.items };
 
-    ghost reading = { λ search. over_places (request_view search.request.now) (world_view search.world.now) };
+    ghost reading = { λ r. over_places (request_view r.search.request.now) (world_view r.search.world.now) };
 
     ghost is_for = { λ domain kind. AreGroupsOf kind (places_view domain.places.items) domain.groups };
 
@@ -104,7 +110,7 @@ impl<'a> BucketReading for Search<'a> {
         shards: &[u32],
         bucket: &BucketPlaces<'a>,
     ) -> Result<DomainPlaces<'a>, WantMemory> {
-        let places = changed_places(alloc, self, &node.domain, shards, &bucket.places)?;
+        let places = changed_places(alloc, &self.search, &node.domain, shards, &bucket.places)?;
         let groups = grouped(alloc, &node.kind, &places)?;
         Ok(DomainPlaces { places, groups })
     }

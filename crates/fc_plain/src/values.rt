@@ -11,12 +11,12 @@ ghost use Rattle.fc_facet.specs.KindView.{terms_view};
 ghost use Rattle.fc_reading.specs.FacetNode.{vals_view};
 ghost use Rattle.fc_reading.specs.Grouped.{Grows, Holds, map_view};
 ghost use Rattle.fc_plain.specs.Groups.{AreValueGroups, groups_view};
-ghost use Rattle.fc_plain.specs.PlaceView.{place_view, places_view};
+ghost use Rattle.fc_places.specs.PlaceView.{place_view, places_view};
 
-use crate::place::Place;
 use fc_base::{Name, Val, WantMemory};
 use fc_docs::Document;
 use fc_facet::Terms;
+use fc_places::Place;
 use std::alloc::Global;
 use std::collections::{BTreeMap, BTreeSet};
 

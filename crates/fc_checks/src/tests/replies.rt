@@ -12,13 +12,14 @@ ghost use Rattle.std.specs.Prelude.{IfOk};
 ghost use Rattle.serde_json.specs.View.{view};
 ghost use Rattle.fc_spec.specs.scripts.JsonValues.{HasAscendingKeys, HasNumbers};
 ghost use Rattle.fc_request.specs.RequestView.{request_view};
-ghost use Rattle.fc_reading.specs.GoodRanges.{AreCountable};
+ghost use Rattle.fc_reading.specs.CountableRanges.{AreCountable};
 ghost use Rattle.fc_spec.specs.scripts.WorldLimits.{IsWithinLimits};
-ghost use Rattle.fc_plain.specs.WorldView.{world_view};
+ghost use Rattle.fc_places.specs.WorldView.{world_view};
 
 use fc_base::{Name, Schema};
-use fc_docs::{Block, read_block};
-use fc_plain::{is_within_limits, reply};
+use fc_docs::{Batch, read_block};
+use fc_places::is_within_limits;
+use fc_plain::reply;
 use fc_reading::valid_requests_are_countable;
 use fc_reply::{Reply, reply_line};
 use fc_request::Request;
@@ -30,7 +31,7 @@ use std::test::Fail;
 
 // What is asked over one world, and the lines of the replies.
 struct Table {
-    // The JSON of the schema, and for each shard that of its blocks.
+    // The JSON of the schema, and for each shard that of its batches: arrays of blocks.
     schema: &'static str,
     shards: &'static [&'static str],
     // The number of each shard's generation, and the session.
@@ -49,15 +50,25 @@ fn json_of(alloc: Global, text: &str) -> Result<Value, Fail>
     Ok(Value::from_slice(alloc, text.as_bytes())?)
 }
 
-fn blocks_of(alloc: Global, schema: &Schema, text: &str) -> Result<Vec<Block>, Fail> {
-    let json = json_of(alloc, text)?;
+fn batch_of(alloc: Global, schema: &Schema, json: &Value) -> Result<Batch, Fail> {
     let mut blocks = Vec::new(alloc);
     if let Some(items) = json.as_array() {
         for item in items {
             blocks.push(read_block(alloc, schema, item)?)?;
         }
     }
-    Ok(blocks)
+    Ok(Batch { blocks })
+}
+
+fn batches_of(alloc: Global, schema: &Schema, text: &str) -> Result<Vec<Batch>, Fail> {
+    let json = json_of(alloc, text)?;
+    let mut batches = Vec::new(alloc);
+    if let Some(items) = json.as_array() {
+        for item in items {
+            batches.push(batch_of(alloc, schema, item)?)?;
+        }
+    }
+    Ok(batches)
 }
 
 fn request_of(alloc: Global, schema: &Schema, text: &str) -> Result<Request, Fail>
@@ -68,7 +79,7 @@ fn request_of(alloc: Global, schema: &Schema, text: &str) -> Result<Request, Fai
     Ok(Request::read(alloc, schema, &json)?)
 }
 
-fn reply_to(alloc: Global, schema: &Schema, world: &[&[Block]], asked: &str) -> Result<Reply, Fail>
+fn reply_to(alloc: Global, schema: &Schema, world: &[&[Batch]], asked: &str) -> Result<Reply, Fail>
     requires { IsWithinLimits (world_view world.now) }
 {
     let request = request_of(alloc, schema, asked)?;
@@ -87,7 +98,7 @@ fn compare_rows(
     alloc: Global,
     table: &Table,
     schema: &Schema,
-    world: &[&[Block]],
+    world: &[&[Batch]],
 ) -> Result<(), Fail> {
     assert!(rt; is_within_limits(alloc, world)?);
     for (name, asked, facets) in table.rows {
@@ -99,10 +110,10 @@ fn compare_rows(
     Ok(())
 }
 
-fn shards_of(alloc: Global, schema: &Schema, texts: &[&str]) -> Result<Vec<Vec<Block>>, Fail> {
+fn shards_of(alloc: Global, schema: &Schema, texts: &[&str]) -> Result<Vec<Vec<Batch>>, Fail> {
     let mut shards = Vec::new(alloc);
     for text in texts {
-        shards.push(blocks_of(alloc, schema, text)?)?;
+        shards.push(batches_of(alloc, schema, text)?)?;
     }
     Ok(shards)
 }
@@ -112,8 +123,8 @@ fn compare_table(rt: &impl Abort, alloc: Global, table: &Table) -> Result<(), Fa
     let schema = Schema::read(alloc, &json)?;
     let shards = shards_of(alloc, &schema, table.shards)?;
     let mut world = Vec::new(alloc);
-    for blocks in &shards {
-        world.push(blocks.as_slice())?;
+    for batches in &shards {
+        world.push(batches.as_slice())?;
     }
     compare_rows(rt, alloc, table, &schema, world.as_slice())
 }

@@ -1,9 +1,9 @@
 // The places of one gap, while places are read.
 ghost use Rattle.std.specs.Prelude.{◌≡◌, IfOk};
-ghost use Rattle.fc_plain.specs.PlaceView.{place_view};
+ghost use Rattle.fc_places.specs.PlaceView.{place_view};
 
-use crate::place::Place;
 use fc_base::WantMemory;
+use fc_places::Place;
 
 // The places, and how many places had been read when the last of them came.
 #[derive(Drop)]

@@ -14,7 +14,7 @@ pub(super) const TABLES: &[Table] = &[
     // One commit of one document.
     Table {
         schema: r#"{"shards":1,"fields":{"cat":"string"}}"#,
-        shards: &[r#"[{"id":"1","cat":"a"}]"#],
+        shards: &[r#"[[{"id":"1","cat":"a"}]]"#],
         generations: &[1],
         session: "a",
         ending: r#","generations":[1],"session":"a"}"#,
@@ -23,7 +23,7 @@ pub(super) const TABLES: &[Table] = &[
     // A second commit of one more.
     Table {
         schema: r#"{"shards":1,"fields":{"cat":"string"}}"#,
-        shards: &[r#"[{"id":"1","cat":"a"},{"id":"2","cat":"b"}]"#],
+        shards: &[r#"[[{"id":"1","cat":"a"}],[{"id":"2","cat":"b"}]]"#],
         generations: &[2],
         session: "a",
         ending: r#","generations":[2],"session":"a"}"#,
@@ -33,9 +33,9 @@ pub(super) const TABLES: &[Table] = &[
     Table {
         schema: r#"{"shards":3,"fields":{"cat":"string"}}"#,
         shards: &[
-            r#"[{"id":"1","cat":"a"}]"#,
+            r#"[[{"id":"1","cat":"a"}]]"#,
             r#"[]"#,
-            r#"[{"id":"2","cat":"a"},{"id":"3"}]"#,
+            r#"[[{"id":"2","cat":"a"},{"id":"3"}]]"#,
         ],
         generations: &[4096, 0, 17],
         session: "é\"",

@@ -2,11 +2,11 @@
 use super::Table;
 
 pub(super) const TABLES: &[Table] = &[
-    // Three parents, of which the second has no child.
+    // Three parents in three batches and an empty one; the second parent has no child.
     Table {
         schema: r#"{"shards":1,"fields":{"kind":"string","brand":"string","color":"string"}}"#,
         shards: &[
-            r#"[{"id":"3","kind":"p","brand":"acme","_childDocuments_":[{"id":"1","color":"red"},{"id":"2","color":"blue"}]},{"id":"4","kind":"p","brand":"zen"},{"id":"6","kind":"p","brand":"zen","_childDocuments_":[{"id":"5","color":"red"}]}]"#,
+            r#"[[{"id":"3","kind":"p","brand":"acme","_childDocuments_":[{"id":"1","color":"red"},{"id":"2","color":"blue"}]}],[{"id":"4","kind":"p","brand":"zen"}],[],[{"id":"6","kind":"p","brand":"zen","_childDocuments_":[{"id":"5","color":"red"}]}]]"#,
         ],
         generations: &[1],
         session: "a",
@@ -67,7 +67,7 @@ pub(super) const TABLES: &[Table] = &[
     // One document of each color.
     Table {
         schema: r#"{"shards":1,"fields":{"color":"string","size":"plong"}}"#,
-        shards: &[r#"[{"id":"1","color":"a"},{"id":"2","color":"b"},{"id":"3","color":"c"}]"#],
+        shards: &[r#"[[{"id":"1","color":"a"},{"id":"2","color":"b"},{"id":"3","color":"c"}]]"#],
         generations: &[1],
         session: "a",
         ending: r#","generations":[1],"session":"a"}"#,

@@ -5,7 +5,7 @@ pub(super) const TABLES: &[Table] = &[
     // One document of each color, none with a size.
     Table {
         schema: r#"{"shards":1,"fields":{"color":"string","size":"plong"}}"#,
-        shards: &[r#"[{"id":"1","color":"a"},{"id":"2","color":"b"},{"id":"3","color":"c"}]"#],
+        shards: &[r#"[[{"id":"1","color":"a"},{"id":"2","color":"b"},{"id":"3","color":"c"}]]"#],
         generations: &[1],
         session: "a",
         ending: r#","generations":[1],"session":"a"}"#,
@@ -93,7 +93,7 @@ pub(super) const TABLES: &[Table] = &[
     Table {
         schema: r#"{"shards":1,"fields":{"size":"plongs","tag":"strings"}}"#,
         shards: &[
-            r#"[{"id":"1","size":[-5,10],"tag":["a b","c-d"]},{"id":"2","size":9},{"id":3,"tag":7}]"#,
+            r#"[[{"id":"1","size":[-5,10],"tag":["a b","c-d"]},{"id":"2","size":9},{"id":3,"tag":7}]]"#,
         ],
         generations: &[1],
         session: "a",

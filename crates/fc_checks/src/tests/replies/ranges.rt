@@ -6,7 +6,7 @@ pub(super) const TABLES: &[Table] = &[
     Table {
         schema: r#"{"shards":1,"fields":{"n":"plong"}}"#,
         shards: &[
-            r#"[{"id":"1","n":0},{"id":"2","n":4},{"id":"3","n":8},{"id":"4","n":10},{"id":"5","n":12}]"#,
+            r#"[[{"id":"1","n":0},{"id":"2","n":4},{"id":"3","n":8},{"id":"4","n":10},{"id":"5","n":12}]]"#,
         ],
         generations: &[1],
         session: "a",
@@ -123,8 +123,8 @@ pub(super) const TABLES: &[Table] = &[
     Table {
         schema: r#"{"shards":2,"fields":{"cat":"string","n":"plongs"}}"#,
         shards: &[
-            r#"[{"id":"1","cat":"a","n":[-7,0,3]},{"id":"2","cat":"b","n":[1,2]}]"#,
-            r#"[{"id":"3","cat":"a","n":[-1,9]},{"id":"4","cat":"b"}]"#,
+            r#"[[{"id":"1","cat":"a","n":[-7,0,3]},{"id":"2","cat":"b","n":[1,2]}]]"#,
+            r#"[[{"id":"3","cat":"a","n":[-1,9]},{"id":"4","cat":"b"}]]"#,
         ],
         generations: &[4096, 0, 17],
         session: "é\"",

@@ -6,8 +6,8 @@ pub(super) const TABLES: &[Table] = &[
     Table {
         schema: r#"{"shards":2,"fields":{"cat":"string"}}"#,
         shards: &[
-            r#"[{"id":"1","cat":"a"},{"id":"2","cat":"a"},{"id":"3","cat":"a"},{"id":"4","cat":"b"},{"id":"5","cat":"b"}]"#,
-            r#"[{"id":"6","cat":"c"},{"id":"7","cat":"c"},{"id":"8","cat":"c"},{"id":"9","cat":"a"}]"#,
+            r#"[[{"id":"1","cat":"a"},{"id":"2","cat":"a"},{"id":"3","cat":"a"},{"id":"4","cat":"b"},{"id":"5","cat":"b"}]]"#,
+            r#"[[{"id":"6","cat":"c"},{"id":"7","cat":"c"},{"id":"8","cat":"c"},{"id":"9","cat":"a"}]]"#,
         ],
         generations: &[1, 1],
         session: "a",
@@ -54,8 +54,8 @@ pub(super) const TABLES: &[Table] = &[
     Table {
         schema: r#"{"shards":2,"fields":{"cat":"string"}}"#,
         shards: &[
-            r#"[{"id":"1","cat":"a"},{"id":"2","cat":"a"},{"id":"3","cat":"a"},{"id":"4","cat":"b"},{"id":"5","cat":"b"}]"#,
-            r#"[{"id":"6","cat":"c"},{"id":"7","cat":"c"},{"id":"8","cat":"c"},{"id":"9","cat":"b"},{"id":"10","cat":"b"}]"#,
+            r#"[[{"id":"1","cat":"a"},{"id":"2","cat":"a"},{"id":"3","cat":"a"},{"id":"4","cat":"b"},{"id":"5","cat":"b"}]]"#,
+            r#"[[{"id":"6","cat":"c"},{"id":"7","cat":"c"},{"id":"8","cat":"c"},{"id":"9","cat":"b"},{"id":"10","cat":"b"}]]"#,
         ],
         generations: &[1, 1],
         session: "a",
@@ -77,8 +77,8 @@ pub(super) const TABLES: &[Table] = &[
     Table {
         schema: r#"{"shards":2,"fields":{"cat":"string"}}"#,
         shards: &[
-            r#"[{"id":"1","cat":"a"},{"id":"2","cat":"a"},{"id":"3","cat":"a"},{"id":"4","cat":"b"},{"id":"5","cat":"b"}]"#,
-            r#"[{"id":"6","cat":"c"},{"id":"7","cat":"c"},{"id":"8","cat":"c"},{"id":"9","cat":"c"},{"id":"10","cat":"a"},{"id":"11","cat":"a"}]"#,
+            r#"[[{"id":"1","cat":"a"},{"id":"2","cat":"a"},{"id":"3","cat":"a"},{"id":"4","cat":"b"},{"id":"5","cat":"b"}]]"#,
+            r#"[[{"id":"6","cat":"c"},{"id":"7","cat":"c"},{"id":"8","cat":"c"},{"id":"9","cat":"c"},{"id":"10","cat":"a"},{"id":"11","cat":"a"}]]"#,
         ],
         generations: &[1, 1],
         session: "a",
@@ -105,8 +105,8 @@ pub(super) const TABLES: &[Table] = &[
     Table {
         schema: r#"{"shards":2,"fields":{"cat":"string","size":"string"}}"#,
         shards: &[
-            r#"[{"id":"1","cat":"x","size":"s"},{"id":"2","cat":"x","size":"s"},{"id":"3","cat":"x","size":"l"}]"#,
-            r#"[{"id":"4","cat":"x","size":"l"},{"id":"5","cat":"x","size":"l"},{"id":"6","cat":"y","size":"m"},{"id":"7","cat":"y","size":"m"},{"id":"8","cat":"y","size":"m"}]"#,
+            r#"[[{"id":"1","cat":"x","size":"s"},{"id":"2","cat":"x","size":"s"},{"id":"3","cat":"x","size":"l"}]]"#,
+            r#"[[{"id":"4","cat":"x","size":"l"},{"id":"5","cat":"x","size":"l"},{"id":"6","cat":"y","size":"m"},{"id":"7","cat":"y","size":"m"},{"id":"8","cat":"y","size":"m"}]]"#,
         ],
         generations: &[1, 1],
         session: "a",
@@ -138,8 +138,8 @@ pub(super) const TABLES: &[Table] = &[
     Table {
         schema: r#"{"shards":2,"fields":{"cat":"string","n":"plong"}}"#,
         shards: &[
-            r#"[{"id":"1","cat":"a","n":1},{"id":"2","cat":"a","n":2},{"id":"3","cat":"a","n":3},{"id":"4","cat":"b","n":4},{"id":"5","cat":"b","n":5}]"#,
-            r#"[{"id":"6","cat":"c","n":6},{"id":"7","cat":"c","n":7},{"id":"8","cat":"c","n":8},{"id":"9","cat":"a","n":10}]"#,
+            r#"[[{"id":"1","cat":"a","n":1},{"id":"2","cat":"a","n":2},{"id":"3","cat":"a","n":3},{"id":"4","cat":"b","n":4},{"id":"5","cat":"b","n":5}]]"#,
+            r#"[[{"id":"6","cat":"c","n":6},{"id":"7","cat":"c","n":7},{"id":"8","cat":"c","n":8},{"id":"9","cat":"a","n":10}]]"#,
         ],
         generations: &[1, 1],
         session: "a",
@@ -171,8 +171,8 @@ pub(super) const TABLES: &[Table] = &[
     Table {
         schema: r#"{"shards":2,"fields":{"cat":"string"}}"#,
         shards: &[
-            r#"[{"id":"1","cat":"a"},{"id":"2","cat":"a"},{"id":"3","cat":"b"},{"id":"4","cat":"b"},{"id":"5","cat":"c"},{"id":"6","cat":"c"},{"id":"7","cat":"d"},{"id":"8","cat":"d"},{"id":"9","cat":"e"},{"id":"10","cat":"e"},{"id":"11","cat":"z"}]"#,
-            r#"[{"id":"12","cat":"z"},{"id":"13","cat":"z"},{"id":"14","cat":"z"},{"id":"15","cat":"z"}]"#,
+            r#"[[{"id":"1","cat":"a"},{"id":"2","cat":"a"},{"id":"3","cat":"b"},{"id":"4","cat":"b"},{"id":"5","cat":"c"},{"id":"6","cat":"c"},{"id":"7","cat":"d"},{"id":"8","cat":"d"},{"id":"9","cat":"e"},{"id":"10","cat":"e"},{"id":"11","cat":"z"}]]"#,
+            r#"[[{"id":"12","cat":"z"},{"id":"13","cat":"z"},{"id":"14","cat":"z"},{"id":"15","cat":"z"}]]"#,
         ],
         generations: &[1, 1],
         session: "a",
@@ -204,9 +204,9 @@ pub(super) const TABLES: &[Table] = &[
     Table {
         schema: r#"{"shards":3,"fields":{"cat":"string"}}"#,
         shards: &[
-            r#"[{"id":"1","cat":"a"},{"id":"2","cat":"b"}]"#,
+            r#"[[{"id":"1","cat":"a"},{"id":"2","cat":"b"}]]"#,
             r#"[]"#,
-            r#"[{"id":"3","cat":"b"}]"#,
+            r#"[[{"id":"3","cat":"b"}]]"#,
         ],
         generations: &[1, 1, 1],
         session: "a",

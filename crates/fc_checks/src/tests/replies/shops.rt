@@ -2,12 +2,12 @@
 use super::Table;
 
 pub(super) const TABLES: &[Table] = &[
-    // Twelve products on two shards.
+    // Twelve products on two shards, in three batches and an empty one, and in two.
     Table {
         schema: r#"{"shards":2,"fields":{"brand":"string","color":"strings","price":"plong"}}"#,
         shards: &[
-            r#"[{"id":"p1","brand":"acme","color":"red","price":10},{"id":"p2","brand":"acme","color":"blue","price":25},{"id":"p3","brand":"zen","color":["red","blue"],"price":40},{"id":"p4","brand":"zen","color":"green","price":55},{"id":"p5","brand":"orb","color":"red","price":70},{"id":"p6","brand":"orb","color":"blue"}]"#,
-            r#"[{"id":"p7","brand":"acme","color":"red","price":15},{"id":"p8","brand":"acme","color":"green","price":30},{"id":"p9","brand":"zen","color":"red","price":45},{"id":"p10","brand":"zen","color":"blue","price":60},{"id":"p11","brand":"orb","color":"red","price":75},{"id":"p12","brand":"nix","color":"red","price":20}]"#,
+            r#"[[{"id":"p1","brand":"acme","color":"red","price":10},{"id":"p2","brand":"acme","color":"blue","price":25}],[{"id":"p3","brand":"zen","color":["red","blue"],"price":40},{"id":"p4","brand":"zen","color":"green","price":55}],[],[{"id":"p5","brand":"orb","color":"red","price":70},{"id":"p6","brand":"orb","color":"blue"}]]"#,
+            r#"[[{"id":"p7","brand":"acme","color":"red","price":15},{"id":"p8","brand":"acme","color":"green","price":30}],[{"id":"p9","brand":"zen","color":"red","price":45},{"id":"p10","brand":"zen","color":"blue","price":60},{"id":"p11","brand":"orb","color":"red","price":75},{"id":"p12","brand":"nix","color":"red","price":20}]]"#,
         ],
         generations: &[1, 1],
         session: "shop",
@@ -25,10 +25,10 @@ pub(super) const TABLES: &[Table] = &[
     Table {
         schema: r#"{"shards":4,"fields":{"brand":"string","price":"plong","tags":"strings"}}"#,
         shards: &[
-            r#"[{"id":"d0","brand":"b0","price":0,"tags":["t0","t0"]}]"#,
-            r#"[{"id":"d1","brand":"b7","price":31,"tags":["t1","t1"]}]"#,
-            r#"[{"id":"d2","brand":"b1","price":62,"tags":["t2","t2"]}]"#,
-            r#"[{"id":"d3","brand":"b8","price":93,"tags":["t3","t0"]}]"#,
+            r#"[[{"id":"d0","brand":"b0","price":0,"tags":["t0","t0"]}]]"#,
+            r#"[[{"id":"d1","brand":"b7","price":31,"tags":["t1","t1"]}]]"#,
+            r#"[[{"id":"d2","brand":"b1","price":62,"tags":["t2","t2"]}]]"#,
+            r#"[[{"id":"d3","brand":"b8","price":93,"tags":["t3","t0"]}]]"#,
         ],
         generations: &[1, 1, 1, 1],
         session: "demo",

@@ -6,7 +6,7 @@ pub(super) const TABLES: &[Table] = &[
     Table {
         schema: r#"{"shards":1,"fields":{"cat":"string","price":"plong"}}"#,
         shards: &[
-            r#"[{"id":"1","cat":"a","price":5},{"id":"2","cat":"b"},{"id":"3","cat":"c","price":2}]"#,
+            r#"[[{"id":"1","cat":"a","price":5},{"id":"2","cat":"b"},{"id":"3","cat":"c","price":2}]]"#,
         ],
         generations: &[1],
         session: "a",
@@ -33,8 +33,8 @@ pub(super) const TABLES: &[Table] = &[
     Table {
         schema: r#"{"shards":2,"fields":{"cat":"string","n":"plong"}}"#,
         shards: &[
-            r#"[{"id":"1","cat":"a","n":1},{"id":"2","cat":"a","n":9}]"#,
-            r#"[{"id":"3","cat":"b","n":5},{"id":"4","cat":"c","n":3}]"#,
+            r#"[[{"id":"1","cat":"a","n":1},{"id":"2","cat":"a","n":9}]]"#,
+            r#"[[{"id":"3","cat":"b","n":5},{"id":"4","cat":"c","n":3}]]"#,
         ],
         generations: &[1, 1],
         session: "a",
@@ -60,7 +60,7 @@ pub(super) const TABLES: &[Table] = &[
     // A sum at the greatest number of 64 bits.
     Table {
         schema: r#"{"shards":1,"fields":{"p":"plong"}}"#,
-        shards: &[r#"[{"id":"1","p":9223372036854775806},{"id":"2","p":1}]"#],
+        shards: &[r#"[[{"id":"1","p":9223372036854775806},{"id":"2","p":1}]]"#],
         generations: &[1],
         session: "a",
         ending: r#","generations":[1],"session":"a"}"#,
@@ -74,8 +74,8 @@ pub(super) const TABLES: &[Table] = &[
     Table {
         schema: r#"{"shards":2,"fields":{"p":"plongs"}}"#,
         shards: &[
-            r#"[{"id":"1","p":[-9223372036854775800,-1]}]"#,
-            r#"[{"id":"2","p":-6}]"#,
+            r#"[[{"id":"1","p":[-9223372036854775800,-1]}]]"#,
+            r#"[[{"id":"2","p":-6}]]"#,
         ],
         generations: &[1, 1],
         session: "a",
@@ -90,7 +90,7 @@ pub(super) const TABLES: &[Table] = &[
     Table {
         schema: r#"{"shards":1,"fields":{"color":"string","size":"plong"}}"#,
         shards: &[
-            r#"[{"id":"1","color":"a","size":1},{"id":"2","color":"b","size":2},{"id":"3","color":"c"}]"#,
+            r#"[[{"id":"1","color":"a","size":1},{"id":"2","color":"b","size":2},{"id":"3","color":"c"}]]"#,
         ],
         generations: &[1],
         session: "a",
@@ -112,8 +112,8 @@ pub(super) const TABLES: &[Table] = &[
     Table {
         schema: r#"{"shards":2,"fields":{"cat":"string"}}"#,
         shards: &[
-            r#"[{"id":"1","cat":"a"},{"id":"2"}]"#,
-            r#"[{"id":"3","cat":"a"}]"#,
+            r#"[[{"id":"1","cat":"a"},{"id":"2"}]]"#,
+            r#"[[{"id":"3","cat":"a"}]]"#,
         ],
         generations: &[1, 1],
         session: "a",

@@ -5,7 +5,7 @@ pub(super) const TABLES: &[Table] = &[
     // Two documents on one shard.
     Table {
         schema: r#"{"shards":1,"fields":{"cat":"string"}}"#,
-        shards: &[r#"[{"id":"1","cat":"b"},{"id":"2","cat":"a"}]"#],
+        shards: &[r#"[[{"id":"1","cat":"b"},{"id":"2","cat":"a"}]]"#],
         generations: &[1],
         session: "a",
         ending: r#","generations":[1],"session":"a"}"#,
@@ -39,7 +39,7 @@ pub(super) const TABLES: &[Table] = &[
     // Three values of the same count.
     Table {
         schema: r#"{"shards":1,"fields":{"cat":"string"}}"#,
-        shards: &[r#"[{"id":"1","cat":"b"},{"id":"2","cat":"a"},{"id":"3","cat":"c"}]"#],
+        shards: &[r#"[[{"id":"1","cat":"b"},{"id":"2","cat":"a"},{"id":"3","cat":"c"}]]"#],
         generations: &[1],
         session: "a",
         ending: r#","generations":[1],"session":"a"}"#,
@@ -90,7 +90,7 @@ pub(super) const TABLES: &[Table] = &[
     Table {
         schema: r#"{"shards":1,"fields":{"cat":"string"}}"#,
         shards: &[
-            r#"[{"id":"1","cat":"a"},{"id":"2","cat":"b"},{"id":"3","cat":"b"},{"id":"4","cat":"c"},{"id":"5","cat":"c"}]"#,
+            r#"[[{"id":"1","cat":"a"},{"id":"2","cat":"b"},{"id":"3","cat":"b"},{"id":"4","cat":"c"},{"id":"5","cat":"c"}]]"#,
         ],
         generations: &[1],
         session: "a",
@@ -126,7 +126,7 @@ pub(super) const TABLES: &[Table] = &[
     // Texts that are escaped, that stand twice, and beyond ASCII.
     Table {
         schema: r#"{"shards":1,"fields":{"t":"strings"}}"#,
-        shards: &[r#"[{"id":"1","t":["z","z"]},{"id":"2","t":["é"]},{"id":"3","t":["\""]}]"#],
+        shards: &[r#"[[{"id":"1","t":["z","z"]},{"id":"2","t":["é"]},{"id":"3","t":["\""]}]]"#],
         generations: &[1],
         session: "a",
         ending: r#","generations":[1],"session":"a"}"#,
@@ -139,7 +139,7 @@ pub(super) const TABLES: &[Table] = &[
     // Characters that are escaped.
     Table {
         schema: r#"{"shards":1,"fields":{"t":"strings"}}"#,
-        shards: &[r#"[{"id":"1","t":["\n","\t","\\","/","\u0001","","😀","ﬀ"]}]"#],
+        shards: &[r#"[[{"id":"1","t":["\n","\t","\\","/","\u0001","","😀","ﬀ"]}]]"#],
         generations: &[1],
         session: "a",
         ending: r#","generations":[1],"session":"a"}"#,
@@ -160,8 +160,8 @@ pub(super) const TABLES: &[Table] = &[
     Table {
         schema: r#"{"shards":2,"fields":{"t":"strings"}}"#,
         shards: &[
-            r#"[{"id":"1","t":["apple","apricot"]},{"id":"2","t":"banana"}]"#,
-            r#"[{"id":"3","t":"apple"},{"id":"4","t":"ap"},{"id":"5","t":"a"},{"id":"6"}]"#,
+            r#"[[{"id":"1","t":["apple","apricot"]},{"id":"2","t":"banana"}]]"#,
+            r#"[[{"id":"3","t":"apple"},{"id":"4","t":"ap"},{"id":"5","t":"a"},{"id":"6"}]]"#,
         ],
         generations: &[1, 1],
         session: "a",
@@ -188,8 +188,8 @@ pub(super) const TABLES: &[Table] = &[
     Table {
         schema: r#"{"shards":2,"fields":{"n":"plongs"}}"#,
         shards: &[
-            r#"[{"id":"1","n":[10,-3]},{"id":"2","n":"9"}]"#,
-            r#"[{"id":"3","n":[9,9,"-3"]},{"id":"4","n":[null]},{"id":"5","n":-9223372036854775}]"#,
+            r#"[[{"id":"1","n":[10,-3]},{"id":"2","n":"9"}]]"#,
+            r#"[[{"id":"3","n":[9,9,"-3"]},{"id":"4","n":[null]},{"id":"5","n":-9223372036854775}]]"#,
         ],
         generations: &[1, 1],
         session: "a",

@@ -1,4 +1,4 @@
-use Rattle.fc_plain.specs.PlaceView.{places_view}
+use Rattle.fc_places.specs.PlaceView.{places_view}
 use Rattle.fc_plain.proofs.buckets.places_at.Goals as goal
 
 pub range_places-requires-clause-made : goal.range_places-requires-clause-made

@@ -1,6 +1,6 @@
 use Rattle.std.proofs.Common.{◌∙◌, ap, sym}
 use Rattle.fc_facet.specs.KindView.{terms_view}
-use Rattle.fc_plain.specs.PlaceView.{places_view}
+use Rattle.fc_places.specs.PlaceView.{places_view}
 use Rattle.fc_plain.proofs.OtherKeys.{no_places}
 use Rattle.fc_plain.proofs.buckets.terms_places.Goals as goal
 

@@ -1,13 +1,13 @@
 use Rattle.std.proofs.Common.{map, sym, ◌∙◌, ap, subst}
 use Rattle.fc_base.specs.StatisticView.{stat_view}
 use Rattle.fc_facet.specs.KindView.{terms_view}
-use Rattle.fc_plain.proofs.Fitting.{filtered_fit}
+use Rattle.fc_places.proofs.Fitting.{filtered_fit}
 use Rattle.fc_plain.proofs.FoundGroup.{group_at}
 use Rattle.fc_plain.proofs.OfferedValues.{entries_made}
-use Rattle.fc_plain.specs.Fitting.{StatisticsFit}
+use Rattle.fc_places.specs.Fitting.{StatisticsFit}
 use Rattle.fc_plain.specs.GroupEntries.{group_entry}
 use Rattle.fc_plain.specs.Groups.{groups_view}
-use Rattle.fc_plain.specs.PlaceView.{places_view}
+use Rattle.fc_places.specs.PlaceView.{places_view}
 use Rattle.fc_spec.specs.replies.Values.{value_places, values_in}
 use Rattle.fc_plain.proofs.entries.entries.Goals as goal
 

@@ -4,7 +4,7 @@ use Rattle.fc_spec.specs.requests.Buckets.{in_bucket, gap}
 use Rattle.fc_spec.specs.requests.Request.{range}
 use Rattle.fc_facet.specs.KindView.{range_view}
 use Rattle.fc_plain.specs.GapPlaces.{AreGaps, HaveTaken, gap_view, gaps_view}
-use Rattle.fc_plain.specs.PlaceView.{place_view, places_view}
+use Rattle.fc_places.specs.PlaceView.{place_view, places_view}
 use Rattle.fc_plain.proofs.TakenPlaces.{one_more_place}
 use Rattle.fc_plain.proofs.gaps.full_gaps.Goals as goal
 

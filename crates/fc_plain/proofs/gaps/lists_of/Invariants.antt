@@ -1,6 +1,6 @@
 use Rattle.std.proofs.Common.{◌≡◌, ◌++◌, map}
 use Rattle.fc_plain.specs.GapPlaces.{gaps_view}
-use Rattle.fc_plain.specs.PlaceView.{places_view}
+use Rattle.fc_places.specs.PlaceView.{places_view}
 use Rattle.fc_plain.proofs.gaps.lists_of.Given as goal
 
 abbrev pub invariant-loop-gap : goal.invariant-loop-gap

@@ -4,7 +4,7 @@ use Rattle.fc_spec.specs.requests.Buckets as bucket
 use Rattle.fc_base.specs.View.{val_view}
 use Rattle.fc_facet.specs.KindView.{range_view}
 use Rattle.fc_plain.specs.GapPlaces.{HaveTaken, gaps_view}
-use Rattle.fc_plain.specs.PlaceView.{place_view}
+use Rattle.fc_places.specs.PlaceView.{place_view}
 use Rattle.fc_plain.proofs.gaps.take_place.Given as goal
 
 abbrev pub invariant-loop-value : goal.invariant-loop-value

@@ -5,7 +5,7 @@ use Rattle.fc_facet.specs.KindView.{terms_view}
 use Rattle.fc_plain.proofs.OfferedValues.{entries_ascend, offered_all, offered_ascend, vals_grouped}
 use Rattle.fc_plain.specs.Groups.{Group, groups_view}
 use Rattle.fc_plain.specs.Offers.{offered_of}
-use Rattle.fc_plain.specs.PlaceView.{places_view}
+use Rattle.fc_places.specs.PlaceView.{places_view}
 use Rattle.fc_reading.specs.FacetNode.{vals_view}
 use Rattle.fc_spec.specs.documents.Val.{val_cmp}
 use Rattle.fc_plain.proofs.offers.offered.Goals as goal

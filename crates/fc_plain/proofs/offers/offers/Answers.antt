@@ -7,12 +7,12 @@ use Rattle.std.proofs.lemmas.List.Elements.{All-push}
 use Rattle.fc_base.specs.StatisticView.{stat_view}
 use Rattle.fc_base.specs.declared.value.Val as base
 use Rattle.fc_facet.specs.KindView.{terms_view}
-use Rattle.fc_plain.proofs.Fitting.{filtered_fit}
+use Rattle.fc_places.proofs.Fitting.{filtered_fit}
 use Rattle.fc_plain.proofs.OfferedLists.{offers_more}
-use Rattle.fc_plain.specs.Fitting.{StatisticsFit}
+use Rattle.fc_places.specs.Fitting.{StatisticsFit}
 use Rattle.fc_plain.specs.Offers.{offered_of}
-use Rattle.fc_plain.specs.Parts.{places_in}
-use Rattle.fc_plain.specs.PlaceView.{places_view}
+use Rattle.fc_places.specs.Parts.{places_in}
+use Rattle.fc_places.specs.PlaceView.{places_view}
 use Rattle.fc_reading.specs.FacetNode.{vals_view}
 use Rattle.fc_spec.specs.documents.Val.{Val, val_cmp}
 use Rattle.fc_spec.specs.documents.World.{Place, on_shards}

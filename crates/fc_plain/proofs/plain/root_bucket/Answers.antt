@@ -1,6 +1,6 @@
 use Rattle.fc_request.specs.RequestView.{request_view}
-use Rattle.fc_plain.specs.WorldView.{world_view}
-use Rattle.fc_plain.proofs.FittingDomains.{root_fits}
+use Rattle.fc_places.specs.WorldView.{world_view}
+use Rattle.fc_places.proofs.FittingDomains.{root_fits}
 use Rattle.fc_plain.proofs.plain.root_bucket.Goals as goal
 
 pub invariant_of-result : goal.invariant_of-result

@@ -2,7 +2,7 @@ use Rattle.std.proofs.Common.{◌∙◌, ap, rules}
 use Rattle.std.proofs.lemmas.Fn.{always_returns_same}
 use Rattle.fc_base.specs.View.{val_view}
 use Rattle.fc_plain.proofs.FoundGroup.{group_found, group_absent}
-use Rattle.fc_plain.specs.PlaceView.{places_view}
+use Rattle.fc_places.specs.PlaceView.{places_view}
 use Rattle.fc_spec.specs.documents.Val.{val_cmp}
 use Rattle.fc_plain.proofs.values.group_of.Goals as goal
 

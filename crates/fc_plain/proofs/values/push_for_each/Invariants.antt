@@ -1,4 +1,4 @@
-use Rattle.fc_plain.specs.PlaceView.{place_view}
+use Rattle.fc_places.specs.PlaceView.{place_view}
 use Rattle.fc_reading.specs.FacetNode.{vals_view}
 use Rattle.fc_reading.proofs.Growing.{IsGrowing}
 use Rattle.fc_reading.specs.Grouped.{map_view}

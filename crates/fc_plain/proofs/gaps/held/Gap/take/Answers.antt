@@ -3,7 +3,7 @@ use Rattle.std.specs.Prelude.{if◌then◌else◌}
 use Rattle.std.proofs.lemmas.Bool.Decides.{nat_tests}
 use Rattle.std.proofs.lemmas.List.{map-append}
 use Rattle.fc_spec.specs.documents.World.{Place}
-use Rattle.fc_plain.specs.PlaceView.{place_view, places_view}
+use Rattle.fc_places.specs.PlaceView.{place_view, places_view}
 use Rattle.fc_plain.specs.GapPlaces.{gap_view}
 use Rattle.fc_plain.proofs.gaps.held.Gap.take.Goals as goal
 

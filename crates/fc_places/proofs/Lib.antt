@@ -1,0 +1,13 @@
+pub mod BlockPlaces
+pub mod Cut
+pub mod CutPlaces
+pub mod Fitting
+pub mod FittingDomains
+pub mod Gathered
+pub mod Longs
+pub mod Moved
+pub mod NoFilters
+pub mod OnShards
+pub mod PlacedBatches
+pub mod PlacesAscend
+pub mod SumsPast
