@@ -12,7 +12,7 @@ use Rattle.fc_request.specs.declared.node.Node.TheFolds.{fold_out-Node}
 use Rattle.fc_request.specs.NodeView.{Part, node_of, node_step, node_view, inner_view}
 use Rattle.fc_request.specs.NodeStatistics.{statistic_of_node}
 use Rattle.fc_reading.specs.FacetNode.{has_buckets, kind_of, kind_view, facet_view}
-use Rattle.fc_reading.specs.GoodRanges.{IsCountable, AreCountable}
+use Rattle.fc_reading.specs.CountableRanges.{IsCountable, AreCountable}
 use Rattle.fc_reading.specs.Tree.{node_before}
 
 pub node_is : (n : Node) → node_view n ≡ ((out-Node n).name, node_of (domain_view (out-Node n).domain) (kind_of n) (inner_view n))

@@ -1,5 +1,5 @@
 pub mod FacetNode
-pub mod GoodRanges
+pub mod CountableRanges
 pub mod Parts
 pub mod Terms
 pub mod Tree

@@ -1,5 +1,5 @@
 -- Candidates of a terms facet.
-use Rattle.std.specs.Prelude.{◌≡◌, ℕ, List, map, Some, if◌then◌else◌}
+use Rattle.std.specs.Prelude.{◌≡◌, ℕ, All, List, map, Some, if◌then◌else◌}
 use Rattle.std.specs.List.{filter, flat_map}
 use Rattle.fc_spec.specs.documents.Val.{Val, has_val, distinct}
 use Rattle.fc_spec.specs.requests.Request.{Terms, terms, Nodes}
@@ -45,3 +45,15 @@ module _ {H D : Type 0} (R : Reading H D) (t : Terms) (inner : Nodes) (shards : 
     pub bucket : held c.bucket ≡ R.bucket_at (terms t) Y (value_key (val_view c.val))
     pub shards_are : c.shards.items ≡ counted (val_view c.val)
     pub entry : candidate_view c ≡ entry_on R t inner shards Y (counted (val_view c.val)) (val_view c.val)
+
+  -- each is counted over those shards
+  abbrev pub AreOn : {B : Type 0} (held : B → H) (counted : Val → List ℕ) → List (Candidate B) → Type 0
+  AreOn held counted cs = All (IsOn held counted) cs
+
+  -- over those over which it is counted first
+  abbrev pub AreOnFirst : {B : Type 0} (held : B → H) → List (Candidate B) → Type 0
+  AreOnFirst held cs = AreOn held counted_first cs
+
+  -- over those that are known of its value
+  abbrev pub AreOnKnown : {B : Type 0} (held : B → H) → List (Candidate B) → Type 0
+  AreOnKnown held cs = AreOn held (known R t inner shards Y) cs

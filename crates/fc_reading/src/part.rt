@@ -6,7 +6,7 @@ ghost use Rattle.fc_base.specs.StatisticView.{stat_view};
 ghost use Rattle.fc_base.specs.View.{val_view};
 ghost use Rattle.fc_partial.specs.View.{key_view};
 ghost use Rattle.fc_reading.specs.FacetNode.{has_buckets, kind_view};
-ghost use Rattle.fc_reading.specs.GoodRanges.{IsCountable, IsThere};
+ghost use Rattle.fc_reading.specs.CountableRanges.{IsCountable, IsThere};
 ghost use Rattle.fc_reading.specs.Parts.{beside, IsCounted, part_view};
 
 use crate::BucketReading;
@@ -75,7 +75,7 @@ pub(crate) fn part_at<R: BucketReading>(
     })
 }
 
-/// The same, where it is asked for.
+/// The bucket of a key that is no value, on the shards of the bucket around it, where it is asked for.
 pub(crate) fn part_beside<R: BucketReading>(
     alloc: Global,
     reading: &R,

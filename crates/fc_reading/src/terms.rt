@@ -13,7 +13,7 @@ ghost use Rattle.fc_request.specs.NodeView.{inner_view};
 ghost use Rattle.fc_refine.specs.Entries.{HaveAscendingValues};
 ghost use Rattle.fc_reading.specs.FacetNode.{kind_of};
 ghost use Rattle.fc_reading.specs.Parts.{AreCounted, parts_of, parts_view};
-ghost use Rattle.fc_reading.specs.Terms.{candidate_vals, candidates_view, counted_first, IsOn, part_from};
+ghost use Rattle.fc_reading.specs.Terms.{AreOn, AreOnFirst, AreOnKnown, candidate_vals, candidates_view, IsOn, part_from};
 
 use crate::BucketReading;
 use crate::candidate::Candidate;
@@ -88,9 +88,8 @@ fn candidates_of<R: BucketReading>(
     requires terms { kind_of node.now ≡ variant.Terms terms.now }
     requires offering { All (λ o. o.shards.items ≡ chosen.offering (R.reading reading.now) (terms_view terms.now)
         (inner_view node.now) shards.now (R.over domain.now) (val_view o.val.now)) offered.items }
-    ensures on { IfOk result (λ list. All (IsOn (R.reading reading.now) (terms_view terms.now) (inner_view node.now) shards.now
-        (R.over domain.now) R.held (counted_first (R.reading reading.now) (terms_view terms.now) (inner_view node.now) shards.now
-        (R.over domain.now))) list.items) }
+    ensures on { IfOk result (λ list. AreOnFirst (R.reading reading.now) (terms_view terms.now) (inner_view node.now) shards.now
+        (R.over domain.now) R.held list.items) }
     ensures vals { IfOk result (λ list. candidate_vals list.items ≡ map (λ o. val_view o.val.now) offered.entry.items) }
 {
     let mut list = Vec::with_capacity(alloc, offered.len())?;
@@ -114,9 +113,8 @@ fn candidates<R: BucketReading>(
     requires made { R.is_for domain.now (kind_of node.now) }
     requires stats { map stat_view stats.now ≡ definition.stats_of (inner_view node.now) }
     requires terms { kind_of node.now ≡ variant.Terms terms.now }
-    ensures on { IfOk result (λ list. All (IsOn (R.reading reading.now) (terms_view terms.now) (inner_view node.now) shards.now
-        (R.over domain.now) R.held (counted_first (R.reading reading.now) (terms_view terms.now) (inner_view node.now) shards.now
-        (R.over domain.now))) list.items) }
+    ensures on { IfOk result (λ list. AreOnFirst (R.reading reading.now) (terms_view terms.now) (inner_view node.now) shards.now
+        (R.over domain.now) R.held list.items) }
     ensures vals { IfOk result (λ list. candidate_vals list.items ≡ chosen.candidates (R.reading reading.now)
         (terms_view terms.now) (inner_view node.now) shards.now (R.over domain.now)) }
 {
@@ -126,7 +124,7 @@ fn candidates<R: BucketReading>(
     Ok(list)
 }
 
-// The same candidate, counted over these shards.
+// A candidate, counted over these shards instead.
 fn counted_on<R: BucketReading>(
     alloc: Global,
     reading: &R,
@@ -149,7 +147,7 @@ fn counted_on<R: BucketReading>(
     })
 }
 
-// The same candidates, counted over these shards.
+// Candidates, each counted over these shards instead.
 fn all_counted_on<R: BucketReading>(
     alloc: Global,
     reading: &R,
@@ -160,8 +158,8 @@ fn all_counted_on<R: BucketReading>(
     ensures vals { IfOk result (λ list. candidate_vals list.items ≡ candidate_vals candidates.items) }
     ensures on { IfOk result (λ list. (t : definition.Terms) (inner : definition.Nodes) (Y : R.Over) (counted : value.Val → List ℕ)
         → definition.stats_of inner ≡ map stat_view stats.now
-        → All (IsOn (R.reading reading.now) t inner shards.now Y R.held counted) candidates.items
-        → All (IsOn (R.reading reading.now) t inner shards.now Y R.held (λ v. shards.now)) list.items) }
+        → AreOn (R.reading reading.now) t inner shards.now Y R.held counted candidates.items
+        → AreOn (R.reading reading.now) t inner shards.now Y R.held (λ v. shards.now) list.items) }
 {
     let mut list = Vec::with_capacity(alloc, candidates.len())?;
     for candidate in candidates {
@@ -184,8 +182,8 @@ fn refined<R: BucketReading>(
         (ranks.rank_bound terms.now.offset terms.now.limit terms.now.overrefine) (candidates_view candidates.items))) }
     ensures on { IfOk result (λ list. (inner : definition.Nodes) (Y : R.Over) (counted : value.Val → List ℕ)
         → definition.stats_of inner ≡ map stat_view stats.now
-        → All (IsOn (R.reading reading.now) (terms_view terms.now) inner shards.now Y R.held counted) candidates.items
-        → All (IsOn (R.reading reading.now) (terms_view terms.now) inner shards.now Y R.held (λ v. shards.now)) list.items) }
+        → AreOn (R.reading reading.now) (terms_view terms.now) inner shards.now Y R.held counted candidates.items
+        → AreOn (R.reading reading.now) (terms_view terms.now) inner shards.now Y R.held (λ v. shards.now) list.items) }
 {
     let bound = rank_bound(terms.offset, terms.limit, terms.overrefine);
     let front = below_rank(terms.sort, bound, candidates)?;
@@ -206,9 +204,8 @@ fn chosen<R: BucketReading>(
     requires made { R.is_for domain.now (kind_of node.now) }
     requires stats { map stat_view stats.now ≡ definition.stats_of (inner_view node.now) }
     requires terms { kind_of node.now ≡ variant.Terms terms.now }
-    ensures on { IfOk result (λ list. All (IsOn (R.reading reading.now) (terms_view terms.now) (inner_view node.now) shards.now
-        (R.over domain.now) R.held (chosen.known (R.reading reading.now) (terms_view terms.now) (inner_view node.now) shards.now
-        (R.over domain.now))) list.items) }
+    ensures on { IfOk result (λ list. AreOnKnown (R.reading reading.now) (terms_view terms.now) (inner_view node.now) shards.now
+        (R.over domain.now) R.held list.items) }
     ensures entries { IfOk result (λ list. candidates_view list.items ≡ chosen.chosen_entries (R.reading reading.now)
         (terms_view terms.now) (inner_view node.now) shards.now (R.over domain.now)) }
     ensures ascend { IfOk result (λ list. HaveAscendingValues (candidates_view list.items)) }
@@ -222,7 +219,7 @@ fn chosen<R: BucketReading>(
     }
 }
 
-// Those whose count is at least so much.
+// The candidates whose count is at least so much.
 fn with_count<B: Drop>(
     alloc: Global,
     least: u32,
@@ -252,9 +249,8 @@ fn printed<R: BucketReading>(
     requires made { R.is_for domain.now (kind_of node.now) }
     requires stats { map stat_view stats.now ≡ definition.stats_of (inner_view node.now) }
     requires terms { kind_of node.now ≡ variant.Terms terms.now }
-    ensures on { IfOk result (λ list. All (IsOn (R.reading reading.now) (terms_view terms.now) (inner_view node.now) shards.now
-        (R.over domain.now) R.held (chosen.known (R.reading reading.now) (terms_view terms.now) (inner_view node.now) shards.now
-        (R.over domain.now))) list.items) }
+    ensures on { IfOk result (λ list. AreOnKnown (R.reading reading.now) (terms_view terms.now) (inner_view node.now) shards.now
+        (R.over domain.now) R.held list.items) }
     ensures entries { IfOk result (λ list. candidates_view list.items ≡ ranks.page (sort_view terms.now.sort) terms.now.offset terms.now.limit
         (filter (λ e. nat_le terms.now.mincount e.stats.count) (chosen.chosen_entries (R.reading reading.now)
         (terms_view terms.now) (inner_view node.now) shards.now (R.over domain.now)))) }
@@ -265,7 +261,7 @@ fn printed<R: BucketReading>(
     Ok(page)
 }
 
-// Their buckets.
+// The buckets of candidates.
 fn value_parts<B: Drop>(
     alloc: Global,
     candidates: Vec<Candidate<B>>,

@@ -14,7 +14,7 @@ ghost use Rattle.fc_reply.specs.ReplyView.{body_view, bucket_view, buckets_view,
 ghost use Rattle.fc_request.specs.NodeStatistics.{statistic_of_node};
 ghost use Rattle.fc_request.specs.NodeView.{inner_view, node_view};
 ghost use Rattle.fc_reading.specs.FacetNode.{facet_view, has_buckets, kind_of, kind_view};
-ghost use Rattle.fc_reading.specs.GoodRanges.{AreCountable, IsCountable};
+ghost use Rattle.fc_reading.specs.CountableRanges.{AreCountable, IsCountable};
 ghost use Rattle.fc_reading.specs.Parts.{AreCounted, bucket_with, IsCounted, part_view, parts_view, row_with};
 ghost use Rattle.fc_reading.specs.Tree.{AreCountedIn, count_in, facet_over, HasValue, inside, node_before, put_printed, statistics_after};
 
@@ -43,7 +43,7 @@ fn number_of(stats: &Stats, number: usize) -> Option<i64>
     }
 }
 
-// The same as the body of a facet.
+// What a statistic prints of a bucket, as the body of a facet.
 fn number_body(stats: &Stats, number: usize) -> Option<ReplyBody>
     ensures { (v : statistics.StatValue) (name : Text) (more : reply.Facets)
         → slice_get (stats_view stats.now).values number ≡ Some v
@@ -63,8 +63,7 @@ fn is_statistic(node: &Node) -> bool
     matches!(&node.kind, Kind::Stat(_))
 }
 
-// Whether there is no tag.
-fn is_none(tags: &[Name]) -> bool
+fn has_no_tag(tags: &[Name]) -> bool
     ensures { result ≡ is_empty tags.now }
 {
     tags.is_empty()
@@ -98,7 +97,7 @@ fn bucket<R: BucketReading>(
     })
 }
 
-// The same of each of a list.
+// Printed buckets, each with the facets in it.
 #[cycle(replying)]
 fn buckets<R: BucketReading>(
     alloc: Global,
@@ -118,7 +117,7 @@ fn buckets<R: BucketReading>(
     Ok(list)
 }
 
-// The same where there is one.
+// A printed bucket with the facets in it, where there is one.
 #[cycle(replying)]
 fn bucket_beside<R: BucketReading>(
     alloc: Global,
@@ -209,7 +208,7 @@ fn buckets_body<R: BucketReading>(
         (inner_view node.now) (inside (R.reading reading.now) (inner_view node.now)) shards.now
         ((R.reading reading.now).domain_on number (facet_view node.now) shards.now (R.held around.now)) more) more) }
 {
-    if count == 0 && is_none(&node.domain.exclude) {
+    if count == 0 && has_no_tag(&node.domain.exclude) {
         return Ok(None);
     }
     let domain = reading.domain_on(alloc, number, node, shards, around)?;

@@ -9,7 +9,7 @@ use Rattle.fc_spec.specs.words.Lists.{is_empty}
 use Rattle.fc_spec.specs.replies.Reply.{Bucket, Row, listed}
 use Rattle.fc_spec.specs.replies.Distributed.{dist_buckets, dist_facets}
 use Rattle.fc_reading.specs.FacetNode.{facet_view as asked_facet, kind_of, kind_view}
-use Rattle.fc_reading.specs.GoodRanges.{AreCountable}
+use Rattle.fc_reading.specs.CountableRanges.{AreCountable}
 use Rattle.fc_reply.specs.declared.reply.ReplyBody.TheFolds.{fold-roll-ReplyFacet}
 use Rattle.fc_partial.specs.StatsView.{stats_view}
 use Rattle.fc_reply.proofs.ReplyViews.{view_of_made_buckets}
@@ -24,7 +24,7 @@ use Rattle.fc_reading.proofs.Rows.{put_as_defined, row_of_parts}
 use Rattle.fc_reading.proofs.Printing.{facet_prints, statistic_prints}
 use Rattle.fc_reading.proofs.Steps.{countable_first, countable_others, value_first, values_others, one_more, no_more, facet_printed, nothing_printed, bucket_made, first_fails, second_fails}
 use Rattle.fc_reading.proofs.tree.+replying.Goals as goal
-use Rattle.fc_reading.proofs.tree.+replying.Goals.{facets-in-Some+in_ok-push, facets-in_default, facets-then-is_statistic, facets-else-is_statistic, buckets_body-else-count-eq0-via-then-count-eq0+else-is_none, buckets_body-else-count-eq0-via-else-count-eq0, facet-in-Stat, facet-in_default+in_ok-body-in_default}
+use Rattle.fc_reading.proofs.tree.+replying.Goals.{facets-in-Some+in_ok-push, facets-in_default, facets-then-is_statistic, facets-else-is_statistic, buckets_body-else-count-eq0-via-then-count-eq0+else-has_no_tag, buckets_body-else-count-eq0-via-else-count-eq0, facet-in-Stat, facet-in_default+in_ok-body-in_default}
 
 pub row-returns : goal.row-returns
 row-returns g t c =
@@ -55,7 +55,7 @@ buckets_body-returns g t c = λ more.
     let H = c.args.shards.now in
     let Y = g.R.BucketReading.over c.in_ok-domain.domain in
     let shown : ((c.args.count == 0) && is_empty (asked_facet node).change.exclude) ≡ false = elim c.else-count-eq0.branch [
-      | buckets_body-else-count-eq0-via-then-count-eq0+else-is_none w ↦ second_fails (c.args.count == 0) (is_empty (asked_facet node).change.exclude) (sym (ap is_empty w.deref.ensures.value) ∙ sym w.if-is_none.ensures)
+      | buckets_body-else-count-eq0-via-then-count-eq0+else-has_no_tag w ↦ second_fails (c.args.count == 0) (is_empty (asked_facet node).change.exclude) (sym (ap is_empty w.deref.ensures.value) ∙ sym w.if-has_no_tag.ensures)
       | buckets_body-else-count-eq0-via-else-count-eq0 w ↦ first_fails (c.args.count == 0) (is_empty (asked_facet node).change.exclude) (ne_eqb c.args.count 0 w.if-count-eq0.false)
     ] in
     c.in_ok-body.ensures ((out-Node node).name) more

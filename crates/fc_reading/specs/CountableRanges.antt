@@ -10,7 +10,7 @@ abbrev pub IsCountable : Kind → Type 0
 IsCountable (range g) = HasFewGaps g
 IsCountable _ = Unit {0}
 
--- the same of each facet, at any depth
+-- of each range facet, at any depth, that its gaps can be counted
 abbrev pub AreCountable : Nodes → Type 0
 AreCountable no_nodes = Unit {0}
 AreCountable (statistic name s rest) = AreCountable rest
