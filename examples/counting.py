@@ -1,0 +1,287 @@
+"""Counts the replies of a script by other means than the program's: by lists of places, filtered and sorted, as the
+guide tells it. It reads no query text: whoever uses it hands in a table that gives each query text of the script a
+condition in Python. Requests with a fault are not read: their error lines are handed in by the number of the search.
+"""
+import json
+import re
+import sys
+
+
+def any_value(condition):
+    """Whether one value of a field meets a condition, as a condition of documents."""
+    return lambda field: lambda document: any(condition(value) for value in document[field])
+
+
+def utf8(text):
+    return text.encode("utf-8")
+
+
+def index_order(value):
+    return value if isinstance(value, int) else utf8(value)
+
+
+def read_document(types, members):
+    """A table from each field to the set of its values: texts, or whole numbers."""
+    document = {}
+    for field, kind in types.items():
+        items = members.get(field)
+        items = items if isinstance(items, list) else [items]
+        read = int if kind.startswith("plong") else str
+        document[field] = {read(item) for item in items if item is not None}
+    return document
+
+
+class Place:
+    def __init__(self, shard, block, is_parent, document):
+        self.shard, self.block, self.is_parent, self.document = shard, block, is_parent, document
+
+
+class Search:
+    """What one search asks, over the places of its generations."""
+
+    def __init__(self, request, places, conditions, types):
+        self.request, self.places, self.conditions, self.types = request, places, conditions, types
+
+    def matches(self, text, place):
+        if text not in self.conditions:
+            sys.exit(f"no condition was written for {text!r}")
+        return bool(self.conditions[text](place.document))
+
+    def filters(self):
+        """Each filter as its tags and its query text."""
+        listed = self.request.get("filter", [])
+        for one in listed if isinstance(listed, list) else [listed]:
+            if isinstance(one, dict):
+                (key, text), = one.items()
+                yield key[1:].split(","), text
+            elif one.startswith("{!tag="):
+                tags, text = one[len("{!tag="):].split("}", 1)
+                yield tags.split(","), text
+            else:
+                yield [], one
+
+    def base(self, excluded):
+        """The places that match the query and each filter that has none of the tags."""
+        texts = [self.request.get("query", "*:*")]
+        texts += [text for tags, text in self.filters() if not set(tags) & set(excluded)]
+        return [p for p in self.places if all(self.matches(text, p) for text in texts)]
+
+    def domain(self, facet, places, shards):
+        change = facet.get("domain", {})
+        if excluded(facet):
+            places = self.base(excluded(facet))
+        kept = {(p.shard, p.block) for p in places}
+        if "blockChildren" in change:
+            parents = {(p.shard, p.block) for p in places if p.is_parent and self.matches(change["blockChildren"], p)}
+            places = [p for p in self.places if not p.is_parent and (p.shard, p.block) in parents]
+        if "blockParent" in change:
+            places = [p for p in self.places
+                      if p.is_parent and (p.shard, p.block) in kept and self.matches(change["blockParent"], p)]
+        texts = change.get("filter", [])
+        for text in texts if isinstance(texts, list) else [texts]:
+            places = [p for p in places if self.matches(text, p)]
+        return [p for p in places if p.shard in shards]
+
+    def bucket(self, facets, places, shards, **first):
+        result = {**first, "count": len(places)}
+        for name, command in facets.items():
+            text = statistic_text(command)
+            if text is not None:
+                value = statistic(text, places)
+                if places and value is not None:
+                    result[name] = value
+            elif places or excluded(command):
+                result[name] = self.facet(command, self.domain(command, places, shards), shards)
+        return result
+
+    def facet(self, facet, places, shards):
+        nested = facet.get("facet", {})
+        if facet["type"] == "terms":
+            return self.terms(facet, nested, places, shards)
+        if facet["type"] == "range":
+            return self.range(facet, nested, places, shards)
+        return self.bucket(nested, [p for p in places if self.matches(facet["q"], p)], shards)
+
+    def terms(self, facet, nested, places, shards):
+        field, prefix = facet["field"], facet.get("prefix", "")
+        limit, offset = facet.get("limit", 10), facet.get("offset", 0)
+        tenth = limit // 10 + 4
+
+        def more(name):
+            return tenth if facet.get(name, -1) == -1 else facet[name]
+
+        def has(place, value):
+            return value in place.document[field]
+
+        def values(of):
+            found = set().union(*(p.document[field] for p in of))
+            return {v for v in found if not prefix or v.startswith(prefix)}
+
+        def ranked(of):
+            """Values in the order of their ranks, each over the places that `of` gives it."""
+            return rank(facet.get("sort", "count desc"), nested, of)
+
+        offers = {}
+        for shard in shards:
+            own = [p for p in places if p.shard == shard]
+            order = ranked({v: [p for p in own if has(p, v)] for v in values(own)})
+            offers[shard] = order if limit == -1 else order[:offset + limit + more("overrequest")]
+        candidates = set().union(*offers.values())
+        offering = {v: {shard for shard in shards if v in offers[shard]} for v in candidates}
+        chosen = candidates
+        if facet.get("refine") and limit != -1:
+            parts = {v: [p for p in places if has(p, v) and p.shard in offering[v]] for v in candidates}
+            chosen = ranked(parts)[:offset + limit + more("overrefine")]
+        known = {v: set(shards) if facet.get("refine") else offering[v] for v in chosen}
+        counted = {v: [p for p in places if has(p, v) and p.shard in known[v]] for v in chosen}
+        enough = {v: of for v, of in counted.items() if len(of) >= facet.get("mincount", 1)}
+        page = ranked(enough)[offset:None if limit == -1 else offset + limit]
+        result = {"buckets": [self.bucket(nested, counted[v], known[v], val=v) for v in page]}
+        if facet.get("missing"):
+            result["missing"] = self.bucket(nested, [p for p in places if not p.document[field]], shards)
+        return result
+
+    def range(self, facet, nested, places, shards):
+        start, end, gap = facet["start"], facet["end"], facet["gap"]
+        words = as_list(facet.get("include", "lower")) or ["lower"]
+        words = {"lower", "upper", "edge", "outer"} if "all" in words else set(words)
+        gaps = -((start - end) // gap)
+        highs = [start + (i + 1) * gap for i in range(gaps)]
+        if facet.get("hardend") and highs:
+            highs[-1] = end
+        last = highs[-1] if highs else end
+
+        def held(condition):
+            of = [p for p in places if any(condition(x) for x in p.document[facet["field"]])]
+            return lambda **first: self.bucket(nested, of, shards, **first)
+
+        def between(low, high, with_low, with_high):
+            return held(lambda x: low < x < high or x == low and with_low or x == high and with_high)
+
+        buckets = []
+        for i, high in enumerate(highs):
+            with_low = "lower" in words or ("edge" in words and i == 0)
+            with_high = "upper" in words or ("edge" in words and i == gaps - 1)
+            buckets.append(between(start + i * gap, high, with_low, with_high)(val=start + i * gap))
+        lower, upper = bool(words & {"lower", "edge"}), bool(words & {"upper", "edge"})
+        others = {
+            "before": held(lambda x: x < start or x == start and ("outer" in words or not lower)),
+            "after": held(lambda x: x > last or x == last and ("outer" in words or not upper)),
+            "between": between(start, last, lower, upper),
+        }
+        asked = as_list(facet.get("other", "none"))
+        asked = [] if "none" in asked else list(others) if "all" in asked else asked
+        return {"buckets": buckets, **{name: others[name]() for name in asked}}
+
+
+def as_list(value):
+    return value if isinstance(value, list) else [value]
+
+
+def excluded(facet):
+    tags = facet.get("domain", {}).get("excludeTags", [])
+    return [tag for tag in (tags.split(",") if isinstance(tags, str) else tags) if tag]
+
+
+def statistic_text(command):
+    if isinstance(command, str):
+        return command
+    return command["func"] if command["type"] == "func" else None
+
+
+def statistic(text, places):
+    name, field = re.fullmatch(r" *([a-z]+) *\( *(\w+) *\) *", text).groups()
+    pairs = [value for p in places for value in p.document[field]]
+    if name == "sum":
+        return sum(pairs)
+    if name == "countvals":
+        return len(pairs)
+    if name == "missing":
+        return sum(not p.document[field] for p in places)
+    return {"min": min, "max": max}[name](pairs) if pairs else None
+
+
+def rank(sort, nested, of):
+    if isinstance(sort, dict):
+        (name, direction), = sort.items()
+    else:
+        name, _, direction = sort.strip().rpartition(" ")
+        if direction not in ("asc", "desc") or not name:
+            name = sort.strip()
+            direction = "asc" if name == "index" else "desc"
+
+    def key(value):
+        if name == "count":
+            return len(of[value])
+        if name == "index":
+            return index_order(value)
+        return statistic(statistic_text(nested[name]), of[value])
+
+    order = sorted(of, key=index_order)
+    present = [v for v in order if key(v) is not None]
+    present.sort(key=key, reverse=direction == "desc")
+    return present + [v for v in order if key(v) is None]
+
+
+def commits_by_phase(lines, shards):
+    """For each phase the commits of each shard up to its end."""
+    counts, phases = [0] * shards, []
+    for line in lines[1:]:
+        if "commit" in line:
+            for shard in [line["commit"]["shard"]] if "shard" in line["commit"] else range(shards):
+                counts[shard] += 1
+        elif "sync" in line:
+            phases.append(list(counts))
+    return phases + [counts]
+
+
+def generations(lines, types, shards):
+    """For each shard the list of its batches, each a list of blocks of places."""
+    waiting, batches, blocks = [[] for _ in range(shards)], [[] for _ in range(shards)], [0] * shards
+    for line in lines[1:]:
+        if "add" in line:
+            shard, members = line["add"].get("shard", 0), line["add"]["doc"]
+            documents = [*(members.get("_childDocuments_") or []), members]
+            for i, one in enumerate(documents):
+                document = read_document(types, one)
+                waiting[shard].append(Place(shard, blocks[shard], i == len(documents) - 1, document))
+            blocks[shard] += 1
+        elif "commit" in line:
+            for shard in [line["commit"]["shard"]] if "shard" in line["commit"] else range(shards):
+                batches[shard].append(waiting[shard])
+                waiting[shard] = []
+    return batches
+
+
+def replies(lines, conditions, errors=None):
+    """The lines that a script of these lines gives. Each search counts all commits up to the end of its phase."""
+    shards = lines[0]["schema"]["shards"]
+    types = {"id": "string", **lines[0]["schema"]["fields"]}
+    batches, ends, phase, number = generations(lines, types, shards), commits_by_phase(lines, shards), 0, 0
+    for line in lines[1:]:
+        phase += "sync" in line
+        if "search" in line:
+            request, numbers = line["search"]["request"], ends[phase]
+            number += 1
+            if errors and number in errors:
+                shown = {**errors[number], "session": line["search"].get("session", "main")}
+            else:
+                places = [p for s in range(shards) for batch in batches[s][:numbers[s]] for p in batch]
+                search = Search(request, places, conditions, types)
+                facets = search.bucket(request.get("facet", {}), search.base([]), set(range(shards)))
+                shown = {"facets": facets, "generations": numbers, "session": line["search"].get("session", "main")}
+            yield ordered(shown)
+
+
+def ordered(value):
+    return json.dumps(value, ensure_ascii=False, separators=(",", ":"), sort_keys=True)
+
+
+def read_script(path):
+    with open(path, encoding="utf-8") as script:
+        return [json.loads(line) for line in script if line.strip()]
+
+
+def write(lines):
+    for line in lines:
+        sys.stdout.buffer.write(line.encode("utf-8") + b"\n")
