@@ -37,6 +37,7 @@ CONDITIONS = {
     "price:[5 TO 12]": within("price", 5, 12),
     "price:{5 TO *]": within("price", 6, 10**20),
     "price:[10 TO *]": within("price", 10, 10**20),
+    "price:[* TO 50]": within("price", -10**20, 50),
     "price:[12 TO 5]": lambda d: False,
     "-price:5": none(five),
     "-price:*": lambda d: not d["price"],
