@@ -1,5 +1,5 @@
 #!/usr/bin/env python3
-"""Measures the program on generated documents of one shard, and prints the figures beside the targets."""
+"""Measures the program on generated documents, and prints the figures beside the targets."""
 import argparse
 import collections
 import json
@@ -9,7 +9,29 @@ import sys
 import tempfile
 
 TOP = os.path.dirname(os.path.dirname(os.path.abspath(__file__)))
-SCHEMA = {"schema": {"shards": 1, "fields": {"brand": "string", "price": "plong", "tags": "strings"}}}
+sys.path.insert(0, os.path.join(TOP, "examples"))
+import counting  # noqa: E402
+
+FIELDS = {"brand": "string", "price": "plong", "tags": "strings"}
+CONDITIONS = {
+    "*:*": lambda d: True,
+    "tags:t1": lambda d: "t1" in d["tags"],
+    "price:[500 TO *]": lambda d: any(price >= 500 for price in d["price"]),
+}
+ALL = {"limit": -1, "sort": "index"}
+# What is searched: by a name, the request.
+REQUESTS = {
+    "count": {"query": "price:[500 TO *]"},
+    "brands": {"facet": {"brand": {"type": "terms", "field": "brand", **ALL}}},
+    "tags": {"facet": {"tags": {"type": "terms", "field": "tags", **ALL}}},
+    "three brands": {"facet": {"brand": {"type": "terms", "field": "brand", "limit": 3, "refine": True,
+                                         "sort": "total desc", "facet": {"total": "sum(price)"}}}},
+    "prices": {"facet": {"price": {"type": "range", "field": "price", "start": 0, "end": 1000, "gap": 100,
+                                   "facet": {"brand": {"type": "terms", "field": "brand", "limit": 2, "refine": True}}}}},
+    "a page": {"filter": ["{!tag=T}tags:t1", "price:[500 TO *]"],
+               "facet": {"tags": {"type": "terms", "field": "tags", "domain": {"excludeTags": "T"}},
+                         "brand": {"type": "terms", "field": "brand", "missing": True}, "total": "sum(price)"}},
+}
 Cost = collections.namedtuple("Cost", "seconds peak")
 
 
@@ -17,34 +39,19 @@ def document(i):
     return {"id": f"d{i}", "brand": f"b{7 * i % 13}", "price": 31 * i % 1000, "tags": [f"t{i % 5}", f"t{i % 3}"]}
 
 
-def write_line(file, value):
-    file.write(json.dumps(value, separators=(",", ":")).encode("utf-8") + b"\n")
-
-
-def write_script(path, count, every, field, searches):
-    """Documents with a commit at the end, and behind each `every` of them where that is a number; and searches. Returns
-    how many bytes the script has."""
-    facet = {"type": "terms", "field": field, "limit": -1, "sort": "index"}
-    with open(path, "wb") as file:
-        write_line(file, SCHEMA)
-        for i in range(count):
-            write_line(file, {"add": {"shard": 0, "doc": document(i)}})
-            if every and (i + 1) % every == 0:
-                write_line(file, {"commit": {}})
-        write_line(file, {"commit": {}})
-        write_line(file, {"sync": {}})
-        for _ in range(searches):
-            write_line(file, {"search": {"session": "demo", "request": {"facet": {field: facet}}}})
-    return os.path.getsize(path)
-
-
-def expected_facets(count, field):
-    """What each reply is to say, counted from the documents."""
-    counts = collections.Counter()
+def script_lines(count, shards, every):
+    """Documents dealt out to the shards, with a commit at the end, and behind each `every` of them where that is a number."""
+    yield {"schema": {"shards": shards, "fields": FIELDS}}
     for i in range(count):
-        values = document(i)[field]
-        counts.update(set(values) if isinstance(values, list) else [values])
-    return {"count": count, field: {"buckets": [{"count": counts[value], "val": value} for value in sorted(counts)]}}
+        yield {"add": {"shard": i % shards, "doc": document(i)}}
+        if every and (i + 1) % every == 0:
+            yield {"commit": {}}
+    yield {"commit": {}}
+    yield {"sync": {}}
+
+
+def search(request):
+    return {"search": {"session": "demo", "request": request}}
 
 
 def run_once(program, path):
@@ -60,60 +67,71 @@ def run_once(program, path):
 
 
 class Case:
-    """A script, and the least that runs of it took."""
+    """A script with so many searches of one request, and the least that runs of it took."""
 
-    def __init__(self, folder, count, every, field="brand", searches=0):
-        self.path = os.path.join(folder, f"{count}-{every}-{field}-{searches}")
-        self.size = write_script(self.path, count, every, field, searches)
-        self.facets, self.searches = expected_facets(count, field), searches
-        self.least = None
+    def __init__(self, folder, opening, request, searches, reply):
+        self.path = os.path.join(folder, f"{len(os.listdir(folder))}")
+        with open(self.path, "wb") as file:
+            file.write(opening)
+            for _ in range(searches):
+                file.write(json.dumps(search(request)).encode("utf-8") + b"\n")
+        self.size, self.output, self.least = os.path.getsize(self.path), reply * searches, None
 
     def run(self, program):
         cost, output = run_once(program, self.path)
-        replies = [json.loads(line)["facets"] for line in output.splitlines()]
-        if replies != [self.facets] * self.searches:
+        if output != self.output:
             sys.exit("a reply is wrong")
         self.least = Cost(*map(min, zip(cost, self.least or cost)))
 
 
-def measure(program, folder, count, every, runs, searches):
-    fewer = max(count // 8, 1)
-    whole, part = Case(folder, count, every), Case(folder, fewer, every)
-    one = {field: Case(folder, count, every, field, 1) for field in ("brand", "tags")}
-    many = {field: Case(folder, count, every, field, 1 + searches) for field in ("brand", "tags")}
-    for _ in range(runs):
+def opening(count, shards, every):
+    return "".join(json.dumps(line, separators=(",", ":")) + "\n" for line in script_lines(count, shards, every)).encode("utf-8")
+
+
+def replies(count, shards, every):
+    """What each search is to say, counted by plain lists."""
+    lines = [*script_lines(count, shards, every), *map(search, REQUESTS.values())]
+    return dict(zip(REQUESTS, ((line + "\n").encode("utf-8") for line in counting.replies(lines, CONDITIONS))))
+
+
+def measure(options, folder, shards, every):
+    count, fewer = options.documents, max(options.documents // 8, 1)
+    said, whole_opening = replies(count, shards, every), opening(count, shards, every)
+    whole = Case(folder, whole_opening, {}, 0, b"")
+    part = Case(folder, opening(fewer, shards, every), {}, 0, b"")
+    one, many = ({name: Case(folder, whole_opening, request, searches, said[name]) for name, request in REQUESTS.items()}
+                 for searches in (1, 1 + options.searches))
+    for _ in range(options.runs):
         for case in (whole, part, *one.values(), *many.values()):
-            case.run(program)
-    return fewer, whole, part, one, many
+            case.run(options.program)
+    report(options, fewer, shards, every, whole, part, one, many)
 
 
-def report(count, every, fewer, whole, part, one, many, searches):
-    seconds, peak = whole.least
+def report(options, fewer, shards, every, whole, part, one, many):
+    count, (seconds, peak) = options.documents, whole.least
     ratio = (seconds / count) / (part.least.seconds / fewer)
     commits = f"a commit every {every:,}" if every else "one commit for all"
-    print(f"{count:,} documents, {whole.size:,} bytes, {commits}:")
+    print(f"{count:,} documents, {whole.size:,} bytes, {shards} shard{'s' * (shards > 1)}, {commits}:")
     print(f"  reading        {seconds:.2f} s")
     print(f"                 {count / seconds:,.0f} documents a second, {whole.size / seconds:,.0f} bytes a second")
     print(f"  ratio          {ratio:.2f} times the time per document at {fewer:,} (target: at most 1.3)")
     print(f"  peak memory    {peak:,} bytes, {peak / whole.size:.1f} for each byte (target: at most 10)")
-    for field in one:
-        each = (many[field].least.seconds - one[field].least.seconds) / searches
-        print(f"  one search     {1000 * each:.2f} ms over {field}, {each / seconds:.4f} of the reading", end="")
-        print(" (target: at most 0.1)")
+    for name in one:
+        each = (many[name].least.seconds - one[name].least.seconds) / options.searches
+        print(f"  one search     {1000 * each:.2f} ms, {each / seconds:.4f} of the reading: {name}")
+    sys.stdout.flush()
 
 
 def main():
     options = argparse.ArgumentParser(description=__doc__)
     options.add_argument("--program", default=os.path.join(TOP, "crates", "fc_main", "out", "fc_main"))
     options.add_argument("--documents", type=int, default=200_000)
-    options.add_argument("--runs", type=int, default=5, help="each figure is the least of so many runs")
-    options.add_argument("--searches", type=int, default=500, help="a search is timed over so many")
+    options.add_argument("--runs", type=int, default=3, help="each figure is the least of so many runs")
+    options.add_argument("--searches", type=int, default=10, help="a search is timed over so many")
     options = options.parse_args()
-    count = options.documents
-    with tempfile.TemporaryDirectory() as folder:
-        for every in (1000, None):
-            cases = measure(options.program, folder, count, every, options.runs, options.searches)
-            report(count, every, *cases, options.searches)
+    for shards, every in ((1, 1000), (1, None), (4, 1000)):
+        with tempfile.TemporaryDirectory() as folder:
+            measure(options, folder, shards, every)
     print(f"least of {options.runs} runs; load of the machine {os.getloadavg()[0]:.1f} on {os.cpu_count()} processors")
 
 
