@@ -1,4 +1,3 @@
-// What no clause says: whole runs, scripts and replies beside their answers, with memory enough.
-mod replies;
+// What no clause says: whole runs and scripts beside their answers, with memory enough.
 mod runs;
 mod scripts;

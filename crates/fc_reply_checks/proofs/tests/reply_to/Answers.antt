@@ -1,4 +1,4 @@
-use Rattle.fc_checks.proofs.tests.replies.reply_to.Goals as goal
+use Rattle.fc_reply_checks.proofs.tests.reply_to.Goals as goal
 
 pub reply-requires-clause-ranges : goal.reply-requires-clause-ranges
 reply-requires-clause-ranges c = c.in_ok-request.ensures

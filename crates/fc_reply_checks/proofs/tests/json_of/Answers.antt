@@ -1,6 +1,6 @@
 use Rattle.serde_json.specs.View.{view}
-use Rattle.fc_checks.proofs.TextJson.{json_of_read}
-use Rattle.fc_checks.proofs.tests.replies.json_of.Goals as goal
+use Rattle.fc_reply_checks.proofs.TextJson.{json_of_read}
+use Rattle.fc_reply_checks.proofs.tests.json_of.Goals as goal
 
 pub returns : goal.returns
 returns c =

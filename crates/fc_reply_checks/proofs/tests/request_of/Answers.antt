@@ -1,5 +1,5 @@
 use Rattle.fc_request.specs.RequestView.{request_view}
-use Rattle.fc_checks.proofs.tests.replies.request_of.Goals as goal
+use Rattle.fc_reply_checks.proofs.tests.request_of.Goals as goal
 
 pub returns : goal.returns
 returns c =
