@@ -104,8 +104,8 @@ impl Range {
         u128::from(self.gap_count()) * u128::from(self.gap.unsigned_abs())
     }
 
-    // The last high end.
-    fn last_end(&self) -> i128
+    /// The high end of the last gap; that of the range where there is no gap.
+    pub fn last_end(&self) -> i128
         requires { pos 0 <ℤ self.now.gap }
         ensures { result ≡ last_end (range_view self.now) }
     {

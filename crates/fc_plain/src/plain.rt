@@ -59,9 +59,9 @@ fn search_reply(alloc: Global, search: Search) -> Result<Reply, WantMemory>
 }
 
 /// The distributed reply to a request over a world: for each shard its batches, whose blocks one after
-/// another are the shard's. Where exclusions stand on
-/// outermost facets alone, as in each request that was read, the buckets on refined paths are exact over all
-/// shards, and without limits the reply is that of a single index with all the blocks.
+/// another are the shard's. Where exclusions stand on outermost facets alone, as in each request that was
+/// read, the buckets on refined paths are exact over all shards, and without limits the reply is that of a
+/// single index with all the blocks.
 pub fn reply(alloc: Global, request: &Request, world: &[&[Batch]]) -> Result<Reply, WantMemory>
     requires ranges { AreCountable (request_view request.now).nodes }
     requires limits { IsWithinLimits (world_view world.now) }

@@ -48,15 +48,3 @@ pub(super) fn high_end_of(range: &Range, number: u32) -> i128
     }
     low_end(range, u64::from(number) + 1)
 }
-
-// The last high end.
-pub(super) fn last_end(range: &Range) -> i128
-    requires { HasFewGaps (range_view range.now) }
-    ensures { result ≡ definition.last_end (range_view range.now) }
-{
-    let count = range.gaps();
-    if count == 0 {
-        return i128::from(range.end);
-    }
-    high_end_of(range, count - 1)
-}

@@ -9,7 +9,7 @@ ghost use Rattle.fc_facet.specs.KindView.{range_view};
 ghost use Rattle.fc_facet.specs.RangeGaps.{HasFewGaps};
 ghost use Rattle.fc_partial.specs.View.{key_view};
 
-use super::ends::{high_end_of, is_last_gap, last_end, low_end_of};
+use super::ends::{high_end_of, is_last_gap, low_end_of};
 use fc_base::Val;
 use fc_facet::Range;
 use fc_partial::Key;
@@ -92,7 +92,7 @@ fn is_after(range: &Range, x: i128) -> bool
     requires { HasFewGaps (range_view range.now) }
     ensures { result ≡ definition.in_after (range_view range.now) x }
 {
-    let last = last_end(range);
+    let last = range.last_end();
     is_below(last, x) || (is_same(x, last) && (range.outer || !holds_end(range)))
 }
 
@@ -101,7 +101,7 @@ fn is_between(range: &Range, x: i128) -> bool
     ensures { result ≡ definition.in_between (range_view range.now) x }
 {
     let start = i128::from(range.start);
-    let last = last_end(range);
+    let last = range.last_end();
     lies_in(start, holds_start(range), last, holds_end(range), x)
 }
 

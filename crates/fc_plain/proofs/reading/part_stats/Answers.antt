@@ -9,8 +9,8 @@ use Rattle.fc_places.proofs.OnShards.{all_kept}
 use Rattle.fc_plain.proofs.Numbered.{part_stats_same}
 use Rattle.fc_plain.proofs.reading.part_stats.Goals as goal
 
-pub stats_over-requires : goal.stats_over-requires
-stats_over-requires c =
+pub stats_over-requires-2 : goal.stats_over-requires-2
+stats_over-requires-2 c =
     let shards = c.args.shards.now in
     let places = places_view c.args.places.now in
     let part : places_view c.deref.result.now ≡ on_shards shards places = ap places_view c.deref.ensures.value ∙ c.in_ok-part.ensures in
