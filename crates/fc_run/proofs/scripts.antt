@@ -1,7 +1,6 @@
-pub mod BatchesSoFar
-pub mod LegalNumbers
-pub mod NumberedLines
-pub mod ScriptOrder
-pub mod RunningText
+pub mod PartsText
+pub mod ScriptText
+pub mod Answerable
 pub mod Printed
 pub mod Leaving
+pub mod WorldSteps

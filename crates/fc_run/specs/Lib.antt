@@ -1,8 +1,4 @@
-pub mod PlainReply
-pub mod FacetView
-pub mod Fitting
-pub mod Term
-pub mod Tally
-pub mod Found
 pub mod Outcome
-pub mod Running
+pub mod Replies
+pub mod RunLaws
+pub mod Searches

@@ -1,11 +1,10 @@
 // From the bytes of a script to the bytes of its answer.
-ghost use Rattle.std.specs.Prelude.{◌≡◌, ◌↔◌, ◌≤◌, false, IfSome};
-ghost use Rattle.std.specs.Io.KnownBytes.{Appends, IsAtEnd};
-ghost use Rattle.fc_spec.specs.documents.Val.{Text};
+ghost use Rattle.std.specs.Prelude.{◌≡◌, ◌↔◌, ◌≤◌, false};
+ghost use Rattle.std.specs.Io.KnownBytes.{IsAtEnd};
+ghost use Rattle.fc_spec.specs.scripts.AskedScripts.{asked_script};
 ghost use Rattle.fc_spec.specs.scripts.Outputs.{IsOutputBy};
 ghost use Rattle.fc_io.specs.Faults.{Rose};
-ghost use Rattle.fc_script.specs.Built.{outcome};
-ghost use Rattle.fc_run.specs.Outcome.{by_single_index, takes, Ends, IfDone, IsCountedOutput, Leaves, OnDone, OnRead, OnUsage, OnWrite};
+ghost use Rattle.fc_run.specs.Outcome.{single_without_limits, takes, Ends, IfDone, IsOneOutput, IsRefinedOutput, Leaves, OnDone, OnRead, OnUsage, OnWrite, WroteFor};
 ghost use Rattle.fc_run.specs.declared.status.Status.TheVariants.{Usage};
 
 use crate::run_text::{RunText, run_text_of, too_long};
@@ -33,14 +32,11 @@ fn give<K: Sink>(sink: &mut K, answer: &Result<RunText, WantMemory>) -> Status
 }
 
 /// Reads a script from `source` and writes its answer to `sink`: one line for each search, in script order, its reply
-/// or the error of its request; or the one line of the script's fault. `words` are those of the command; the first
-/// is the program's name.
+/// or the error of its request; or the one line of the script's first fault, and then nothing else. `words` are those of
+/// the command; the first is the program's name. Exactly the lists of one word are taken.
 ///
-/// Today exactly the lists of one word are taken. A script is taken where it has no fault, its schema has one shard,
-/// and the request of each search has a fault, which its error line tells, or is answered: it has no facets, or one
-/// alone, of every value of a field in index order, in its own domain and with nothing nested in it. Other bytes are
-/// refused at their first line that is at fault or not built, as not JSON or not built; or with line 0, as too long
-/// or, where no line says anything, not built. Then nothing else is written.
+/// Every script is taken. Today each search uses the commits of each shard up to the end of its phase; the clauses
+/// promise legal generations, and which of them a search uses only where `one_output` leaves no choice.
 ///
 /// The clauses on bytes hold where the source tells the bytes that it has left, and the sink those that were
 /// written.
@@ -61,17 +57,14 @@ pub fn run<S: Source, K: Sink>(
     ensures source_never_falls { S.faults source.old ≤ S.faults source.new }
     ensures sink_never_falls { K.faults sink.old ≤ K.faults sink.new }
 
-    ensures leaves { IfSome (S.left source.old) (λ bytes. (t : Text)
-        × Appends (K.written sink.old) (K.written sink.new) t
-        × Leaves result (outcome bytes) t) }
-
-    ensures single_index { IfSome (S.left source.old) (λ bytes. (t : Text)
-        × Appends (K.written sink.old) (K.written sink.new) t
-        × OnDone result (outcome bytes) (λ S. IsOutputBy by_single_index S t)) }
-
-    ensures counts { IfSome (S.left source.old) (λ bytes. (t : Text)
-        × Appends (K.written sink.old) (K.written sink.new) t
-        × OnDone result (outcome bytes) (λ S. IsCountedOutput S t)) }
+    ensures leaves { WroteFor (S.left source.old) (K.written sink.old) (K.written sink.new)
+        (λ bytes. Leaves result (asked_script bytes)) }
+    ensures single_index { WroteFor (S.left source.old) (K.written sink.old) (K.written sink.new)
+        (λ bytes. OnDone result (asked_script bytes) (IsOutputBy single_without_limits)) }
+    ensures refined { WroteFor (S.left source.old) (K.written sink.old) (K.written sink.new)
+        (λ bytes. OnDone result (asked_script bytes) IsRefinedOutput) }
+    ensures one_output { WroteFor (S.left source.old) (K.written sink.old) (K.written sink.new)
+        (λ bytes. OnDone result (asked_script bytes) IsOneOutput) }
 {
     if words.len() != 1 {
         return Status::Usage;

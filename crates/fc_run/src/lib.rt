@@ -2,10 +2,9 @@
 #![tactic(auto)]
 
 mod call;
+mod laws;
+mod replies;
 mod run_text;
-mod running;
-mod search;
-mod shard;
 mod status;
 
 pub use call::run;

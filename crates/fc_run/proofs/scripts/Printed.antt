@@ -1,48 +1,48 @@
--- What the lines of a script that was read write is all that is promised.
-use Rattle.std.proofs.Common.{◌≡◌, ℕ, ◌≤◌, All, Result, Ok, Err, IfOk, Vec, Global, subst, sym, refl}
-use Rattle.std.specs.Prelude.{nat_le, length, not, Bool, true, false}
-use Rattle.std.specs.List.{filter_map}
-use Rattle.std.proofs.lemmas.Bool.{and_parts, leb-true}
+-- What the searches of a script that was read write is all that is promised.
+use Rattle.std.proofs.Common.{◌≡◌, ℕ, Result, Ok, Err, Vec, Global, refl, subst, sym, ◌∙◌, ap}
 use Rattle.fc_spec.specs.replies.Distributed.{distributed}
-use Rattle.fc_spec.specs.scripts.Outputs.{IsOutputBy}
-use Rattle.fc_spec.specs.laws.RefinedPaths.{AreRefinedPathsExact}
-use Rattle.fc_spec.specs.laws.WithoutLimits.{IsSingleWithoutLimits}
-use Rattle.fc_spec.specs.scripts.ScriptFault.{duplicate_id, field_total, too_many_documents}
-use Rattle.fc_spec.specs.scripts.ScriptTotals.{script_limits, added, documents_added, ids_in, has_repeat, sums_fit, are_few}
-use Rattle.fc_spec.specs.documents.Totals.{document_total, value_count}
-use Rattle.fc_spec.specs.scripts.ValidScripts.{IsWithin}
-use Rattle.fc_spec.specs.words.Walks.{◌>>=◌, unless}
-use Rattle.fc_base.specs.declared.error.WantMemory.{WantMemory}
-use Rattle.fc_script.specs.AskedRequests.{IsAskedOf}
-use Rattle.fc_script.specs.Counts.{IsLineOf}
-use Rattle.fc_run.specs.Outcome.{by_single_index, ArePrinted}
-use Rattle.fc_run.specs.Running.{nothing, lines_text}
-use Rattle.fc_script.specs.ScriptView.{script_view}
-use Rattle.fc_script.specs.declared.read.Script.{Script}
-use Rattle.fc_run.proofs.scripts.ScriptOrder.{all_lines}
-use Rattle.fc_run.proofs.scripts.RunningText.{same_lines}
+use Rattle.fc_spec.specs.scripts.AskedScripts.{AskedScript}
+use Rattle.fc_spec.specs.scripts.Lines.{fault_line}
+use Rattle.fc_spec.specs.scripts.Outputs.{IsOutput, IsOutputBy}
+use Rattle.fc_spec.specs.scripts.PhaseEnds.{text_at_ends}
+use Rattle.fc_spec.specs.scripts.ScriptFault.{ScriptFault}
+use Rattle.fc_spec.specs.scripts.ScriptParts.{parts_of}
+use Rattle.fc_spec.specs.words.Walks.{◌>>=◌}
+use Rattle.fc_script.specs.PartsView.{parts_view}
+use Rattle.fc_script.specs.SoundScripts.{IsSound}
+use Rattle.fc_script.specs.declared.script.Script.{Script}
+use Rattle.fc_run.specs.Outcome.{single_without_limits, ArePrinted, IsRunText}
+use Rattle.fc_run.specs.Replies.{parts_text}
+use Rattle.fc_run.specs.RunLaws.{AreRunLaws}
+use Rattle.fc_run.specs.declared.run_text.RunText.TheVariants.{Lines, Fault}
+use Rattle.fc_run.proofs.scripts.PartsText.{text_of_parts}
+use Rattle.fc_run.proofs.scripts.ScriptText.{same_text, text_is}
 
-printed : IsSingleWithoutLimits → AreRefinedPathsExact → (S : Script) → S.schema.shards ≡ 1 → All (IsLineOf S.schema) (script_view S).lines → All (IsAskedOf S.schema) (script_view S).lines → ArePrinted (script_view S) (lines_text distributed nothing (script_view S).lines)
-printed single exact S one valid asked = record {
-  output = all_lines distributed (script_view S) one valid;
-  single_index = subst (IsOutputBy by_single_index (script_view S)) (sym (same_lines single S.schema (script_view S).lines nothing asked)) (all_lines by_single_index (script_view S) one valid);
-  counts = (distributed, λ r W outermost. (exact r W outermost).1, all_lines distributed (script_view S) one valid);
+printed : AreRunLaws → (S : AskedScript) (s : Script) → parts_of S ≡ parts_view s → IsSound s → ArePrinted S (parts_text distributed (parts_view s))
+printed laws S s is sound = record {
+  output = output;
+  single_index = subst (IsOutputBy single_without_limits S) (sym single_text) (laws.ends single_without_limits S);
+  refined = (distributed, λ r W outermost. record { defined = refl; refined = (laws.refined r W outermost).1; single_index = λ unlimited. laws.single r W unlimited outermost }, output);
+  one_output = λ apart u is. laws.only distributed S u (parts_text distributed (parts_view s)) apart is output;
 }
+  where
+    plain_text : parts_text distributed (parts_view s) ≡ text_at_ends distributed S
+    plain_text = ap (λ parts. parts_text distributed parts) (sym is) ∙ text_of_parts laws.by_phase distributed S
 
-pub all_printed : IsSingleWithoutLimits → AreRefinedPathsExact → (S : Script) (answer : Result (Vec ℕ Global) WantMemory) → S.schema.shards ≡ 1 → All (IsLineOf S.schema) (script_view S).lines → All (IsAskedOf S.schema) (script_view S).lines
-    → IfOk answer (λ text. text.items ≡ lines_text distributed nothing (script_view S).lines) → IfOk answer (λ text. ArePrinted (script_view S) text.items)
-all_printed single exact S (Ok text) one valid asked is = subst (ArePrinted (script_view S)) (sym is) (printed single exact S one valid asked)
-all_printed single exact S (Err e) one valid asked is = tt
+    single_text : parts_text distributed (parts_view s) ≡ text_at_ends single_without_limits S
+    single_text =
+        sym (text_is distributed s) ∙ same_text laws.single laws.outermost s sound ∙ text_is single_without_limits s
+        ∙ ap (λ parts. parts_text single_without_limits parts) (sym is) ∙ text_of_parts laws.by_phase single_without_limits S
 
-last_passes : {E : Type 0} (a b c : Bool) (e f g : E) → (unless a e >>= λ u. (unless b f >>= λ v. unless c g)) ≡ Ok tt → c ≡ true
-last_passes true true true e f g passed = refl
-last_passes true true false e f g passed = cc
-last_passes true false c e f g passed = cc
-last_passes false b c e f g passed = cc
+    output : IsOutput S (parts_text distributed (parts_view s))
+    output = subst (IsOutput S) (sym plain_text) (laws.ends distributed S)
 
--- a script that is within its limits adds few documents
-pub few_documents : (S : Script) → IsWithin script_limits (script_view S) → document_total (filter_map added (script_view S).lines) ≤ 1_048_576
-few_documents S within =
-    let ds = documents_added (script_view S).lines in
-    let few = last_passes (not (has_repeat (ids_in ds))) (sums_fit S.schema ds) (are_few script_limits ds) duplicate_id field_total too_many_documents within.documents in
-    leb-true (length ds) 1_048_576 (and_parts (nat_le (length ds) 1_048_576) (nat_le (value_count ds) 16_777_216) few).0
+pub printed_lines : AreRunLaws → (spelled : Result AskedScript ScriptFault) (s : Script) (text : Vec ℕ Global) → (spelled >>= λ S. Ok (parts_of S)) ≡ Ok (parts_view s) → IsSound s
+    → text.items ≡ parts_text distributed (parts_view s) → IsRunText spelled (Lines text)
+printed_lines laws (Ok S) s text read sound is = subst (ArePrinted S) (sym is) (printed laws S s (cc) sound)
+printed_lines laws (Err f) s text read sound is = absurd (cc)
+
+pub printed_fault : (spelled : Result AskedScript ScriptFault) (f : ScriptFault) (text : Vec ℕ Global) → (spelled >>= λ S. Ok (parts_of S)) ≡ Err f
+    → text.items ≡ fault_line f → IsRunText spelled (Fault text)
+printed_fault (Ok S) f text read is = absurd (cc)
+printed_fault (Err g) f text read is = is ∙ ap fault_line (cc)

@@ -1,4 +1,0 @@
-pub mod BuiltNodes
-pub mod PlainKeys
-pub mod PlainPlaces
-pub mod PlainReplies

@@ -1,6 +1,0 @@
-pub mod TallyCounts
-pub mod TallySteps
-pub mod TermCopies
-pub mod TermCounts
-pub mod SameCounts
-pub mod SameEntries
