@@ -51,13 +51,16 @@ def joined(lines):
 
 
 def spans(cell):
-    """The examples of a cell, each as often as it is to stand."""
+    """The examples of a cell."""
+    return [lines[0] for lines in repeated(cell)]
+
+
+def repeated(cell):
+    """The examples of a cell, each as lines: as often as it is to stand."""
     if cell in IN_WORDS:
-        return IN_WORDS[cell]
-    found = []
-    for text, times in re.findall(r"`([^`]+)`(?: ([\d,]+) times)?", cell):
-        found += [text] * int(times.replace(",", "") or "1") if times else [text]
-    return found
+        return [IN_WORDS[cell]]
+    found = re.findall(r"`([^`]+)`(?: ([\d,]+) times)?", cell)
+    return [[text] * int(times.replace(",", "") or "1") for text, times in found]
 
 
 def matches(cells, opening):
@@ -96,16 +99,15 @@ def request_faults(cells, opening):
 
 
 def script_faults(cells, opening):
-    if cells[-1] not in NOT_HERE:
-        lines = spans(cells[-1])
+    for lines in [] if cells[-1] in NOT_HERE else repeated(cells[-1]):
         lines = lines if cells[-1].endswith("as the first line") else opening + lines
         yield lines, [compact({"error": cells[1].strip("`"), "line": len(lines), "number": int(cells[0])})]
 
 
 def details(cells, opening):
-    line = '{"add":{"doc":' + spans(cells[-1])[0] + "}}"
     said = {"detail": cells[0].strip("`"), "error": "bad-document", "line": len(opening) + 1, "number": 6}
-    yield opening + [line], [compact(said)]
+    for text in spans(cells[-1]):
+        yield opening + ['{"add":{"doc":' + text + "}}"], [compact(said)]
 
 
 def ranges(cells, opening):
