@@ -6,8 +6,6 @@ mod generation;
 mod reader;
 mod rule;
 mod store;
-#[cfg(test)]
-mod tests;
 mod writer;
 
 pub use charter::Charter;

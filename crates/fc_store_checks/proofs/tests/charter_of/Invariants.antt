@@ -1,7 +1,7 @@
 use Rattle.std.proofs.Common.{◌≡◌, length, map, All}
 use Rattle.fc_docs.specs.View.{batch_view}
 use Rattle.fc_store.specs.Charters.{IsBatchOf}
-use Rattle.fc_store.proofs.tests.charter_of.Given as goal
+use Rattle.fc_store_checks.proofs.tests.charter_of.Given as goal
 
 abbrev pub invariant-loop-blocks : goal.invariant-loop-blocks
 invariant-loop-blocks g l = record {

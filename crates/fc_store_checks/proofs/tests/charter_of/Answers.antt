@@ -5,7 +5,7 @@ use Rattle.fc_spec.specs.documents.Schema.{Schema}
 use Rattle.fc_docs.specs.declared.block.Batch.{Batch}
 use Rattle.fc_docs.specs.View.{batch_view}
 use Rattle.fc_store.specs.Charters.{IsBatchOf}
-use Rattle.fc_store.proofs.tests.charter_of.Goals as goal
+use Rattle.fc_store_checks.proofs.tests.charter_of.Goals as goal
 
 -- one more batch
 batches-push : (s : Schema) (batches : List Batch) (b : Batch) → All (IsBatchOf s) (map batch_view batches) → IsBatchOf s (batch_view b) → All (IsBatchOf s) (map batch_view (batches ++ b ∷ []))

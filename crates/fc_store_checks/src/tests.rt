@@ -3,9 +3,9 @@ ghost use Rattle.std.specs.Prelude.{◌≡◌, ◌≤◌, length, All, IfOk};
 ghost use Rattle.fc_docs.specs.View.{batch_view};
 ghost use Rattle.fc_store.specs.Charters.{IsBatchOf};
 
-use super::*;
 use fc_base::{Schema, WantMemory};
 use fc_docs::{Batch, read_block};
+use fc_store::{Charter, Generation, ShardReader, ShardWriter, Told, open_shard};
 use serde_json::Value;
 use std::alloc::Global;
 use std::process::Abort;
