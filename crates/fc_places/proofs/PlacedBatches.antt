@@ -1,20 +1,11 @@
 -- The places of blocks, and of more blocks behind them.
-use Rattle.std.specs.Prelude.{◌≡◌, ℕ, suc, ◌+◌, ◌≤◌, List, [], ◌∷◌, ◌++◌, length}
-use Rattle.std.proofs.Common.{refl, ap, sym, ◌∙◌, append_assoc, arith}
+use Rattle.std.specs.Prelude.{◌≡◌, ℕ, ◌+◌, ◌≤◌, List, ◌++◌, length}
+use Rattle.std.proofs.Common.{ap, sym, ◌∙◌, append_assoc, arith}
 use Rattle.fc_spec.specs.documents.Document.{Block}
 use Rattle.fc_spec.specs.documents.World.{Place, shard_places}
 use Rattle.fc_spec.specs.documents.Totals.{document_total}
-use Rattle.fc_spec.proofs.documents.BlockTotals.{document_total-append, document_total-cons}
-
-pub shard_places-append : (s b p : ℕ) (xs more : List Block) → shard_places s b p (xs ++ more) ≡ shard_places s b p xs ++ shard_places s (b + length xs) (p + document_total xs) more
-shard_places-append s b p [] more =
-    let number : b ≡ b + 0 = omega arith in
-    let position : p ≡ p + 0 = omega arith in
-    λ i. shard_places s (number i) (position i) more
-shard_places-append s b p (x ∷ xs) more =
-    let number : b + 1 + length xs ≡ b + suc (length xs) = omega arith in
-    let position : p + length x.children + 1 + document_total xs ≡ p + document_total (x ∷ xs) = omega (arith, document_total-cons x xs) in
-    rw (shard_places-append s (b + 1) (p + length x.children + 1) xs more, number, append_assoc, position) refl
+use Rattle.fc_spec.proofs.documents.JoinedPlaces.{shard_places-append}
+use Rattle.fc_spec.proofs.documents.BlockTotals.{document_total-append}
 
 -- some blocks of those that are left, and the rest
 module _ (s number position next_number next_position : ℕ) (blocks rest left : List Block) (is : left ≡ blocks ++ rest)

@@ -36,7 +36,7 @@ later_joining A s (x ∷ rest) =
     ∙ ap (λ ps. shard_places (suc s) 0 0 x ++ ps) (later_joining A (suc s) rest ∙ ap (λ k. places_from k rest) f)
 
 -- blocks behind blocks of one shard
-shard_places-append : (s b p : ℕ) (A B : List Block) → shard_places s b p (A ++ B) ≡ shard_places s b p A ++ shard_places s (b + length A) (p + document_total A) B
+pub shard_places-append : (s b p : ℕ) (A B : List Block) → shard_places s b p (A ++ B) ≡ shard_places s b p A ++ shard_places s (b + length A) (p + document_total A) B
 shard_places-append s b p [] B =
     let e : b ≡ b + 0 = omega arith in
     let f : p ≡ p + 0 = omega arith in
