@@ -17,7 +17,7 @@ use Rattle.fc_spec.specs.words.Walks.{unless}
 use Rattle.fc_script.specs.Commits.{more_at}
 use Rattle.fc_script.specs.Counts.{AreCounts}
 use Rattle.fc_script.specs.DocumentCounts.{AreDocumentCounts}
-use Rattle.fc_script.specs.ReadSoFar.{AskedLine}
+use Rattle.fc_spec.specs.scripts.AskedScripts.{AskedLine}
 use Rattle.fc_script.specs.Sessions.{with_session}
 use Rattle.fc_script.specs.declared.counts.Counts.{Counts}
 use Rattle.fc_script.specs.declared.counts.documents.DocumentCounts.{DocumentCounts}

@@ -12,7 +12,7 @@ use Rattle.fc_spec.specs.documents.Totals.{documents_in, document_total, value_t
 use Rattle.fc_spec.specs.scripts.ValidScripts.{IsWithin}
 use Rattle.fc_script.specs.Counts.{AreCounts}
 use Rattle.fc_script.specs.Left.{limits_with}
-use Rattle.fc_script.specs.ReadSoFar.{AskedLine}
+use Rattle.fc_spec.specs.scripts.AskedScripts.{AskedLine}
 use Rattle.fc_script.specs.declared.counts.Counts.{Counts}
 use Rattle.fc_script.proofs.InRange.{all_below}
 

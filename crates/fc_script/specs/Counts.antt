@@ -6,7 +6,7 @@ use Rattle.fc_spec.specs.scripts.Script.{Line, add, commit, sync, asks, is_sync,
 use Rattle.fc_spec.specs.scripts.ScriptTotals.{Limits, added, sessions, total_limit}
 use Rattle.fc_spec.specs.documents.ValidBlocks.{IsBlockOf}
 use Rattle.fc_script.specs.DocumentCounts.{AreDocumentCounts}
-use Rattle.fc_script.specs.ReadSoFar.{AskedLine}
+use Rattle.fc_spec.specs.scripts.AskedScripts.{AskedLine}
 use Rattle.fc_script.specs.declared.counts.Counts.{Counts}
 
 -- a block is of the schema, and shards are among its shards

@@ -6,7 +6,7 @@ use Rattle.fc_spec.specs.scripts.ScriptTotals.{Limits, ids_in, has_repeat, absol
 use Rattle.fc_base.specs.View.{val_view}
 use Rattle.fc_script.specs.Ids.{AreIdsOf}
 use Rattle.fc_script.specs.Left.{limits_with}
-use Rattle.fc_script.specs.View.{limits_view}
+use Rattle.fc_script.specs.LimitsView.{limits_view}
 use Rattle.fc_script.specs.declared.counts.documents.DocumentCounts.{DocumentCounts}
 
 -- the ids are the blocks' and none stands twice, each of so many fields has its sum, and what is left of the limits is what the blocks leave

@@ -1,7 +1,7 @@
-pub mod ShownFaults
-pub mod BuiltRequests
-pub mod Built
-pub mod View
+pub mod FaultView
+pub mod LimitsView
+pub mod PartsView
+pub mod SoundScripts
 pub mod Left
 pub mod ScriptView
 pub mod Ids
@@ -13,5 +13,7 @@ pub mod ReadSoFar
 pub mod AskedRequests
 pub mod ReadView
 pub mod Gathered
-pub mod CutBatches
 pub mod KnownSessions
+pub mod ShardView
+pub mod GatheredView
+pub mod CutBatches

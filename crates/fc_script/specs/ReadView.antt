@@ -3,7 +3,7 @@ use Rattle.std.specs.Prelude.{map, All}
 use Rattle.fc_script.specs.Counts.{IsLineOf}
 use Rattle.fc_script.specs.ReadSoFar.{ReadSoFar}
 use Rattle.fc_script.specs.ScriptView.{line_view}
-use Rattle.fc_script.specs.View.{limits_view}
+use Rattle.fc_script.specs.LimitsView.{limits_view}
 use Rattle.fc_script.specs.declared.script_reader.ScriptReader.{ScriptReader}
 
 abbrev pub reader_view : ScriptReader → ReadSoFar

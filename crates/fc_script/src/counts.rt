@@ -4,9 +4,10 @@ ghost use Rattle.fc_spec.specs.scripts.ScriptReading.{check_last};
 ghost use Rattle.fc_spec.specs.scripts.ScriptTotals as totals;
 ghost use Rattle.fc_base.specs.Answers.{Answers};
 ghost use Rattle.fc_script.specs.Counts.{AreCounts, AreWithin, IsLineOf};
-ghost use Rattle.fc_script.specs.ReadSoFar.{AskedLine};
-ghost use Rattle.fc_script.specs.View.{limits_view};
-ghost use Rattle.fc_script.specs.ScriptView.{line_fault_view, line_view};
+ghost use Rattle.fc_spec.specs.scripts.AskedScripts.{AskedLine};
+ghost use Rattle.fc_script.specs.LimitsView.{limits_view};
+ghost use Rattle.fc_script.specs.FaultView.{line_fault_view};
+ghost use Rattle.fc_script.specs.ScriptView.{line_view};
 
 mod commits;
 mod documents;
@@ -14,8 +15,9 @@ mod ids;
 mod room;
 mod sessions;
 
+use crate::fault::LineFault;
 use crate::limits::Limits;
-use crate::line::{Line, LineFault};
+use crate::line::Line;
 use commits::add_commit;
 use documents::DocumentCounts;
 use fc_base::{Name, Refusal, Schema, WantMemory};

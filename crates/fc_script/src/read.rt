@@ -1,33 +1,27 @@
-// Reading a script from its bytes.
+// Reading a script from its bytes, line by line.
 ghost use Rattle.std.specs.Prelude.{◌≡◌, All, IfOk};
 ghost use Rattle.serde_json.specs.View.{view};
-ghost use Rattle.fc_spec.specs.scripts.ScriptReading.{schema_on as schema_of_line, schema_said as schema_of_value};
+ghost use Rattle.fc_spec.specs.scripts.AskedScripts.{asked_script_of};
+ghost use Rattle.fc_spec.specs.scripts.ScriptReading.{at_line as at_line_defined, schema_on as schema_of_line, schema_said as schema_of_value};
+ghost use Rattle.fc_spec.specs.scripts.ScriptTotals.{sessions};
 ghost use Rattle.fc_spec.specs.scripts.ValidScripts.{IsWithin};
 ghost use Rattle.fc_base.specs.Answers.{Answers};
-ghost use Rattle.fc_script.specs.Built.{outcome_within};
-ghost use Rattle.fc_script.specs.Counts.{IsLineOf};
 ghost use Rattle.fc_script.specs.AskedRequests.{IsAskedOf};
-ghost use Rattle.fc_script.specs.ReadSoFar.{at_line as at_line_defined, one_shard as of_one_shard, read_from, read_in, schema_read, with_rest};
+ghost use Rattle.fc_script.specs.Counts.{IsLineOf};
+ghost use Rattle.fc_script.specs.FaultView.{line_fault_view, script_fault_view};
+ghost use Rattle.fc_script.specs.LimitsView.{limits_view};
+ghost use Rattle.fc_script.specs.ReadSoFar.{read_from, read_in, with_rest};
 ghost use Rattle.fc_script.specs.ReadView.{reader_view, IsRead};
-ghost use Rattle.fc_script.specs.ScriptView.{line_fault_view, lines_left, script_view};
-ghost use Rattle.fc_script.specs.View.{fault_view, limits_view, shown_view};
+ghost use Rattle.fc_script.specs.ScriptView.{lines_left, read_view};
 
-use crate::fault::{FirstFault, ShownFault, at_line};
+use crate::fault::{LineFault, ScriptFault, at_line};
 use crate::limits::{Limits, SCRIPT_LIMIT};
-use crate::line::{Line, LineFault, shown_by};
 use crate::lines::{Lines, next_said, value_on};
-use crate::script_reader::ScriptReader;
+use crate::script_reader::{ReadScript, ScriptReader};
 use fc_base::json::{is_same, sole_member};
 use fc_base::{Refusal, Schema};
 use serde_json::Value;
 use std::alloc::Global;
-
-/// A script: its schema, and the lines behind it in their order, without the blank ones.
-#[derive(Debug, Drop)]
-pub struct Script {
-    pub schema: Schema,
-    pub lines: Vec<Line>,
-}
 
 // The schema that a value says.
 fn schema_said(alloc: Global, json: &Value) -> Result<Schema, Refusal<LineFault>>
@@ -52,32 +46,12 @@ fn schema_on(alloc: Global, text: &[u8]) -> Result<Schema, Refusal<LineFault>>
     schema_said(alloc, &json)
 }
 
-// A schema of one shard.
-fn one_shard(schema: Schema) -> Result<Schema, Refusal<ShownFault>>
-    ensures answer { Answers (λ schema. schema) shown_view result (of_one_shard schema) }
-    ensures one { IfOk result (λ schema. schema.shards ≡ 1) }
-{
-    if schema.shards() != 1 {
-        return Err(Refusal::Fault(ShownFault::NotBuilt));
-    }
-    Ok(schema)
-}
-
-// The schema of one shard that the first line is.
-fn schema_of(alloc: Global, text: &[u8]) -> Result<Schema, Refusal<ShownFault>>
-    ensures answer { Answers (λ schema. schema) shown_view result (schema_read text.now) }
-    ensures one { IfOk result (λ schema. schema.shards ≡ 1) }
-{
-    one_shard(schema_on(alloc, text).map_err(|refusal| shown_by(refusal))?)
-}
-
 // The schema on the first line, which has this number.
-fn read_schema(alloc: Global, number: u32, text: &[u8]) -> Result<Schema, Refusal<FirstFault>>
-    ensures answer { Answers (λ schema. schema) fault_view result
-        (at_line_defined number (schema_read text.now)) }
-    ensures one { IfOk result (λ schema. schema.shards ≡ 1) }
+fn read_schema(alloc: Global, number: u32, text: &[u8]) -> Result<Schema, Refusal<ScriptFault>>
+    ensures { Answers (λ schema. schema) script_fault_view result
+        (at_line_defined number (schema_of_line text.now)) }
 {
-    schema_of(alloc, text).map_err(|refusal| at_line(number, refusal))
+    schema_on(alloc, text).map_err(|refusal| at_line(number, refusal))
 }
 
 // The script with the lines that are left.
@@ -85,18 +59,17 @@ fn read_rest(
     alloc: Global,
     mut reading: ScriptReader,
     mut lines: Lines<'_>,
-) -> Result<Script, Refusal<FirstFault>>
+) -> Result<ReadScript, Refusal<ScriptFault>>
     requires { IsRead reading }
-    ensures answer { Answers script_view fault_view result (with_rest (reader_view reading) (lines_left lines.entry)) }
-    ensures within { IfOk result (λ script. IsWithin (reader_view reading).limits (script_view script)) }
-    ensures schema { IfOk result (λ script. script.schema ≡ (reader_view reading).schema) }
-    ensures valid { IfOk result (λ script. All (IsLineOf script.schema) (script_view script).lines) }
+    ensures answer { Answers read_view script_fault_view result (with_rest (reader_view reading) (lines_left lines.entry)) }
+    ensures within { IfOk result (λ read. IsWithin (reader_view reading).limits (read_view read)) }
+    ensures sessions { IfOk result (λ read. read.sessions.items ≡ sessions (read_view read).lines) }
+    ensures valid { IfOk result (λ read. All (IsLineOf read.schema) (read_view read).lines) }
 {
     while let Some(text) = next_said(&mut lines) {
         reading = reading.read(alloc, lines.number(), text)?;
     }
-    let (schema, lines) = reading.into_parts();
-    Ok(Script { schema, lines })
+    Ok(reading.into_script())
 }
 
 // The script of lines of which none was read.
@@ -104,16 +77,16 @@ fn read_lines(
     alloc: Global,
     limits: Limits,
     mut lines: Lines<'_>,
-) -> Result<Script, Refusal<FirstFault>>
-    ensures answer { Answers script_view fault_view result (read_from (limits_view limits) (lines_left lines.entry)) }
-    ensures within { IfOk result (λ script. IsWithin (limits_view limits) (script_view script)) }
-    ensures one { IfOk result (λ script. script.schema.shards ≡ 1) }
-    ensures valid { IfOk result (λ script. All (IsLineOf script.schema) (script_view script).lines) }
+) -> Result<ReadScript, Refusal<ScriptFault>>
+    ensures answer { Answers read_view script_fault_view result (read_from (limits_view limits) (lines_left lines.entry)) }
+    ensures within { IfOk result (λ read. IsWithin (limits_view limits) (read_view read)) }
+    ensures sessions { IfOk result (λ read. read.sessions.items ≡ sessions (read_view read).lines) }
+    ensures valid { IfOk result (λ read. All (IsLineOf read.schema) (read_view read).lines) }
 {
     let Some(text) = next_said(&mut lines) else {
-        return Err(Refusal::Fault(FirstFault {
+        return Err(Refusal::Fault(ScriptFault {
             line: 0,
-            fault: ShownFault::NotBuilt,
+            fault: LineFault::NoSchema,
         }));
     };
     let schema = read_schema(alloc, lines.number(), text)?;
@@ -121,32 +94,36 @@ fn read_lines(
 }
 
 // The script that the bytes spell, read line by line.
-fn read_in_lines(alloc: Global, limits: Limits, bytes: &[u8]) -> Result<Script, Refusal<FirstFault>>
-    ensures answer { Answers script_view fault_view result (read_in (limits_view limits) bytes.now) }
-    ensures within { IfOk result (λ script. IsWithin (limits_view limits) (script_view script)) }
-    ensures one { IfOk result (λ script. script.schema.shards ≡ 1) }
-    ensures valid { IfOk result (λ script. All (IsLineOf script.schema) (script_view script).lines) }
+fn read_in_lines(
+    alloc: Global,
+    limits: Limits,
+    bytes: &[u8],
+) -> Result<ReadScript, Refusal<ScriptFault>>
+    ensures answer { Answers read_view script_fault_view result (read_in (limits_view limits) bytes.now) }
+    ensures within { IfOk result (λ read. IsWithin (limits_view limits) (read_view read)) }
+    ensures sessions { IfOk result (λ read. read.sessions.items ≡ sessions (read_view read).lines) }
+    ensures valid { IfOk result (λ read. All (IsLineOf read.schema) (read_view read).lines) }
 {
     if bytes.len() > SCRIPT_LIMIT {
-        return Err(Refusal::Fault(FirstFault {
+        return Err(Refusal::Fault(ScriptFault {
             line: 0,
-            fault: ShownFault::TooLong,
+            fault: LineFault::TooLong,
         }));
     }
     read_lines(alloc, limits, Lines::new(bytes))
 }
 
-/// The script that the bytes spell within the limits, or its first line that is at fault or not built.
-pub fn read_script(
+/// The script that the bytes spell within the limits, with its requests read, or its first fault.
+pub(crate) fn read_script(
     alloc: Global,
     limits: Limits,
     bytes: &[u8],
-) -> Result<Script, Refusal<FirstFault>>
-    ensures answer { Answers script_view fault_view result (outcome_within (limits_view limits) bytes.now) }
-    ensures within { IfOk result (λ script. IsWithin (limits_view limits) (script_view script)) }
-    ensures one { IfOk result (λ script. script.schema.shards ≡ 1) }
-    ensures valid { IfOk result (λ script. All (IsLineOf script.schema) (script_view script).lines) }
-    ensures asked { IfOk result (λ script. All (IsAskedOf script.schema) (script_view script).lines) }
+) -> Result<ReadScript, Refusal<ScriptFault>>
+    ensures answer { Answers read_view script_fault_view result (asked_script_of (limits_view limits) bytes.now) }
+    ensures within { IfOk result (λ read. IsWithin (limits_view limits) (read_view read)) }
+    ensures sessions { IfOk result (λ read. read.sessions.items ≡ sessions (read_view read).lines) }
+    ensures valid { IfOk result (λ read. All (IsLineOf read.schema) (read_view read).lines) }
+    ensures asked { IfOk result (λ read. All (IsAskedOf read.schema) (read_view read).lines) }
 {
     read_in_lines(alloc, limits, bytes)
 }

@@ -1,19 +1,30 @@
 // A script as far as it has been read.
 ghost use Rattle.std.specs.Prelude.{◌≡◌, [], map, All, IfOk};
+ghost use Rattle.fc_spec.specs.scripts.ScriptTotals.{sessions as sessions_of};
 ghost use Rattle.fc_spec.specs.scripts.ValidScripts.{IsWithin};
 ghost use Rattle.fc_base.specs.Answers.{Answers};
 ghost use Rattle.fc_script.specs.Counts.{AreCounts, IsLineOf};
+ghost use Rattle.fc_script.specs.FaultView.{line_fault_view, script_fault_view};
+ghost use Rattle.fc_script.specs.LimitsView.{limits_view};
 ghost use Rattle.fc_script.specs.ReadSoFar.{with_asked, with_numbered as with_numbered_line, with_text as with_text_line};
-ghost use Rattle.fc_script.specs.ScriptView.{line_view};
-ghost use Rattle.fc_script.specs.View.{fault_view, limits_view, shown_view};
+ghost use Rattle.fc_script.specs.ScriptView.{line_view, read_view};
 
 use crate::counts::Counts;
-use crate::fault::{FirstFault, ShownFault, at_line};
+use crate::fault::{LineFault, ScriptFault, at_line};
 use crate::limits::Limits;
-use crate::line::{Line, asked_line, line_said, shown_by};
+use crate::line::{Line, asked_line, line_said};
 use crate::lines::value_on;
-use fc_base::{Refusal, Schema, WantMemory};
+use fc_base::{Name, Refusal, Schema, WantMemory};
 use std::alloc::Global;
+
+/// A script that was read: its schema, the lines behind it in their order, without the blank ones, and its sessions in
+/// the order of their first searches.
+#[derive(Debug, Drop)]
+pub(crate) struct ReadScript {
+    pub(crate) schema: Schema,
+    pub(crate) lines: Vec<Line>,
+    pub(crate) sessions: Vec<Name>,
+}
 
 /// The schema and the lines so far, held to the limits.
 #[derive(Drop)]
@@ -47,9 +58,9 @@ impl ScriptReader {
     }
 
     // The script so far, with a line behind the others.
-    fn with_line(self, alloc: Global, line: Line) -> Result<ScriptReader, Refusal<ShownFault>>
+    fn with_line(self, alloc: Global, line: Line) -> Result<ScriptReader, Refusal<LineFault>>
         requires { IsLineOf self.schema (line_view line) }
-        ensures answer { Answers reader_view shown_view result (with_asked (reader_view self) (line_view line)) }
+        ensures answer { Answers reader_view line_fault_view result (with_asked (reader_view self) (line_view line)) }
         ensures limits { IfOk result (λ r. (reader_view r).limits ≡ (reader_view self).limits) }
         ensures schema { IfOk result (λ r. (reader_view r).schema ≡ (reader_view self).schema) }
         ensures read { IsRead self → IfOk result IsRead }
@@ -60,9 +71,7 @@ impl ScriptReader {
             mut lines,
             counts,
         } = self;
-        let counts = counts
-            .with(alloc, &schema, &line)
-            .map_err(|refusal| shown_by(refusal))?;
+        let counts = counts.with(alloc, &schema, &line)?;
         lines.push(line)?;
         Ok(ScriptReader {
             limits,
@@ -73,14 +82,14 @@ impl ScriptReader {
     }
 
     // The script so far, with what this text says as one more line.
-    fn with_text(self, alloc: Global, text: &[u8]) -> Result<ScriptReader, Refusal<ShownFault>>
-        ensures answer { Answers reader_view shown_view result (with_text_line (reader_view self) text.now) }
+    fn with_text(self, alloc: Global, text: &[u8]) -> Result<ScriptReader, Refusal<LineFault>>
+        ensures answer { Answers reader_view line_fault_view result (with_text_line (reader_view self) text.now) }
         ensures limits { IfOk result (λ r. (reader_view r).limits ≡ (reader_view self).limits) }
         ensures schema { IfOk result (λ r. (reader_view r).schema ≡ (reader_view self).schema) }
         ensures read { IsRead self → IfOk result IsRead }
     {
-        let json = value_on(alloc, text).map_err(|refusal| shown_by(refusal))?;
-        let said = line_said(alloc, &self.schema, &json).map_err(|refusal| shown_by(refusal))?;
+        let json = value_on(alloc, text)?;
+        let said = line_said(alloc, &self.schema, &json)?;
         let line = asked_line(alloc, &self.schema, said)?;
         self.with_line(alloc, line)
     }
@@ -91,8 +100,8 @@ impl ScriptReader {
         alloc: Global,
         number: u32,
         text: &[u8],
-    ) -> Result<ScriptReader, Refusal<FirstFault>>
-        ensures answer { Answers reader_view fault_view result (with_numbered_line (reader_view self) (number, text.now)) }
+    ) -> Result<ScriptReader, Refusal<ScriptFault>>
+        ensures answer { Answers reader_view script_fault_view result (with_numbered_line (reader_view self) (number, text.now)) }
         ensures limits { IfOk result (λ r. (reader_view r).limits ≡ (reader_view self).limits) }
         ensures schema { IfOk result (λ r. (reader_view r).schema ≡ (reader_view self).schema) }
         ensures read { IsRead self → IfOk result IsRead }
@@ -101,15 +110,25 @@ impl ScriptReader {
             .map_err(|refusal| at_line(number, refusal))
     }
 
-    /// The schema and the lines that were read.
-    pub(crate) fn into_parts(self) -> (Schema, Vec<Line>)
+    /// The script that was read.
+    pub(crate) fn into_script(self) -> ReadScript
         requires { IsRead self }
-        ensures schema { result.0 ≡ (reader_view self).schema }
-        ensures lines { map line_view result.1.items ≡ (reader_view self).lines }
-        ensures within { IsWithin (reader_view self).limits (record { schema = result.0; lines = map line_view result.1.items }) }
-        ensures valid { All (IsLineOf result.0) (map line_view result.1.items) }
+        ensures schema { (read_view result).schema ≡ (reader_view self).schema }
+        ensures lines { (read_view result).lines ≡ (reader_view self).lines }
+        ensures sessions { result.sessions.items ≡ sessions_of (read_view result).lines }
+        ensures within { IsWithin (reader_view self).limits (read_view result) }
+        ensures valid { All (IsLineOf result.schema) (read_view result).lines }
     {
-        let ScriptReader { schema, lines, .. } = self;
-        (schema, lines)
+        let ScriptReader {
+            schema,
+            lines,
+            counts,
+            ..
+        } = self;
+        ReadScript {
+            schema,
+            lines,
+            sessions: counts.sessions,
+        }
     }
 }

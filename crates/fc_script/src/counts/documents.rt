@@ -10,13 +10,13 @@ ghost use Rattle.fc_spec.specs.documents.ValidBlocks.{IsBlockOf};
 ghost use Rattle.fc_base.specs.Answers.{Answers};
 ghost use Rattle.fc_docs.specs.View.{block_view};
 ghost use Rattle.fc_script.specs.DocumentCounts.{AreDocumentCounts};
-ghost use Rattle.fc_script.specs.View.{limits_view};
-ghost use Rattle.fc_script.specs.ScriptView.{line_fault_view};
+ghost use Rattle.fc_script.specs.LimitsView.{limits_view};
+ghost use Rattle.fc_script.specs.FaultView.{line_fault_view};
 
 use super::ids::insert_ids;
 use super::room::limits_after;
+use crate::fault::LineFault;
 use crate::limits::Limits;
-use crate::line::LineFault;
 use fc_base::{Refusal, Schema, Val, WantMemory};
 use fc_docs::Block;
 use std::alloc::Global;

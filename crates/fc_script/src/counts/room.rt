@@ -2,7 +2,7 @@
 ghost use Rattle.std.specs.Prelude.{◌≡◌, ◌-◌, length, sum_by, nat_le, None, Some, option_map, if◌then◌else◌};
 ghost use Rattle.fc_docs.specs.View.{block_view};
 ghost use Rattle.fc_script.specs.Left.{limits_after as left_after};
-ghost use Rattle.fc_script.specs.View.{limits_view};
+ghost use Rattle.fc_script.specs.LimitsView.{limits_view};
 
 use crate::limits::Limits;
 use fc_docs::{Block, Document};

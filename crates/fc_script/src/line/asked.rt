@@ -2,16 +2,13 @@
 ghost use Rattle.std.specs.Prelude.{◌≡◌, IfOk};
 ghost use Rattle.serde_json.specs.View.{view};
 ghost use Rattle.fc_spec.specs.requests.RequestReading.{request_of};
+ghost use Rattle.fc_spec.specs.scripts.AskedScripts.{line_asking};
 ghost use Rattle.fc_spec.specs.scripts.Script.{asks};
-ghost use Rattle.fc_base.specs.Answers.{Answers};
 ghost use Rattle.fc_script.specs.Counts.{IsLineOf};
-ghost use Rattle.fc_script.specs.ReadSoFar.{asked_line};
-ghost use Rattle.fc_script.specs.ScriptView.{asked_view, line_view, said_view};
-ghost use Rattle.fc_script.specs.View.{shown_view};
+ghost use Rattle.fc_script.specs.PartsView.{asked_view};
+ghost use Rattle.fc_script.specs.ScriptView.{line_view, said_view};
 
-use super::built::is_answered;
 use super::said::Said;
-use crate::fault::ShownFault;
 use fc_base::{Name, Refusal, Schema, WantMemory};
 use fc_docs::Block;
 use fc_request::{Request, RequestFault};
@@ -20,7 +17,7 @@ use std::alloc::Global;
 
 /// A line after the schema.
 #[derive(Debug, Drop)]
-pub enum Line {
+pub(crate) enum Line {
     /// A block for a shard.
     Add(u32, Block),
     /// A commit of a shard, or of every shard.
@@ -52,27 +49,20 @@ fn search_of(
     schema: &Schema,
     session: &str,
     request: &Value,
-) -> Result<Line, Refusal<ShownFault>>
-    ensures answer { Answers line_view shown_view result
-        (asked_line schema.now (asks session.now (view request.now))) }
-    ensures valid { IfOk result (λ line. IsLineOf schema.now (line_view line)) }
+) -> Result<Line, WantMemory>
+    ensures { IfOk result (λ line. line_view line
+        ≡ asks session.now (request_of schema.now (view request.now))) }
 {
     let asked = asked_of(alloc, schema, request)?;
-    if !is_answered(&asked) {
-        return Err(Refusal::Fault(ShownFault::NotBuilt));
-    }
     let session = Name::new(alloc, session)?;
     Ok(Line::Search(session, Box::new(alloc, asked)?))
 }
 
-/// What a line says, with its request read, where that is answered.
-pub(crate) fn asked_line(
-    alloc: Global,
-    schema: &Schema,
-    said: Said<'_>,
-) -> Result<Line, Refusal<ShownFault>>
+/// What a line says, with its request read.
+pub(crate) fn asked_line(alloc: Global, schema: &Schema, said: Said<'_>) -> Result<Line, WantMemory>
     requires { IsLineOf schema.now (said_view said) }
-    ensures answer { Answers line_view shown_view result (asked_line schema.now (said_view said.entry)) }
+    ensures asked { IfOk result (λ line. line_view line
+        ≡ line_asking (request_of schema.now) (said_view said.entry)) }
     ensures valid { IfOk result (λ line. IsLineOf schema.now (line_view line)) }
 {
     match said {

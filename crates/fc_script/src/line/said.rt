@@ -11,9 +11,10 @@ ghost use Rattle.fc_docs.specs.View.{block_view};
 ghost use Rattle.fc_spec.specs.documents.Schema.{Schema};
 ghost use Rattle.fc_spec.specs.documents.ValidBlocks.{IsBlockOf};
 ghost use Rattle.fc_script.specs.Counts.{IsLineOf};
-ghost use Rattle.fc_script.specs.ScriptView.{line_fault_view, said_view};
+ghost use Rattle.fc_script.specs.FaultView.{line_fault_view};
+ghost use Rattle.fc_script.specs.ScriptView.{said_view};
 
-use super::fault::LineFault;
+use crate::fault::LineFault;
 use fc_base::json::{has_only, member, sole_member};
 use fc_base::{Refusal, Schema};
 use fc_docs::{Block, read_block};

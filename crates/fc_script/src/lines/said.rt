@@ -3,10 +3,11 @@ ghost use Rattle.std.specs.Prelude.{◌≡◌, ◌∷◌, ◌<◌, ◌≤◌, []
 ghost use Rattle.serde_json.specs.View.{view};
 ghost use Rattle.fc_spec.specs.scripts.ScriptReading.{value_on as defined, is_silent as silent};
 ghost use Rattle.fc_base.specs.Answers.{Answers};
-ghost use Rattle.fc_script.specs.ScriptView.{line_fault_view, lines_left};
+ghost use Rattle.fc_script.specs.FaultView.{line_fault_view};
+ghost use Rattle.fc_script.specs.ScriptView.{lines_left};
 
 use super::cut::{Lines, is_blank, json_of};
-use crate::line::LineFault;
+use crate::fault::LineFault;
 use fc_base::Refusal;
 use serde_json::Value;
 use std::alloc::Global;

@@ -4,15 +4,12 @@ use Rattle.std.proofs.lemmas.List.{map-append}
 use Rattle.std.proofs.lemmas.List.Elements.{All-append, All-cons, All-nil}
 use Rattle.fc_script.specs.Counts.{AreCounts, IsLineOf}
 use Rattle.fc_script.specs.ScriptView.{line_view}
-use Rattle.fc_script.specs.View.{limits_view}
-use Rattle.fc_script.proofs.PassedFaults.{passed}
+use Rattle.fc_script.specs.LimitsView.{limits_view}
 use Rattle.fc_script.proofs.script_reader.ScriptReader.with_line.Goals as goal
 
 pub invariant_of-result : goal.invariant_of-result
 invariant_of-result c =
-    let was = passed _ c.with.result c.map_err.result c.in_ok-counts.counts c.map_err.ensures.cases c.in_ok-counts.was in
-    let kept = c.with.ensures (limits_view c.args.self.limits) (map line_view c.args.self.lines.items) c.args.self.held in
-    let counted = rw was at kept in
+    let counted = c.in_ok-counts.ensures (limits_view c.args.self.limits) (map line_view c.args.self.lines.items) c.args.self.held in
     let lines : map line_view c.push.new.self.items ≡ map line_view c.args.self.lines.items ++ line_view c.args.line ∷ [] = ap (map line_view) c.in_ok-push.ensures.items ∙ map-append line_view c.args.self.lines.items _ in
     record { held = subst (λ ls. AreCounts (limits_view c.args.self.limits) c.args.self.schema ls c.in_ok-counts.counts) (sym lines) counted.1 }
 

@@ -7,14 +7,14 @@ use Rattle.fc_base.specs.Answers.{Answers}
 use Rattle.fc_base.specs.declared.error.Refusal.{Refusal}
 use Rattle.fc_base.specs.declared.error.Refusal.TheVariants as refusal
 use Rattle.fc_spec.specs.scripts.ScriptFault as fault
-use Rattle.fc_script.specs.ScriptView.{line_fault_view}
+use Rattle.fc_script.specs.FaultView.{line_fault_view}
 use Rattle.fc_script.specs.declared.counts.documents.DocumentCounts.{DocumentCounts}
-use Rattle.fc_script.specs.declared.line.fault.LineFault.{LineFault}
+use Rattle.fc_script.specs.declared.fault.LineFault.{LineFault}
 use Rattle.fc_spec.specs.documents.Totals.{documents_in, documents_of}
 use Rattle.fc_spec.specs.scripts.ScriptTotals.{absolute_total, total_limit, sums_fit}
 use Rattle.fc_base.specs.View.{val_view}
 use Rattle.fc_docs.specs.View.{block_view}
-use Rattle.fc_script.specs.View.{limits_view}
+use Rattle.fc_script.specs.LimitsView.{limits_view}
 use Rattle.fc_script.proofs.CountedDocuments.{duplicate, once_more, fits_are, sums_with, too_much, too_many, all_fits}
 use Rattle.fc_script.proofs.LimitsLeft.{limits_with-append}
 use Rattle.fc_script.proofs.NewIds.{ids_with}

@@ -1,0 +1,141 @@
+// Shards as far as a script's lines have been gathered.
+ghost use Rattle.std.specs.Prelude.{◌≡◌, ◌<◌, length, map, replicate, All, IfOk, IfSome, OnOk, Vec};
+ghost use Rattle.std.specs.Arc.{arc_value};
+ghost use Rattle.std.specs.declared.alloc.Global.{Global};
+ghost use Rattle.fc_docs.specs.View.{block_view};
+ghost use Rattle.fc_docs.specs.declared.block.Batch.{Batch};
+ghost use Rattle.fc_script.specs.Gathered.{changed_at, empty_shard, with_block, with_commit, with_commit_of};
+ghost use Rattle.fc_script.specs.PartsView.{batches_view};
+ghost use Rattle.fc_script.specs.ShardView.{shard_view, HasFewBatches};
+
+use fc_base::WantMemory;
+use fc_docs::{Batch, Block};
+use std::alloc::Global;
+use std::mem;
+use std::sync::Arc;
+
+/// A batch for each commit of a shard, and the blocks behind the last one.
+#[derive(Debug, Drop)]
+pub(crate) struct ShardSoFar {
+    pub(crate) batches: Vec<Batch>,
+    pub(crate) waiting: Vec<Block>,
+}
+
+impl ShardSoFar {
+    // Before the first line.
+    fn new(alloc: Global) -> ShardSoFar
+        ensures { shard_view result ≡ empty_shard }
+    {
+        ShardSoFar {
+            batches: Vec::new(alloc),
+            waiting: Vec::new(alloc),
+        }
+    }
+
+    // Behind one more block.
+    fn add(&mut self, block: Block) -> Result<(), WantMemory>
+        ensures { OnOk result (shard_view self.new ≡ with_block (block_view block) (shard_view self.old)) }
+    {
+        self.waiting.push(block)?;
+        Ok(())
+    }
+
+    // Behind one more commit.
+    fn commit(&mut self, alloc: Global) -> Result<(), WantMemory>
+        ensures { OnOk result (shard_view self.new ≡ with_commit (shard_view self.old)) }
+    {
+        let blocks = mem::replace(&mut self.waiting, Vec::new(alloc));
+        self.batches.push(Batch { blocks })?;
+        Ok(())
+    }
+}
+
+/// So many shards before the first line.
+pub(crate) fn empty_shards(alloc: Global, count: u32) -> Result<Vec<ShardSoFar>, WantMemory>
+    ensures { IfOk result (λ shards. map shard_view shards.items ≡ replicate count empty_shard) }
+{
+    let mut shards = Vec::new(alloc);
+    for _ in 0..count {
+        shards.push(ShardSoFar::new(alloc))?;
+    }
+    Ok(shards)
+}
+
+/// Adds a block to a shard.
+pub(crate) fn add_block(
+    shards: &mut [ShardSoFar],
+    shard: u32,
+    block: Block,
+) -> Result<(), WantMemory>
+    requires { shard < length shards.old }
+    ensures shards { OnOk result (map shard_view shards.new
+        ≡ changed_at (with_block (block_view block)) shard (map shard_view shards.old)) }
+    ensures count { length shards.new ≡ length shards.old }
+{
+    shards[shard as usize].add(block)
+}
+
+// Commits one shard.
+fn commit_one(alloc: Global, shards: &mut [ShardSoFar], shard: u32) -> Result<(), WantMemory>
+    requires { shard < length shards.old }
+    ensures shards { OnOk result (map shard_view shards.new
+        ≡ changed_at with_commit shard (map shard_view shards.old)) }
+    ensures count { length shards.new ≡ length shards.old }
+{
+    shards[shard as usize].commit(alloc)
+}
+
+// Commits every shard.
+fn commit_all(alloc: Global, shards: &mut [ShardSoFar]) -> Result<(), WantMemory>
+    ensures shards { OnOk result (map shard_view shards.new ≡ map with_commit (map shard_view shards.old)) }
+    ensures count { length shards.new ≡ length shards.old }
+{
+    for shard in shards.iter_mut() {
+        shard.commit(alloc)?;
+    }
+    Ok(())
+}
+
+/// Commits a shard, or every shard.
+pub(crate) fn commit(
+    alloc: Global,
+    shards: &mut [ShardSoFar],
+    shard: Option<u32>,
+) -> Result<(), WantMemory>
+    requires { IfSome shard (λ shard. shard < length shards.old) }
+    ensures shards { OnOk result (map shard_view shards.new
+        ≡ with_commit_of shard (map shard_view shards.old)) }
+    ensures count { length shards.new ≡ length shards.old }
+{
+    match shard {
+        Some(shard) => commit_one(alloc, shards, shard),
+        None => commit_all(alloc, shards),
+    }
+}
+
+/// For each shard the number of its commits.
+pub(crate) fn commits(alloc: Global, shards: &[ShardSoFar]) -> Result<Vec<u32>, WantMemory>
+    requires { All HasFewBatches shards.now }
+    ensures { IfOk result (λ commits. commits.items ≡ map (λ x. length x.batches.items) shards.now) }
+{
+    let mut commits = Vec::new(alloc);
+    for shard in shards {
+        commits.push(shard.batches.len() as u32)?;
+    }
+    Ok(commits)
+}
+
+/// The batches of each shard.
+pub(crate) fn batches(
+    alloc: Global,
+    shards: Vec<ShardSoFar>,
+) -> Result<Vec<Arc<Vec<Batch>>>, WantMemory>
+    ensures { IfOk result (λ batches. map (λ b. batches_view (arc_value {X = Vec Batch Global} b).items) batches.items
+        ≡ map (λ x. batches_view x.batches.items) shards.items) }
+{
+    let mut batches = Vec::new(alloc);
+    for shard in shards {
+        batches.push(Arc::new(alloc, shard.batches)?)?;
+    }
+    Ok(batches)
+}
