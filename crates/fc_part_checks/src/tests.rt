@@ -1,5 +1,4 @@
 // What no clause says: values beside those written by hand, with memory enough.
 mod columns;
 mod queries;
-mod requests;
 mod values;
