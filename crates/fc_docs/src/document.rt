@@ -1,8 +1,6 @@
 // Documents.
 mod field_values;
 mod sums;
-#[cfg(test)]
-mod tests;
 
 ghost use Rattle.std.specs.Prelude.{◌≡◌, ℕ, ◌+◌, ◌-◌, ◌<◌, ◌≤◌, [], All, OnErr, OnOk, length, map, nat_le, replicate, slice_index, slice_set, sum_by, if◌then◌else◌};
 ghost use Rattle.std.specs.Bool.{OnTrue};

@@ -12,8 +12,6 @@ ghost use Rattle.fc_docs.specs.View.{block_view, fault_view, role_view};
 
 mod item;
 mod member;
-#[cfg(test)]
-mod tests;
 mod values;
 
 use crate::{Block, DocFault, Document};

@@ -4,8 +4,6 @@
 mod columns;
 mod longs;
 mod matching;
-#[cfg(test)]
-mod tests;
 mod texts;
 
 pub use matching::matches;

@@ -1,4 +1,4 @@
-//! Tests of the parts below scripts: values, columns and queries. They stand here so that the crates themselves
+//! Tests of the parts below scripts: values and queries. They stand here so that the crates themselves
 //! are proved once.
 #![tactic(auto)]
 

@@ -5,8 +5,6 @@ mod builder;
 mod column;
 mod parents;
 mod segment;
-#[cfg(test)]
-mod tests;
 
 pub use column::Column;
 pub use segment::Segment;

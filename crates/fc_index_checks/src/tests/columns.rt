@@ -4,7 +4,7 @@ ghost use Rattle.fc_spec.specs.documents.Columns.{IsText};
 ghost use Rattle.fc_base.specs.View.{val_view};
 
 use fc_base::{Name, Val, WantMemory};
-use fc_column::{LongBuilder, TextBuilder, TextColumn};
+use fc_column::{LongBuilder, LongColumn, TextBuilder, TextColumn};
 use std::alloc::Global;
 use std::test::Fail;
 
@@ -38,14 +38,18 @@ const TERMS: [(&str, u32, u32); 7] = [
     ("\u{e9}", 3, 3),
 ];
 
-#[test]
-fn texts_are_found(rt: HostRuntime) -> Result<(), Fail> {
-    let alloc = rt.alloc();
+// The texts b at the first position, a and c at the second, and none at the third.
+fn three_texts(alloc: Global) -> Result<TextColumn, WantMemory> {
     let mut builder = TextBuilder::new(alloc)?;
     builder.push_doc(&[text(alloc, "b")?])?;
     push_texts(alloc, &mut builder)?;
     builder.push_doc(&[])?;
-    let column = builder.finish()?;
+    builder.finish()
+}
+
+#[test]
+fn texts_are_found(rt: HostRuntime) -> Result<(), Fail> {
+    let column = three_texts(rt.alloc())?;
     assert_eq!(rt; column.len(), 3);
     for (at, ordinals) in [[1].as_slice(), &[0, 2], &[]].iter().enumerate() {
         assert_eq!(rt; column.ordinals_of(at as u32), *ordinals, "at {at}");
@@ -113,15 +117,20 @@ const LONGS_BETWEEN: [(i64, i64, u64); 7] = [
     (i64::MAX, i64::MIN, 0),
 ];
 
-#[test]
-fn integers_are_found(rt: HostRuntime) -> Result<(), Fail> {
-    let mut builder = LongBuilder::new(rt.alloc())?;
+// Five positions with up to two integers.
+fn five_lists(alloc: Global) -> Result<LongColumn, WantMemory> {
+    let mut builder = LongBuilder::new(alloc)?;
     push_longs(&mut builder, 5, 7)?;
     builder.push_doc(&[])?;
     builder.push_doc(&[Val::Long(i64::MIN)])?;
     push_longs(&mut builder, 0, i64::MAX)?;
     push_longs(&mut builder, -3, -1)?;
-    let column = builder.finish()?;
+    builder.finish()
+}
+
+#[test]
+fn integers_are_found(rt: HostRuntime) -> Result<(), Fail> {
+    let column = five_lists(rt.alloc())?;
     assert_eq!(rt; column.len(), 5);
     assert_eq!(rt; column.values_of(0), [5, 7].as_slice());
     assert_eq!(rt; column.values_of(1), [].as_slice());

@@ -2,7 +2,7 @@ use Rattle.std.proofs.Common.{◌≤◌, ◌*◌, map, All}
 use Rattle.fc_spec.specs.documents.Totals.{document_total}
 use Rattle.fc_spec.specs.documents.ValidBlocks.{IsBlockOf}
 use Rattle.fc_docs.specs.View.{block_view}
-use Rattle.fc_segment.proofs.tests.batch_of.Given as goal
+use Rattle.fc_index_checks.proofs.tests.segments.batch_of.Given as goal
 
 abbrev pub invariant-loop-text : goal.invariant-loop-text
 invariant-loop-text g l = record {

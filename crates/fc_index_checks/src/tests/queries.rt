@@ -2,10 +2,10 @@
 ghost use Rattle.std.specs.Prelude.{◌≡◌, IfOk};
 ghost use Rattle.fc_spec.specs.documents.Schema.{texts_held};
 
-use super::*;
 use fc_base::Schema;
 use fc_docs::{Batch, read_block};
 use fc_docset::DocSet;
+use fc_domain::matches;
 use fc_query::parse;
 use fc_segment::Segment;
 use serde_json::Value;

@@ -7,7 +7,7 @@ use Rattle.fc_spec.specs.documents.ValidBlocks.{IsBlockOf}
 use Rattle.fc_docs.specs.declared.block.Block.{Block}
 use Rattle.fc_docs.specs.View.{block_view}
 use Rattle.fc_spec.proofs.documents.BlockTotals.{document_total-append, document_total-cons}
-use Rattle.fc_segment.proofs.tests.batch_of.Goals as goal
+use Rattle.fc_index_checks.proofs.tests.segments.batch_of.Goals as goal
 
 -- one more block
 document_total-push : (blocks : List Block) (b : Block) → document_total (map block_view (blocks ++ b ∷ [])) ≡ document_total (map block_view blocks) + (length b.children.items + 1 + 0)

@@ -1,7 +1,8 @@
-use super::*;
-use crate::read_block;
+// Absolute values of documents, added field by field, and how many values they have.
 use fc_base::Schema;
+use fc_docs::read_block;
 use serde_json::Value;
+use std::alloc::Global;
 use std::test::Fail;
 
 const FIELDS: &str = r#"{"shards":1,"fields":{"n":"plong","ns":"plongs","tags":"strings"}}"#;

@@ -4,9 +4,9 @@ ghost use Rattle.fc_spec.specs.documents.Totals.{document_total};
 ghost use Rattle.fc_spec.specs.documents.ValidBlocks.{IsBlockOf};
 ghost use Rattle.fc_docs.specs.View.{batch_view};
 
-use super::*;
 use fc_base::{FieldId, Schema};
 use fc_docs::{Batch, read_block};
+use fc_segment::{Column, Segment};
 use serde_json::Value;
 use std::alloc::Global;
 use std::fmt::Write;

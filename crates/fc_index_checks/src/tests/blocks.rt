@@ -1,5 +1,9 @@
-use super::*;
-use fc_base::Val;
+// Blocks, read from their JSON: their values, or the first fault.
+use fc_base::{FieldId, Refusal, Schema, Val};
+use fc_docs::{Block, Document, read_block};
+use serde_json::Value;
+use std::alloc::Global;
+use std::fmt::Write;
 use std::test::Fail;
 
 const NAMES: [&str; 6] = ["id", "Age", "cat", "n", "ns", "tags"];
