@@ -6,8 +6,6 @@ mod bucket;
 mod key;
 mod statistics;
 mod tally;
-#[cfg(test)]
-mod tests;
 
 pub use bucket::{Message, PartialBucket, PartialNode};
 pub use key::Key;

@@ -4,8 +4,6 @@
 mod comparison;
 mod ranked;
 mod ranking;
-#[cfg(test)]
-mod tests;
 
 pub use ranked::Ranked;
 pub use ranking::{below_rank, page, rank_bound};

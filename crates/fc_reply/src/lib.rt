@@ -5,8 +5,6 @@ mod error;
 mod json;
 mod line;
 mod reply;
-#[cfg(test)]
-mod tests;
 
 pub use error::error_line;
 pub use line::reply_line;

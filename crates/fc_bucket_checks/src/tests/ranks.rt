@@ -5,10 +5,10 @@ ghost use Rattle.fc_base.specs.View.{val_view};
 ghost use Rattle.fc_partial.specs.StatsView.{stats_view};
 ghost use Rattle.fc_refine.specs.Entries.{HaveAscendingValues};
 
-use super::*;
 use fc_base::Val;
 use fc_facet::{Sort, SortKey};
 use fc_partial::{StatValue, Stats};
+use fc_refine::{Ranked, below_rank, page, rank_bound};
 use std::alloc::Global;
 use std::process::Abort;
 use std::test::Fail;

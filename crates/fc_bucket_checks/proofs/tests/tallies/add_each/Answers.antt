@@ -3,7 +3,7 @@ use Rattle.fc_spec.specs.requests.Statistics as statistics
 use Rattle.fc_partial.specs.View.{key_view}
 use Rattle.fc_partial.specs.Numbers.{NumbersAddUp}
 use Rattle.fc_partial.specs.Tallying.{entry_at}
-use Rattle.fc_partial.proofs.tests.add_each.Goals as goal
+use Rattle.fc_bucket_checks.proofs.tests.tallies.add_each.Goals as goal
 
 nothing_more : (as' : List statistics.StatValue) → NumbersAddUp as' []
 nothing_more [] = tt

@@ -4,8 +4,8 @@ use Rattle.fc_spec.specs.documents.Val.{Val, long, val_cmp}
 use Rattle.fc_spec.specs.requests.Ranks.{Entry}
 use Rattle.fc_base.specs.View.{val_view}
 use Rattle.fc_partial.specs.StatsView.{stats_view}
-use Rattle.fc_refine.specs.declared.tests.Item.{Item}
-use Rattle.fc_refine.proofs.tests.items.Goals as goal
+use Rattle.fc_bucket_checks.specs.declared.tests.ranks.Item.{Item}
+use Rattle.fc_bucket_checks.proofs.tests.ranks.items.Goals as goal
 
 numbers : List Val
 numbers = long (pos 1) ∷ long (pos 2) ∷ long (pos 3) ∷ long (pos 4) ∷ long (pos 5) ∷ []

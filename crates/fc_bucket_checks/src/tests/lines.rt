@@ -1,7 +1,7 @@
 // Lines of small replies, and of a fault.
-use super::*;
 use fc_base::{Name, Val};
 use fc_facet::QFault;
+use fc_reply::{Reply, ReplyBody, ReplyBucket, ReplyBuckets, ReplyFacet, error_line, reply_line};
 use fc_request::RequestFault;
 use std::alloc::Global;
 use std::process::Abort;

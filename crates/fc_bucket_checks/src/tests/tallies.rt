@@ -4,8 +4,8 @@ ghost use Rattle.std.specs.Option.{ForSome};
 ghost use Rattle.fc_partial.specs.View.{key_view};
 ghost use Rattle.fc_partial.specs.Tallying.{entry_at};
 
-use super::*;
 use fc_base::{FieldId, Name, Stat, StatKind, Val};
+use fc_partial::{Key, StatValue, Stats, Tally};
 use std::alloc::Global;
 use std::process::Abort;
 use std::test::Fail;

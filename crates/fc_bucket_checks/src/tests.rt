@@ -1,0 +1,4 @@
+// What no clause says: buckets beside those written by hand, with memory enough.
+mod lines;
+mod ranks;
+mod tallies;
