@@ -1,5 +1,5 @@
-//! Tests of the parts below scripts: values and queries. They stand here so that the crates themselves
-//! are proved once.
+//! Tests of the parts that much stands on: values, sources and sinks, queries. They stand here so that the crates
+//! themselves are proved once.
 #![tactic(auto)]
 
 #[cfg(test)]

@@ -3,6 +3,7 @@ use fc_base::{FieldType, Name, Refusal, Schema, Val, long_of};
 use serde_json::Value;
 use std::alloc::Global;
 use std::fmt::Write;
+use std::process::Abort;
 use std::test::Fail;
 
 // Texts with the integers that they spell.
@@ -36,24 +37,51 @@ fn texts_spell_integers(rt: HostRuntime) {
     }
 }
 
+// Integers, and texts behind them.
+fn ascending(alloc: Global) -> Result<Vec<Val>, Fail> {
+    let mut values = Vec::new(alloc);
+    for number in [-1, 10] {
+        values.push(Val::Long(number))?;
+    }
+    for text in ["", "10", "9", "\u{e9}"] {
+        values.push(Val::Text(Name::new(alloc, text)?))?;
+    }
+    Ok(values)
+}
+
+// A value at this place stands before those behind it, and its copy is equal to itself alone.
+fn compare(
+    rt: &impl Abort,
+    alloc: Global,
+    at: usize,
+    value: &Val,
+    ascending: &[Val],
+) -> Result<(), Fail> {
+    for (place, other) in ascending.iter().enumerate() {
+        assert_eq!(rt; value.before(other), at < place, "at {at} and {place}");
+        assert_eq!(rt;
+            value.copy(alloc)? == *other,
+            at == place,
+            "at {at} and {place}"
+        );
+    }
+    Ok(())
+}
+
 #[test]
 fn copies_are_equal_and_integers_stand_before_texts(rt: HostRuntime) -> Result<(), Fail> {
     let alloc = rt.alloc();
-    let ascending = [
-        Val::Long(-1),
-        Val::Long(10),
-        Val::Text(Name::new(alloc, "")?),
-        Val::Text(Name::new(alloc, "10")?),
-        Val::Text(Name::new(alloc, "9")?),
-        Val::Text(Name::new(alloc, "\u{e9}")?.copy(alloc)?),
-    ];
-    for (i, low) in ascending.iter().enumerate() {
-        for (j, high) in ascending.iter().enumerate() {
-            assert_eq!(rt; low.before(high), i < j, "at {i} and {j}");
-            assert_eq!(rt; low.copy(alloc)? == *high, i == j, "at {i} and {j}");
-        }
+    let values = ascending(alloc)?;
+    for (at, value) in values.iter().enumerate() {
+        compare(&rt, alloc, at, value, &values)?;
     }
-    let name = Name::new(alloc, "a")?;
+    Ok(())
+}
+
+#[test]
+fn names_keep_their_texts(rt: HostRuntime) -> Result<(), Fail> {
+    let alloc = rt.alloc();
+    let name = Name::new(alloc, "a")?.copy(alloc)?;
     assert_eq!(rt; name.text(), "a");
     assert_eq!(rt; name.bytes(), b"a".as_slice());
     Ok(())
@@ -86,6 +114,26 @@ const SCHEMAS: [(&str, u32, &[(&str, FieldType)]); 3] = [
     ),
 ];
 
+// Each field is found by its name at its number.
+fn compare_fields(
+    rt: &impl Abort,
+    schema: &Schema,
+    fields: &[(&str, FieldType)],
+) -> Result<(), Fail> {
+    for (number, (name, kind)) in fields.iter().enumerate() {
+        let id = schema.find(name.as_bytes()).ok_or("no field")?;
+        assert_eq!(rt; usize::from(id.0), number, "at {name}");
+        assert_eq!(rt; schema.field_type(id), *kind, "at {name}");
+    }
+    Ok(())
+}
+
+fn finds_no_other(schema: &Schema) -> bool {
+    ["", "aa", "Z9", "bb"]
+        .iter()
+        .all(|name| schema.find(name.as_bytes()).is_none())
+}
+
 #[test]
 fn fields_are_numbered_by_their_names(rt: HostRuntime) -> Result<(), Fail> {
     let alloc = rt.alloc();
@@ -93,14 +141,8 @@ fn fields_are_numbered_by_their_names(rt: HostRuntime) -> Result<(), Fail> {
         let schema = Schema::read(alloc, &Value::from_str(alloc, text)?)?;
         assert_eq!(rt; schema.shards(), shards, "at {text}");
         assert_eq!(rt; usize::from(schema.fields()), fields.len(), "at {text}");
-        for (number, (name, kind)) in fields.iter().enumerate() {
-            let id = schema.find(name.as_bytes()).ok_or("no field")?;
-            assert_eq!(rt; usize::from(id.0), number, "at {name}");
-            assert_eq!(rt; schema.field_type(id), *kind, "at {name}");
-        }
-        for name in ["", "aa", "Z9", "bb"] {
-            assert!(rt; schema.find(name.as_bytes()).is_none(), "at {name}");
-        }
+        compare_fields(&rt, &schema, fields)?;
+        assert!(rt; finds_no_other(&schema), "at {text}");
     }
     Ok(())
 }
