@@ -1,5 +1,5 @@
 -- A shard has no more batches, line by line, than the commits of the whole script.
-use Rattle.std.proofs.Common.{◌≡◌, ℕ, zero, suc, ◌+◌, ◌<◌, ◌≤◌, List, [], ◌∷◌, length, map, fold, get_or, None, Some, true, sym, ◌∙◌, ap, subst, arith}
+use Rattle.std.proofs.Common.{◌≡◌, ℕ, zero, suc, ◌<◌, ◌≤◌, List, [], ◌∷◌, length, map, fold, get_or, None, Some, true, ◌∙◌, ap, arith}
 use Rattle.std.specs.Prelude.{nat_le}
 use Rattle.std.proofs.lemmas.Bool.{leb-true}
 use Rattle.std.proofs.lemmas.List.{length-append}
@@ -9,7 +9,7 @@ use Rattle.fc_spec.specs.scripts.AskedScripts.{AskedLine}
 use Rattle.fc_spec.specs.scripts.Script.{add, commit, sync, asks, batch_of}
 use Rattle.fc_spec.specs.scripts.ScriptTotals.{few_commits}
 use Rattle.fc_spec.proofs.scripts.BatchesSoFar.{commits_in}
-use Rattle.fc_script.specs.Gathered.{Gathered, ShardSoFar, changed_at, with_block, with_commit, with_commit_of, after, gathered}
+use Rattle.fc_script.specs.Gathered.{Gathered, ShardSoFar, changed_at, with_block, with_commit, after, gathered}
 use Rattle.fc_script.proofs.InRange.{each_below}
 use Rattle.fc_script.proofs.gathered.GatheredParts.{all_behind}
 use Rattle.fc_script.proofs.gathered.ShardsBehind.{shard_behind}

@@ -70,7 +70,7 @@ module _ (old new : Gathered) (q : Search) (shards : new.shards.items ≡ old.sh
   searched sessions session is =
       let number : length old.phases.items ≡ length (phases_view sessions old.phases.items) = sym (numbered-length sessions 0 old.phases.items) in
       let more : map (search_view sessions (length new.phases.items)) new.searches.items
-          ≡ map (search_view sessions (length old.phases.items)) old.searches.items ++ record { phase = length (phases_view sessions old.phases.items); session = session; request = asked_view q.request } ∷ [] =
+      ≡ map (search_view sessions (length old.phases.items)) old.searches.items ++ record { phase = length (phases_view sessions old.phases.items); session = session; request = asked_view q.request } ∷ [] =
       (λ i. map (search_view sessions (length (phases i))) (searches i)) ∙ map-append (search_view sessions (length old.phases.items)) old.searches.items (q ∷ [])
       ∙ (λ i. map (search_view sessions (length old.phases.items)) old.searches.items ++ record { phase = number i; session = is i; request = asked_view q.request } ∷ []) in
       λ i. record { shards = map shard_view (shards i); phases = phases_view sessions (phases i); searches = more i }

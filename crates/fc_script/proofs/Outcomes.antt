@@ -4,7 +4,7 @@ use Rattle.std.proofs.lemmas.List.{map-append}
 use Rattle.serde_json.specs.Data.{Data}
 use Rattle.fc_spec.specs.documents.Schema.{Schema}
 use Rattle.fc_spec.specs.requests.RequestReading.{request_of}
-use Rattle.fc_spec.specs.scripts.AskedScripts.{Asked, AskedLine, AskedScript, line_asking, asked, asked_script_of}
+use Rattle.fc_spec.specs.scripts.AskedScripts.{AskedLine, AskedScript, line_asking, asked, asked_script_of}
 use Rattle.fc_spec.specs.scripts.Script.{Line}
 use Rattle.fc_spec.specs.scripts.ScriptFault.{LineFault, ScriptFault, too_long}
 use Rattle.fc_spec.specs.scripts.ScriptReading.{Numbered, at_line, check_last, numbered_lines, schema_on, script_limit, script_of_lines, value_on, with_lines}

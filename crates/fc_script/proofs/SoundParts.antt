@@ -1,11 +1,9 @@
 -- What is known of a script by its parts.
-use Rattle.std.proofs.Common.{◌≡◌, ℕ, zero, suc, ◌+◌, ◌<◌, ◌≤◌, List, [], ◌∷◌, map, length, get_or, All, Vec, Global, refl, sym, ◌∙◌, ap, subst, arith}
+use Rattle.std.proofs.Common.{◌≡◌, ℕ, zero, suc, ◌<◌, ◌≤◌, List, [], ◌∷◌, map, length, get_or, All, Vec, Global, refl, sym, ◌∙◌, ap, subst, arith}
 use Rattle.std.specs.Arc.{arc_value}
 use Rattle.std.specs.List.{enumerate_from}
 use Rattle.std.proofs.lemmas.List.{get_or-map, length-map}
 use Rattle.std.proofs.lemmas.List.FromFn.{get_or-enumerate_from, length-enumerate_from, length-map-range_with_len}
-use Rattle.fc_spec.specs.documents.Schema.{Schema}
-use Rattle.fc_spec.specs.documents.Document as documents
 use Rattle.fc_spec.specs.documents.Val.{Text}
 use Rattle.fc_spec.specs.scripts.AskedScripts.{Asked, AskedScript}
 use Rattle.fc_spec.specs.scripts.Phases as definition

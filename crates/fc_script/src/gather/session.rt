@@ -10,9 +10,7 @@ use fc_base::Name;
 fn find(sessions: &[Name], session: &Name) -> Option<usize>
     ensures { result ≡ position (same_text session.now) sessions.now }
 {
-    sessions
-        .iter()
-        .position(|known| session.cmp(known).is_eq())
+    sessions.iter().position(|known| session.cmp(known).is_eq())
 }
 
 /// The number of a session that is among these.

@@ -1,6 +1,5 @@
-use Rattle.std.proofs.Common.{◌≡◌, ◌<◌, ◌+◌, suc, length, map, get_or, set, sym, ◌∙◌, ap, arith}
+use Rattle.std.proofs.Common.{◌≡◌, ◌+◌, suc, map, set, sym, ◌∙◌, ap, arith}
 use Rattle.std.proofs.lemmas.List.{length-map}
-use Rattle.fc_script.specs.Gathered.{with_commit}
 use Rattle.fc_script.specs.ShardView.{shard_view}
 use Rattle.fc_script.proofs.ShardSteps.{committed_from, committed_from-next, committed_from-end}
 use Rattle.fc_script.proofs.gather.shards.commit_all.Goals as goal
