@@ -54,16 +54,25 @@ def search(request):
     return {"search": {"session": "demo", "request": request}}
 
 
+# Starts the program from a small process, since a process that is started counts the memory of the one that started it as
+# its own until then; and tells the status, the seconds and the most kilobytes.
+LAUNCHER = """import json, os, sys
+child = os.posix_spawn(sys.argv[1], sys.argv[1:], os.environ)
+_, status, used = os.wait4(child, 0)
+print(json.dumps([os.waitstatus_to_exitcode(status), used.ru_utime + used.ru_stime, used.ru_maxrss]), file=sys.stderr)
+"""
+
+
 def run_once(program, path):
     """The processor time of one run, user and system, and the most memory that it had, in bytes; and its output."""
     with open(path, "rb") as script, tempfile.TemporaryFile() as output:
-        child = subprocess.Popen([program], stdin=script, stdout=output)
-        _, status, used = os.wait4(child.pid, 0)
-        child.returncode = os.waitstatus_to_exitcode(status)
-        if child.returncode != 0:
-            sys.exit(f"the program ended with status {child.returncode}")
+        launched = subprocess.run([sys.executable, "-c", LAUNCHER, program], stdin=script, stdout=output,
+                                  stderr=subprocess.PIPE, check=True)
+        status, seconds, peak = json.loads(launched.stderr.splitlines()[-1])
+        if status != 0:
+            sys.exit(f"the program ended with status {status}")
         output.seek(0)
-        return Cost(used.ru_utime + used.ru_stime, used.ru_maxrss * 1024), output.read()
+        return Cost(seconds, peak * 1024), output.read()
 
 
 class Case:
