@@ -127,7 +127,7 @@ def report(options, fewer, shards, every, whole, part, one, many):
     print(f"  peak memory    {peak:,} bytes, {peak / whole.size:.1f} for each byte (target: at most 10)")
     for name in one:
         each = (many[name].least.seconds - one[name].least.seconds) / options.searches
-        print(f"  one search     {1000 * each:.2f} ms, {each / seconds:.4f} of the reading: {name}")
+        print(f"  one search     {1000 * each:.2f} ms, {each / seconds:.4f} of the reading (target: at most 0.1): {name}")
     sys.stdout.flush()
 
 

@@ -51,8 +51,11 @@ def joined(lines):
 
 
 def spans(cell):
-    """The examples of a cell."""
-    return [lines[0] for lines in repeated(cell)]
+    """The examples of a cell; there is at least one."""
+    found = [lines[0] for lines in repeated(cell)]
+    if not found:
+        raise ValueError(f"a cell without an example: {cell}")
+    return found
 
 
 def repeated(cell):
@@ -99,6 +102,8 @@ def request_faults(cells, opening):
 
 
 def script_faults(cells, opening):
+    if cells[-1] not in NOT_HERE:
+        spans(cells[-1])
     for lines in [] if cells[-1] in NOT_HERE else repeated(cells[-1]):
         lines = lines if cells[-1].endswith("as the first line") else opening + lines
         yield lines, [compact({"error": cells[1].strip("`"), "line": len(lines), "number": int(cells[0])})]
@@ -148,16 +153,21 @@ def cases():
     """Every example of the guide."""
     with open(GUIDE, encoding="utf-8") as guide:
         lines = guide.read().split("\n")
-    scripts, waiting = {}, None
+    scripts, waiting, is_told = {}, None, True
     for line, words, content in blocks(lines):
         if words[0] == "script":
             scripts[words[1]] = waiting = joined(content)
         elif words[:2] == ["request", "behind"]:
-            waiting = scripts[words[2]] + [search(request) for request in joined(content)]
+            if not is_told:
+                raise ValueError(f"requests without replies before line {line}")
+            waiting, is_told = scripts[words[2]] + [search(request) for request in joined(content)], False
         elif words[0] == "replies":
+            is_told = True
             yield Case(line, waiting, joined(content))
         elif words[0] == "table":
             for row, text in enumerate(content):
                 cells = [cell.strip() for cell in text.strip("|").split("|")]
                 for script, replies in TABLES[words[1]](cells, scripts[words[2]]):
                     yield Case(line + 4 + row, script, replies)
+    if not is_told:
+        raise ValueError("the last requests have no replies")
