@@ -38,6 +38,7 @@ CONDITIONS = {
     "price:{5 TO *]": within("price", 6, 10**20),
     "price:[10 TO *]": within("price", 10, 10**20),
     "price:[* TO 50]": within("price", -10**20, 50),
+    "n:[8 TO *]": within("n", 8, 10**20),
     "price:[12 TO 5]": lambda d: False,
     "-price:5": none(five),
     "-price:*": lambda d: not d["price"],
