@@ -11,3 +11,4 @@ pub mod JoinedShards
 pub mod BlockTotals
 pub mod PlacedDocuments
 pub mod ValueKinds
+pub mod FoundPlaces

@@ -17,3 +17,4 @@ pub mod Beyond
 pub mod RoundComplete
 pub mod SearchEnds
 pub mod OwnBlocks
+pub mod ShardSets

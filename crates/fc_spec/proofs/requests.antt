@@ -5,10 +5,15 @@ pub mod LeastAndGreatest
 pub mod Statistics
 pub mod StatisticsOfParts
 pub mod EntryOrder
+pub mod EntryTotal
 pub mod SortedEntries
+pub mod RestEntries
 pub mod Together
 pub mod ValidChanges
 pub mod ValidKinds
 pub mod ValidNodes
 pub mod ValidStatistics
 pub mod ValidWalk
+pub mod BlockSteps
+pub mod SetChanges
+pub mod JoinedSets

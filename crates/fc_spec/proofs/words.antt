@@ -7,6 +7,7 @@ pub mod PermutedFilters
 pub mod Counting
 pub mod Ranked
 pub mod Sorting
+pub mod Rests
 pub mod Present
 pub mod Cancelling
 pub mod Orderings
@@ -15,3 +16,4 @@ pub mod Texts
 pub mod ReadingWords
 pub mod NumbersBelow
 pub mod Sums
+pub mod WhereTrue

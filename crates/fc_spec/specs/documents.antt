@@ -10,4 +10,5 @@ pub mod DocFault
 pub mod BlockReading
 pub mod ValidBlocks
 pub mod Totals
+pub mod Sets
 pub mod ValOrder

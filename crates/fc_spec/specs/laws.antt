@@ -11,3 +11,4 @@ pub mod QueryReadingLaw
 pub mod RequestLaws
 pub mod ScheduleLaw
 pub mod ScriptLaws
+pub mod Blockwise

@@ -4,6 +4,7 @@ pub mod Base
 pub mod Domain
 pub mod Gaps
 pub mod Buckets
+pub mod DomainSets
 pub mod Statistics
 pub mod Combining
 pub mod Ranks

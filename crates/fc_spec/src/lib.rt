@@ -4,6 +4,21 @@
 //! asked for.
 #![tactic(auto)]
 
+ghost use Rattle.fc_spec.specs.laws.Blockwise.{
+  AreSetsAgain,
+  BasesAreBlockwise,
+  BasesJoin,
+  BasesOfShards,
+  BucketsAreBlockwise,
+  BucketsJoin,
+  BucketsOfShards,
+  ChangesAreBlockwise,
+  ChangesJoin,
+  ChangesOfShards,
+  DocumentsJoin,
+  DocumentsOfShards,
+  KeepLengths,
+};
 ghost use Rattle.fc_spec.specs.laws.CombiningLaw.{CombinesLists, CombinesParts};
 ghost use Rattle.fc_spec.specs.scripts.JsonValues.{TextsAreJson};
 ghost use Rattle.fc_spec.specs.laws.Merging.{MergesIntoReply};
@@ -23,7 +38,7 @@ ghost use Rattle.fc_spec.specs.laws.RoundsEnd.{NothingLacksBeyond, RoundsAnswer,
 ghost use Rattle.fc_spec.specs.laws.ScheduleLaw.{PhasesGoOn, PinsAreLegal, RunsAreLegal};
 ghost use Rattle.fc_spec.specs.laws.ScriptLaws.{EndsAreOutputs, IsOnlyOutput, StandByPhase, WorldsAreWithin};
 ghost use Rattle.fc_spec.specs.laws.ShardAlone.{AnswersFromItsBlocks};
-ghost use Rattle.fc_spec.specs.laws.SortingLaw.{PagesAreCuts, RanksAreFronts};
+ghost use Rattle.fc_spec.specs.laws.SortingLaw.{PagesAreCuts, RanksAreFronts, RestsKeepFronts, RestsKeepPages};
 ghost use Rattle.fc_spec.specs.laws.SpellingLaw.{HasOneSpelling};
 ghost use Rattle.fc_spec.specs.laws.WithoutLimits.{
   IsExactOverSingle,
@@ -37,10 +52,12 @@ pub fn statistics_combine()
     ensures parts { CombinesParts }
 {}
 
-/// What ranks select is what sorting and cutting give.
+/// What ranks select is what sorting and cutting give, and what stands behind enough others plays no part in it.
 pub fn ranks_are_sorting()
     ensures pages { PagesAreCuts }
     ensures fronts { RanksAreFronts }
+    ensures rests { RestsKeepFronts }
+    ensures pages_of_rests { RestsKeepPages }
 {}
 
 /// Without limits the distributed reply is the exact reply over the same world, and that of a single index.
@@ -58,6 +75,31 @@ pub fn refined_paths_are_exact()
 /// A shard's answer is made from its own blocks, and its number plays no part.
 pub fn shards_answer_alone()
     ensures { AnswersFromItsBlocks }
+{}
+
+/// The base, a domain change and the places of a bucket are made list of blocks by list of blocks.
+pub fn places_are_blockwise()
+    ensures bases { BasesAreBlockwise }
+    ensures changes { ChangesAreBlockwise }
+    ensures buckets { BucketsAreBlockwise }
+    ensures lengths { KeepLengths }
+    ensures sets { AreSetsAgain }
+{}
+
+/// Where lists of blocks are joined, the sets that are made of them stand one behind the other.
+pub fn sets_join()
+    ensures bases { BasesJoin }
+    ensures changes { ChangesJoin }
+    ensures buckets { BucketsJoin }
+    ensures documents { DocumentsJoin }
+{}
+
+/// What the base, a domain change and a bucket have on a shard is made from that shard's blocks.
+pub fn shards_change_alone()
+    ensures bases { BasesOfShards }
+    ensures changes { ChangesOfShards }
+    ensures buckets { BucketsOfShards }
+    ensures documents { DocumentsOfShards }
 {}
 
 /// Answers that lack nothing merge into the distributed reply.

@@ -27,7 +27,7 @@ lesser_assoc (Some a) (Some b) None = refl
 lesser_assoc (Some a) (Some b) (Some c) = ap Some (omega (arith, ints, clamps))
 
 -- the greatest of three
-greater_assoc : (a b c : Option ℤ) → greater (greater a b) c ≡ greater a (greater b c)
+pub greater_assoc : (a b c : Option ℤ) → greater (greater a b) c ≡ greater a (greater b c)
 greater_assoc None b c = refl
 greater_assoc (Some a) None c = refl
 greater_assoc (Some a) (Some b) None = refl

@@ -8,6 +8,8 @@ pub mod WantsByDepth
 pub mod ShopRounds
 pub mod EmptyRootRounds
 pub mod ShapedMessages
+pub mod ShapedStatistics
+pub mod ShapedParts
 pub mod MessageParts
 pub mod SeveralWants
 pub mod RefiningInside

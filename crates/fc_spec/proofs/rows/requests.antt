@@ -1,4 +1,5 @@
 pub mod DomainFaults
+pub mod FamilySets
 pub mod ReadRanges
 pub mod ReadRequests
 pub mod RequestBounds

@@ -28,7 +28,7 @@ module _ {X : Type 0} (before : X → X → Bool) (one_way : (a b : X) → befor
       rw (← (same ∙ filter_by_place before one_way t L up)) (IsPermutation-filter (λ e. t (place before V e)) V L members)
 
   -- the member at a place, where there is one
-  filter_at_place : (k : ℕ) → filter (λ e. place before V e == k) V ≡ take 1 (drop k L)
+  pub filter_at_place : (k : ℕ) → filter (λ e. place before V e == k) V ≡ take 1 (drop k L)
   filter_at_place k =
       let t : ℕ → Bool = λ n. n == k in
       let one = picked-one t k L (λ n. refl) in

@@ -7,7 +7,7 @@ use Rattle.fc_spec.specs.requests.Request.{Stat, Terms, Kind, Facet, Nodes, Requ
 use Rattle.fc_spec.specs.requests.Domain.{domain}
 use Rattle.fc_spec.specs.requests.Buckets.{Key, bucket_places}
 use Rattle.fc_spec.specs.requests.Statistics.{StatValue, Stats, value_over}
-use Rattle.fc_spec.specs.requests.Ranks.{below_rank, rank_bound}
+use Rattle.fc_spec.specs.requests.Ranks.{below_rank, offered_bound}
 use Rattle.fc_spec.specs.replies.Values.{entries_in}
 
 -- B holds a bucket, D the domain of a node. A list of shards names each once; nodes and statistics are numbered from 0 among those of their bucket
@@ -29,7 +29,7 @@ stats_on R ss H X = record { count = R.count_on H X; values = map (λ s. R.stati
 
 -- a shard ranks its own values over its own places, and offers those below the bound. Guide: JSON Facet API, "Terms Facet" (`overrequest`)
 abbrev pub offered : Terms → Nodes → List Place → ℕ → List Val
-offered t inner Y i = map (λ e. e.val) (below_rank t.sort (rank_bound t.offset t.limit t.overrequest) (entries_in t (stats_of inner) (on_shards (i ∷ []) Y)))
+offered t inner Y i = map (λ e. e.val) (below_rank t.sort (offered_bound t) (entries_in t (stats_of inner) (on_shards (i ∷ []) Y)))
 
 -- a bucket, and a domain, is a set of places
 abbrev pub over_places : Request → World → Reading (List Place) (List Place)

@@ -6,7 +6,7 @@ use Rattle.std.specs.declared.cmp.Ordering.{Ordering}
 use Rattle.std.specs.declared.cmp.Ordering.TheVariants.{Less, Equal, Greater}
 use Rattle.fc_spec.specs.documents.Val.{Val, val_cmp}
 use Rattle.fc_spec.specs.words.Lists.{is_below_bound}
-use Rattle.fc_spec.specs.requests.Request.{SortKey, by_count, by_index, by_statistic, Sort}
+use Rattle.fc_spec.specs.requests.Request.{SortKey, by_count, by_index, by_statistic, Sort, Terms}
 use Rattle.fc_spec.specs.requests.Statistics.{Stats, shown}
 
 -- a value with the count and the statistics of its places
@@ -62,3 +62,7 @@ page s offset limit V = of_ranks s V offset (unwrap_or limit (length V))
 -- the sum of a limit and further numbers, where there is a limit
 abbrev pub rank_bound : ℕ → Option ℕ → ℕ → Option ℕ
 rank_bound offset limit over = option_map (λ n. offset + n + over) limit
+
+-- below which rank a shard offers a value, where the facet has a limit. Guide: JSON Facet API, "Terms Facet" (`overrequest`)
+abbrev pub offered_bound : Terms → Option ℕ
+offered_bound t = rank_bound t.offset t.limit t.overrequest
