@@ -1,15 +1,14 @@
 // Reading a schema from JSON.
 ghost use Rattle.std.specs.Prelude.{◌≡◌, ◌<◌, IfOk, length, map, option_and_then, option_map};
-ghost use Rattle.std.specs.List.{list_all};
 ghost use Rattle.serde_json.specs.View.{view, members_view};
-ghost use Rattle.fc_spec.specs.documents.SchemaReading.{shards_of, type_named, type_for, field_of, fields_of, is_field_name, is_name_byte, is_underscored, schema_of, with_id};
+ghost use Rattle.fc_spec.specs.documents.SchemaReading.{shards_of, type_named, type_for, field_of, fields_of, is_field_name, is_underscored, schema_of, with_id};
 ghost use Rattle.fc_base.specs.Answers.{Answers, one_fault, or_fault};
 ghost use Rattle.fc_base.specs.ValidSchema.{IsFieldList};
 ghost use Rattle.fc_base.specs.View.{field_view, field_type_view};
 
 use super::Schema;
 use crate::field::Field;
-use crate::{FieldType, Name, Refusal, SchemaFault};
+use crate::{FieldType, Name, Refusal, SchemaFault, are_name_bytes};
 use serde_json::{Map, Value};
 use std::alloc::Global;
 
@@ -36,18 +35,6 @@ impl Schema {
             fields: read_fields(alloc, fields)?,
         })
     }
-}
-
-fn is_name_byte(byte: u8) -> bool
-    ensures { result ≡ is_name_byte byte }
-{
-    byte.is_ascii_alphanumeric() || byte == b'_'
-}
-
-fn are_name_bytes(text: &[u8]) -> bool
-    ensures { result ≡ list_all is_name_byte text.now }
-{
-    text.iter().all(|byte| is_name_byte(*byte))
 }
 
 fn is_underscored(name: &[u8]) -> bool
