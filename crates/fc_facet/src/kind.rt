@@ -143,7 +143,8 @@ impl Range {
         u128::from(gap) * u128::from(self.gap.unsigned_abs())
     }
 
-    fn low_end(&self, gap: u32) -> i64
+    /// The low end of a gap as a number.
+    pub fn low_end(&self, gap: u32) -> i64
         requires forward { HasFewGaps (range_view self.now) }
         requires there { gap < gap_count (range_view self.now) }
         ensures { result ≡ low_end (range_view self.now) gap }

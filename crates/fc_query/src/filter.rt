@@ -1,8 +1,10 @@
 // Filters and their tags.
 ghost use Rattle.std.specs.Prelude.{◌≡◌, ◌==◌, IfOk, map, option_map};
-ghost use Rattle.std.specs.List.{list_all, slice_split};
+ghost use Rattle.std.specs.List.{list_all, list_any, slice_split};
 ghost use Rattle.serde_json.specs.View.{view};
+ghost use Rattle.fc_spec.specs.documents.Val.{same_text};
 ghost use Rattle.fc_spec.specs.queries.FilterReading as reading;
+ghost use Rattle.fc_spec.specs.requests.Base as bases;
 ghost use Rattle.fc_spec.specs.scripts.JsonObjects as objects;
 ghost use Rattle.fc_spec.specs.queries.ValidQueries.{IsValidQuery};
 ghost use Rattle.fc_base.specs.Answers.{Answers};
@@ -11,7 +13,7 @@ ghost use Rattle.fc_query.specs.QueryView.{query_view};
 
 use crate::{FilterFault, Query, QueryFault, parse};
 use fc_base::json::sole_member;
-use fc_base::{Name, Refusal, Schema, WantMemory};
+use fc_base::{Name, Refusal, Schema, WantMemory, is_name_byte};
 use serde_json::Value;
 use std::alloc::{AllocError, Global};
 
@@ -23,10 +25,35 @@ pub struct Filter {
     pub query: Query,
 }
 
+impl Filter {
+    /// Whether the filter has one of the tags.
+    pub fn has_tag_in(&self, tags: &[Name]) -> bool
+        ensures { result ≡ bases.has_tag_in tags.now (filter_view self.now) }
+    {
+        for tag in &self.tags {
+            if has_tag(tag, tags) {
+                return true;
+            }
+        }
+        false
+    }
+}
+
+fn has_tag(tag: &Name, tags: &[Name]) -> bool
+    ensures { result ≡ list_any (same_text tag.now) tags.now }
+{
+    for other in tags {
+        if tag.cmp(other).is_eq() {
+            return true;
+        }
+    }
+    false
+}
+
 fn is_tag_byte(byte: u8) -> bool
     ensures { result ≡ reading.is_tag_byte byte }
 {
-    byte.is_ascii_alphanumeric() || byte == b'_' || byte == b'-' || byte == b'.'
+    is_name_byte(byte) || byte == b'-' || byte == b'.'
 }
 
 fn are_tag_bytes(text: &[u8]) -> bool

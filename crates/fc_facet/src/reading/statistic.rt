@@ -1,7 +1,6 @@
 // The statistic that a text asks for.
 ghost use Rattle.std.specs.Prelude.{◌≡◌, ◌≤◌, length, option_map};
 ghost use Rattle.std.specs.List.{list_all, prefix_len, suffix_len};
-ghost use Rattle.fc_spec.specs.documents.SchemaReading.{is_name_byte};
 ghost use Rattle.fc_spec.specs.queries.FilterReading.{cut_at};
 ghost use Rattle.fc_spec.specs.requests.StatisticReading as reading;
 ghost use Rattle.fc_base.specs.Answers.{Answers};
@@ -11,7 +10,7 @@ ghost use Rattle.fc_facet.specs.FaultView.{fault_view};
 use super::fields::holds_integers;
 use super::words::is_word;
 use crate::QFault;
-use fc_base::{Refusal, Schema, Stat, StatKind};
+use fc_base::{Refusal, Schema, Stat, StatKind, are_name_bytes};
 
 // How many spaces stand in front.
 fn spaces_before(text: &[u8]) -> usize
@@ -41,18 +40,6 @@ fn are_spaces(text: &[u8]) -> bool
     ensures { result ≡ list_all reading.is_space text.now }
 {
     text.iter().all(|byte| *byte == b' ')
-}
-
-fn is_name_byte(byte: u8) -> bool
-    ensures { result ≡ is_name_byte byte }
-{
-    byte.is_ascii_alphanumeric() || byte == b'_'
-}
-
-fn are_name_bytes(text: &[u8]) -> bool
-    ensures { result ≡ list_all is_name_byte text.now }
-{
-    text.iter().all(|byte| is_name_byte(*byte))
 }
 
 // One or more letters, digits and `_`.
