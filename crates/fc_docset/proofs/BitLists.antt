@@ -1,11 +1,12 @@
 -- The first bits of words, as a list.
-use Rattle.std.proofs.Common.{◌≡◌, ℕ, zero, suc, ◌+◌, ◌/◌, ◌%◌, ◌<◌, ◌≤◌, ◌⊎◌, inl, inr, Bool, true, false, ◌||◌, ◌==◌, List, [], ◌∷◌, length, map, get_or, take, get_or-take, set, replicate, refl, sym, ap, ap₂, ◌∙◌, arith, eq-eqb, ne_eqb}
+use Rattle.std.proofs.Common.{◌≡◌, ℕ, zero, suc, ◌+◌, ◌/◌, ◌%◌, ◌<◌, ◌≤◌, ◌⊎◌, inl, inr, Bool, true, false, ◌||◌, ◌==◌, List, [], ◌∷◌, length, get_or, take, get_or-take, set, replicate, refl, sym, ap, ap₂, ◌∙◌, arith, eq-eqb, ne_eqb}
 use Rattle.std.proofs.lemmas.List.{get_or-set_same, get_or-set_other, get_or-replicate, get_or_past, length-replicate, length-set}
 use Rattle.std.proofs.lemmas.List.FromFn.{length-map-range_with_len, get_or-map-range_with_len, fill_by_all}
 use Rattle.std.proofs.lemmas.Bool.{cases_eq, cases_lt}
 use Rattle.std.specs.Int.{bit_at}
 use Rattle.fc_spec.specs.documents.Bits.{has_bit, first_bits, HasBits}
-use Rattle.fc_docset.specs.Positions.{zip_with}
+use Rattle.fc_spec.specs.documents.Sets.{zip_with}
+use Rattle.fc_spec.proofs.words.WhereTrue.{length-zip_with}
 
 pub length-first_bits : (len : ℕ) (words : List ℕ) → length (first_bits len words) ≡ len
 length-first_bits len words = length-map-range_with_len (has_bit words) 0 len
@@ -71,16 +72,7 @@ first_bits-add len at old new bits is below added =
         ∙ sym (get_or-set_other bits at k true false other)
 
 -- ---- two sets joined position by position
-pub length-zip_with : (join : Bool → Bool → Bool) (bits others : List Bool) → length bits ≡ length others → length (zip_with join bits others) ≡ length bits
-length-zip_with join [] others size = refl
-length-zip_with join (bit ∷ bits) [] size = cc
-length-zip_with join (bit ∷ bits) (other ∷ others) size = let rest = length-zip_with join bits others (omega arith) in omega arith
-
-pub zip_with-map : {X : Type 0} (join : Bool → Bool → Bool) (f g : X → Bool) (xs : List X) → zip_with join (map f xs) (map g xs) ≡ map (λ x. join (f x) (g x)) xs
-zip_with-map join f g [] = refl
-zip_with-map join f g (x ∷ xs) = ap (λ l. join (f x) (g x) ∷ l) (zip_with-map join f g xs)
-
-get_or-zip_with : (join : Bool → Bool → Bool) (bits others : List Bool) (k : ℕ) → length bits ≡ length others → k < length bits
+pub get_or-zip_with : (join : Bool → Bool → Bool) (bits others : List Bool) (k : ℕ) → length bits ≡ length others → k < length bits
     → get_or (zip_with join bits others) k false ≡ join (get_or bits k false) (get_or others k false)
 get_or-zip_with join [] others k size within = absurd (omega arith)
 get_or-zip_with join (bit ∷ bits) [] k size within = absurd (omega arith)

@@ -1,3 +1,6 @@
 pub mod BitLists
 pub mod LowBits
 pub mod WholeWords
+pub mod WordNeighbours
+pub mod ChangedBits
+pub mod FrontWords

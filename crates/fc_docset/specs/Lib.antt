@@ -1,3 +1,4 @@
 pub mod Positions
 pub mod Stored
 pub mod Left
+pub mod Neighbours

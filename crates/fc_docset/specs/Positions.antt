@@ -1,5 +1,5 @@
 -- A set of positions is a list with a Bool for each position below its length.
-use Rattle.std.specs.Prelude.{ℕ, Bool, false, List, [], ◌∷◌, length, slice_index_or}
+use Rattle.std.specs.Prelude.{ℕ, Bool, false, List, length, slice_index_or}
 use Rattle.std.specs.List.{items_where_true, range_with_len}
 
 -- whether the position is in the set
@@ -13,9 +13,3 @@ positions_from from set = items_where_true set (range_with_len from (length set)
 -- the positions in the set, in ascending order
 abbrev pub positions : List Bool → List ℕ
 positions set = positions_from 0 set
-
--- two sets of one length, joined position by position
-abbrev pub zip_with : (Bool → Bool → Bool) → List Bool → List Bool → List Bool
-zip_with join [] others = []
-zip_with join (here ∷ set) [] = []
-zip_with join (here ∷ set) (there ∷ others) = join here there ∷ zip_with join set others

@@ -3,6 +3,7 @@
 #![tactic(auto)]
 
 mod iter;
+mod neighbours;
 mod set;
 mod words;
 

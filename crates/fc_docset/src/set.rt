@@ -1,11 +1,16 @@
 // Sets of positions.
-ghost use Rattle.std.specs.Prelude.{◌≡◌, ◌<◌, ◌≤◌, ◌&&◌, ◌||◌, true, false, not, length, count_by, replicate, slice_set, vec_len, IfOk};
+ghost use Rattle.std.specs.Prelude.{◌≡◌, ◌<◌, ◌≤◌, ◌^◌, ◌&&◌, ◌||◌, ℕ, true, false, not, length, count_by, nat_le, nat_lt, replicate, slice_set, vec_len, IfOk, MatchOption};
+ghost use Rattle.std.specs.Bool.{OnFalse, OnTrue};
 ghost use Rattle.fc_spec.specs.documents.Bits.{words_for, first_bits, HasBits};
-ghost use Rattle.fc_docset.specs.Positions.{contains, positions, zip_with};
+ghost use Rattle.fc_spec.specs.documents.Sets.{zip_with};
+ghost use Rattle.fc_docset.specs.Positions.{contains, positions};
+ghost use Rattle.fc_docset.specs.Neighbours.{HasNoneFrom, HasNoneUpTo, IsLastUpTo, IsNextFrom};
 
 use crate::Positions;
+use crate::neighbours::{has_bit_between, last_bit, next_bit};
 use crate::words::{
-    and_not_words, and_words, clear_from, count_bits, has_bit, or_words, set_bit, word_count,
+    and_not_words, and_words, clear_bit, clear_from, count_bits, has_bit, or_words, set_bit,
+    set_bits, word_count,
 };
 use fc_base::WantMemory;
 use std::alloc::Global;
@@ -135,6 +140,56 @@ impl DocSet {
         ensures { self.new ≡ slice_set self.old at true }
     {
         set_bit(&mut self.words, at);
+    }
+
+    /// Takes a position out of the set.
+    pub fn remove(&mut self, at: u32)
+        requires { at < length self.old }
+        ensures { self.new ≡ slice_set self.old at false }
+    {
+        clear_bit(&mut self.words, at);
+    }
+
+    /// Puts the positions from one up to another, which is left out, into the set.
+    pub fn add_range(&mut self, from: u32, to: u32)
+        requires ordered { from ≤ to }
+        requires within { to ≤ length self.old }
+        ensures set { (k : ℕ) → contains self.new k
+            ≡ (contains self.old k || (nat_le from k && nat_lt k to)) }
+        ensures length { length self.new ≡ length self.old }
+    {
+        set_bits(&mut self.words, from, to);
+    }
+
+    /// The least position of the set that is at least `from`.
+    pub fn next_from(&self, from: u32) -> Option<u32>
+        ensures found { MatchOption result
+            (HasNoneFrom (contains self.now) from)
+            (IsNextFrom (contains self.now) from) }
+        ensures small { length self.now < 2 ^ 32 }
+    {
+        next_bit(&self.words, from)
+    }
+
+    /// Whether a position from `first` to `last`, both included, is in the set. None is where `first` is above `last`.
+    pub fn has_between(&self, first: u32, last: u32) -> bool
+        requires { last < length self.now }
+        ensures some { OnTrue result
+            ((k : ℕ) × (first ≤ k) × (k ≤ last) × (contains self.now k ≡ true)) }
+        ensures none { OnFalse result
+            ((k : ℕ) → first ≤ k → k ≤ last → contains self.now k ≡ false) }
+    {
+        has_bit_between(&self.words, first, last)
+    }
+
+    /// The greatest position of the set that is at most `to`.
+    pub fn last_up_to(&self, to: u32) -> Option<u32>
+        requires { to < length self.now }
+        ensures { MatchOption result
+            (HasNoneUpTo (contains self.now) to)
+            (IsLastUpTo (contains self.now) to) }
+    {
+        last_bit(&self.words, to)
     }
 
     /// Whether a position is in the set.
