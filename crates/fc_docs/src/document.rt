@@ -7,6 +7,7 @@ ghost use Rattle.std.specs.Bool.{OnTrue};
 ghost use Rattle.std.specs.List.{list_all, range_with_len};
 ghost use Rattle.fc_base.specs.View.{val_view};
 ghost use Rattle.fc_spec.specs.documents.Document.{values_of};
+ghost use Rattle.fc_docs.specs.Fields.{Ascend, values_at};
 ghost use Rattle.fc_docs.specs.Sums.{absolute_sum};
 
 use fc_base::{FieldId, Val, WantMemory};
@@ -56,6 +57,15 @@ impl Document {
         ensures { map val_view result.now ≡ values_of self.now field.0 }
     {
         field_values::values_in(&self.values, field)
+    }
+
+    /// The fields that were given values, each with them, in the order of the fields. A field that is
+    /// not there has none.
+    pub fn fields(&self) -> &[(FieldId, Vec<Val>)]
+        ensures ascending { Ascend 0 result.now }
+        ensures values { (n : ℕ) → values_at result.now n ≡ values_of self.now n }
+    {
+        &self.values
     }
 
     /// Makes these the values in a field.

@@ -1,0 +1,12 @@
+use Rattle.std.proofs.Common.{ap, sym, ◌∙◌}
+use Rattle.fc_spec.specs.documents.Document.{values_of}
+use Rattle.fc_docs.specs.Fields.{values_at}
+use Rattle.fc_docs.proofs.FieldLists.{values_of-document_of}
+use Rattle.fc_docs.proofs.document.Document.fields.Goals as goal
+
+pub returns-clause-values : goal.returns-clause-values
+returns-clause-values c =
+    let kept = c.self.inside.values.items in
+    λ n. ap (λ es. values_at es n) c.deref.ensures.value
+    ∙ sym (values_of-document_of c.self.inside.fields kept n c.self.invariant.ends)
+    ∙ ap (λ d. values_of d n) c.self.view_is
