@@ -1,8 +1,8 @@
 -- A builder after texts of one more position.
-use Rattle.std.proofs.Common.{◌≡◌, ℕ, suc, Bool, true, false, true≢false, ◌||◌, List, [], ◌∷◌, ◌++◌, length, get_or, map, All, refl, sym, ap, ap₂, ◌∙◌, subst, arith}
+use Rattle.std.proofs.Common.{◌≡◌, ℕ, zero, suc, Bool, true, false, true≢false, ◌||◌, List, [], ◌∷◌, ◌++◌, length, get_or, map, replicate, All, refl, sym, ap, ap₂, ◌∙◌, subst, arith}
 use Rattle.std.proofs.Math.Bool.{or-false}
 use Rattle.std.proofs.lemmas.List.{map-append}
-use Rattle.std.proofs.lemmas.List.Elements.{All-push}
+use Rattle.std.proofs.lemmas.List.Elements.{All-push, All-append, All-replicate}
 use Rattle.std.proofs.lemmas.List.Folds.{list_any-append}
 use Rattle.std.specs.List.{list_any}
 use Rattle.fc_spec.specs.documents.Val.{Text, same_text, text_cmp}
@@ -106,3 +106,28 @@ left_half was now kept numbering others same rows spent =
       used = λ whole. absurd (true≢false (sym spent ∙ whole));
       whole = λ whole. absurd (true≢false (sym spent ∙ whole));
     }
+
+-- ---- with positions without a text
+map-empties : {X Y : Type 0} (f : List X → List Y) (count : ℕ) → f [] ≡ [] → map f (replicate count []) ≡ replicate count []
+map-empties f zero none = refl
+map-empties f (suc count) none = ap₂ (λ row rows. row ∷ rows) none (map-empties f count none)
+
+pub texts_skipped : (entries : Entries) (rows : List (List ℕ)) (count : ℕ)
+    → map (map (text_numbered entries)) (rows ++ replicate count []) ≡ map (map (text_numbered entries)) rows ++ replicate count []
+texts_skipped entries rows count =
+    map-append (map (text_numbered entries)) rows (replicate count []) ∙ ap (λ l. map (map (text_numbered entries)) rows ++ l) (map-empties (map (text_numbered entries)) count refl)
+
+none_there : (t : Text) (count : ℕ) → list_any (has_text t) (replicate count []) ≡ false
+none_there t zero = refl
+none_there t (suc count) = none_there t count
+
+pub used_skipped : (t : Text) (column : List (List Text)) (count : ℕ) → list_any (has_text t) (column ++ replicate count []) ≡ list_any (has_text t) column
+used_skipped t column count =
+    list_any-append (has_text t) column (replicate count []) ∙ ap (λ b. list_any (has_text t) column || b) (none_there t count) ∙ or-false (list_any (has_text t) column)
+
+pub all_skipped : {X : Type 0} (P : X → Type 0) (rows : List (List X)) (count : ℕ) → All (All P) rows → All (All P) (rows ++ replicate count [])
+all_skipped P rows count all = All-append (All P) rows (replicate count []) all (All-replicate (All P) count [] (λ k d none. absurd (omega arith)))
+
+pub ascending_skipped : (column : List (List Text)) (count : ℕ) → All (IsAscending text_cmp) column → All (IsAscending text_cmp) (column ++ replicate count [])
+ascending_skipped column count all =
+    All-append (IsAscending text_cmp) column (replicate count []) all (All-replicate (IsAscending text_cmp) count [] (λ i j d before none. absurd (omega arith)))

@@ -1,4 +1,13 @@
-pub mod LaidOut
+pub mod ItemsAt
+pub mod Cuts
+pub mod BitRanks
+pub mod Counts
+pub mod FirstEntries
+pub mod Spread
+pub mod ByNumber
+pub mod OfNumbers
+pub mod InOrder
+pub mod TermPositions
 pub mod Marks
 pub mod ValueLists
 pub mod Ascents

@@ -1,6 +1,16 @@
 pub mod Laid
+pub mod Among
+pub mod Items
+pub mod Entries
+pub mod Starts
+pub mod Lists
+pub mod Ranks
+pub mod Heads
 pub mod Rows
+pub mod Placed
+pub mod Ordered
 pub mod Longs
+pub mod LongColumn
 pub mod LongBuilder
 pub mod Terms
 pub mod Dictionary

@@ -1,27 +1,23 @@
--- What one list with the places where rows start stands for.
-use Rattle.std.specs.Prelude.{◌≡◌, ℕ, ◌+◌, ◌-◌, ◌^◌, ◌<◌, ◌≤◌, List, drop, length, map, slice_index, slice_range, vec_len}
+-- What the bits of the positions with items, and the items of these, stand for.
+use Rattle.std.specs.Prelude.{◌≡◌, ℕ, ◌*◌, ◌^◌, ◌<◌, ◌≤◌, List, [], length, map, slice_index, slice_index_or, All, vec_len, if◌then◌else◌, false}
 use Rattle.std.specs.List.{range_with_len}
-use Rattle.fc_column.specs.Laid.{Laid}
+use Rattle.fc_spec.specs.documents.Bits.{has_bit, words_for}
+use Rattle.fc_column.specs.Ranks.{bits_below}
 use Rattle.fc_column.specs.declared.rows.Rows.TheInside.{Inside}
 
--- the items from one start up to the next
-abbrev pub row_at : {T : Type 0} → List ℕ → List T → ℕ → List T
-row_at starts items at = slice_range items (slice_index starts at) (slice_index starts (at + 1))
+-- the items of a position: where its bit is 1, the list that stands behind those of the positions below it
+abbrev pub row_at : {T : Type 0} → List ℕ → List (List T) → ℕ → List T
+row_at words lists at = if has_bit words at then slice_index_or lists (bits_below at words) [] else []
 
--- the rows, and what stands behind the last start
-abbrev pub laid_out : {T : Type 0} → List ℕ → List T → Laid T
-laid_out starts items = record {
-  rows = map (row_at starts items) (range_with_len 0 (length starts - 1));
-  next = drop (slice_index starts (length starts - 1)) items;
-}
+abbrev pub spread : {T : Type 0} → Inside T → List (List T)
+spread inside = map (row_at inside.words.items inside.lists) (range_with_len 0 inside.len)
 
-abbrev pub laid : {T : Type 0} → Inside T → Laid T
-laid inside = laid_out inside.starts.items inside.items.items
-
--- the first row starts at 0, no row starts before the one ahead of it, and the next row starts within the items
-pub record IsLaidOut {T : Type 0} (inside : Inside T) : Type 0 where
-  pub some : 0 < vec_len inside.starts
-  pub few : vec_len inside.starts ≤ 2 ^ 32
-  pub first : slice_index inside.starts.items 0 ≡ 0
-  pub rising : (k : ℕ) → k + 1 < vec_len inside.starts → slice_index inside.starts.items k ≤ slice_index inside.starts.items (k + 1)
-  pub within : (k : ℕ) → k < vec_len inside.starts → slice_index inside.starts.items k ≤ vec_len inside.items
+-- the bits below each word are counted; there is a list for each bit, and none of them is empty
+pub record AreSpread {T : Type 0} (inside : Inside T) : Type 0 where
+  pub small : inside.len < 2 ^ 32
+  pub few : vec_len inside.words ≤ words_for inside.len
+  pub none_past : (at : ℕ) → inside.len ≤ at → has_bit inside.words.items at ≡ false
+  pub counts : vec_len inside.words ≤ vec_len inside.before
+  pub counted : (i : ℕ) → i ≤ vec_len inside.words → slice_index inside.before.items i ≡ bits_below (64 * i) inside.words.items
+  pub whole : bits_below (64 * length inside.words.items) inside.words.items ≡ length inside.lists
+  pub some : All (λ list. 0 < length list) inside.lists

@@ -1,12 +1,12 @@
 // Making columns of texts.
-ghost use Rattle.std.specs.Prelude.{◌≡◌, [], ◌∷◌, ◌++◌, map, All, IfOk, OnOk};
+ghost use Rattle.std.specs.Prelude.{◌≡◌, [], ◌∷◌, ◌++◌, length, map, replicate, All, IfOk, OnOk};
 ghost use Rattle.fc_spec.specs.documents.Columns.{IsText, IsAscending, texts_in};
 ghost use Rattle.fc_spec.specs.documents.Val.{val_cmp};
 ghost use Rattle.fc_base.specs.View.{val_view};
 
 use crate::TextColumn;
+use crate::entries::Entries;
 use crate::numbers::{into_texts, number_of, ranks};
-use crate::rows::Rows;
 use fc_base::{Name, Val, WantMemory};
 use std::alloc::Global;
 use std::collections::BTreeMap;
@@ -18,7 +18,7 @@ pub struct TextBuilder {
     // Each text, with its number: the numbers count the texts in the order in which they came.
     numbers: BTreeMap<Name, u32>,
     // The numbers of the texts of each position.
-    rows: Rows<u32>,
+    rows: Entries<u32>,
     // A call wanted memory, and a position may be half made.
     spent: bool,
     alloc: Global,
@@ -44,10 +44,17 @@ impl TextBuilder {
     {
         Ok(TextBuilder {
             numbers: BTreeMap::new(alloc),
-            rows: Rows::new(alloc)?,
+            rows: Entries::new(alloc),
             spent: false,
             alloc,
         })
+    }
+
+    /// How many positions were added.
+    pub fn len(&self) -> u32
+        ensures { result ≡ length self.now }
+    {
+        self.rows.len()
     }
 
     /// Adds a position with these values, which stand in index order, each once. There are at most
@@ -74,6 +81,17 @@ impl TextBuilder {
         Ok(())
     }
 
+    /// Adds so many positions without a value. They cost no memory.
+    pub fn skip(&mut self, count: u32) -> Result<(), WantMemory>
+        ensures { OnOk result (self.new ≡ self.old ++ replicate count []) }
+    {
+        if self.spent {
+            return Err(WantMemory);
+        }
+        self.rows.skip(count)?;
+        Ok(())
+    }
+
     /// The column of the positions that were added.
     pub fn finish(self) -> Result<TextColumn, WantMemory>
         ensures { IfOk result (λ column. column ≡ self) }
@@ -83,8 +101,14 @@ impl TextBuilder {
         }
         let ranks = ranks(self.alloc, &self.numbers)?;
         let terms = into_texts(self.alloc, self.numbers)?;
-        let mut ordinals = self.rows;
-        ordinals.renumber(&ranks);
-        Ok(TextColumn { terms, ordinals })
+        let mut rows = self.rows;
+        rows.renumber(&ranks);
+        let ordinals = rows.rows(self.alloc)?;
+        let positions = rows.positions(self.alloc, terms.len() as u32)?;
+        Ok(TextColumn {
+            terms,
+            ordinals,
+            positions,
+        })
     }
 }

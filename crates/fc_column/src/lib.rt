@@ -2,10 +2,16 @@
 //! call of a builder, can answer want of memory; nothing else is refused.
 #![tactic(auto)]
 
+mod bits;
 mod builder;
+mod entries;
+mod lists;
 mod long;
+mod numbered;
 mod numbers;
+mod ordered;
 mod rows;
+mod sums;
 mod text;
 
 pub use builder::TextBuilder;

@@ -1,12 +1,16 @@
 // Columns of integers.
-ghost use Rattle.std.specs.Prelude.{◌≡◌, ◌<◌, ◌≤◌, [], ◌∷◌, ◌++◌, length, map, slice_index_or, All, IfOk, OnOk};
+ghost use Rattle.std.specs.Prelude.{◌≡◌, ℕ, ◌==◌, ◌<◌, ◌≤◌, [], ◌∷◌, ◌++◌, length, map, not, replicate, count_by, slice_index_or, true, All, IfOk, OnOk};
 ghost use Rattle.std.specs.Ordering.{int_cmp};
 ghost use Rattle.fc_spec.specs.documents.Bits.{words_for, HasBits};
 ghost use Rattle.fc_spec.specs.documents.Columns.{IsLong, IsAscending, longs_in};
 ghost use Rattle.fc_spec.specs.documents.Val.{val_cmp};
 ghost use Rattle.fc_base.specs.View.{val_view};
-ghost use Rattle.fc_column.specs.Longs.{has_between};
+ghost use Rattle.fc_spec.specs.documents.IntegerTexts.{is_long};
+ghost use Rattle.fc_spec.specs.words.Lists.{is_empty};
+ghost use Rattle.fc_column.specs.Longs.{is_between, has_between};
 
+use crate::bits::mark;
+use crate::entries::Entries;
 use crate::rows::Rows;
 use fc_base::{Val, WantMemory};
 use std::alloc::Global;
@@ -16,27 +20,31 @@ use std::marker::Model;
 /// ascending order, each once.
 #[derive(Debug, Drop)]
 pub struct LongColumn {
-    values: Rows<i64>,
+    rows: Rows<i64>,
+    // The integers of all positions in ascending order, and beside each its position.
+    values: Vec<i64>,
+    positions: Vec<u32>,
 }
 
 impl Model for LongColumn {
-    ghost use Rattle.std.specs.Prelude.{ℤ, List, All};
-    ghost use Rattle.std.specs.Ordering.{int_cmp};
-    ghost use Rattle.fc_spec.specs.documents.Columns.{IsAscending};
+    ghost use Rattle.std.specs.Prelude.{ℤ, List};
 
     ghost Value = { List (List ℤ) };
 
-    ghost view = { λ column. column.values.rows };
+    ghost use Rattle.fc_column.specs.LongColumn.{IsColumn};
 
-    ghost invariant = { λ column. All (IsAscending int_cmp) column.values.rows };
+    ghost view = { λ column. column.rows };
+
+    ghost invariant = { IsColumn };
 }
 
 impl LongColumn {
     /// How many positions there are.
     pub fn len(&self) -> u32
-        ensures { result ≡ length self.now }
+        ensures count { result ≡ length self.now }
+        ensures long { All (All (λ value. is_long value ≡ true)) self.now }
     {
-        self.values.len()
+        self.rows.len()
     }
 
     /// The integers of a position.
@@ -44,8 +52,18 @@ impl LongColumn {
         requires { doc < length self.now }
         ensures values { result.now ≡ slice_index_or self.now doc [] }
         ensures ascending { IsAscending int_cmp result.now }
+        ensures long { All (λ value. is_long value ≡ true) result.now }
     {
-        self.values.row(doc)
+        self.rows.row(doc)
+    }
+
+    /// Makes the bits exactly those of the positions with an integer. Bit j of word i stands for
+    /// position 64 i + j.
+    pub fn any(&self, into: &mut [u64])
+        requires { words_for (length self.now) ≤ length into.old }
+        ensures { HasBits into.new (map (λ values. not (is_empty values)) self.now) }
+    {
+        self.rows.any(into);
     }
 
     /// Makes the bits exactly those of the positions with an integer from `lo` to `hi`, both included.
@@ -54,30 +72,33 @@ impl LongColumn {
         requires { words_for (length self.now) ≤ length into.old }
         ensures { HasBits into.new (map (has_between lo hi) self.now) }
     {
-        into.fill(0);
-        for doc in 0..self.len() {
-            if self.has_between(doc, lo, hi) {
-                into[(doc / 64) as usize] |= 1 << (doc % 64);
-            }
-        }
+        mark(self.positions_between(lo, hi), into);
     }
 
-    fn has_between(&self, doc: u32, lo: i64, hi: i64) -> bool
-        requires { doc < length self.now }
-        ensures { result ≡ has_between lo hi (slice_index_or self.now doc []) }
+    /// The positions with an integer from `lo` to `hi`, both included, in the order of their integers:
+    /// each once for each such integer.
+    pub fn positions_between(&self, lo: i64, hi: i64) -> &[u32]
+        ensures positions { (at : ℕ) → count_by (λ position. position == at) result.now
+            ≡ count_by (is_between lo hi) (slice_index_or self.now at []) }
+        ensures within { All (λ at. at < length self.now) result.now }
     {
-        self.values_of(doc)
-            .iter()
-            .any(|value| lo <= *value && *value <= hi)
+        let from = self.values.partition_point(|value| value.cmp(&lo).is_lt());
+        let to = self.values.partition_point(|value| value.cmp(&hi).is_le());
+        if from < to {
+            &self.positions[from..to]
+        } else {
+            &[]
+        }
     }
 }
 
 /// Makes a column of integers, position by position. After want of memory it is only dropped.
 #[derive(Debug, Drop)]
 pub struct LongBuilder {
-    values: Rows<i64>,
+    values: Entries<i64>,
     // A call wanted memory, and a position may be half made.
     spent: bool,
+    alloc: Global,
 }
 
 impl Model for LongBuilder {
@@ -98,9 +119,17 @@ impl LongBuilder {
         ensures { IfOk result (λ builder. builder ≡ []) }
     {
         Ok(LongBuilder {
-            values: Rows::new(alloc)?,
+            values: Entries::new(alloc),
             spent: false,
+            alloc,
         })
+    }
+
+    /// How many positions were added.
+    pub fn len(&self) -> u32
+        ensures { result ≡ length self.now }
+    {
+        self.values.len()
     }
 
     /// Adds a position with these values, which stand in index order, each once. There are at most
@@ -126,6 +155,16 @@ impl LongBuilder {
         Ok(())
     }
 
+    /// Adds so many positions without a value. They cost no memory.
+    pub fn skip(&mut self, count: u32) -> Result<(), WantMemory>
+        ensures { OnOk result (self.new ≡ self.old ++ replicate count []) }
+    {
+        if self.spent {
+            return Err(WantMemory);
+        }
+        self.values.skip(count)
+    }
+
     /// The column of the positions that were added.
     pub fn finish(self) -> Result<LongColumn, WantMemory>
         ensures { IfOk result (λ column. column ≡ self) }
@@ -133,8 +172,12 @@ impl LongBuilder {
         if self.spent {
             return Err(WantMemory);
         }
+        let rows = self.values.rows(self.alloc)?;
+        let (values, positions) = self.values.in_order(self.alloc)?;
         Ok(LongColumn {
-            values: self.values,
+            rows,
+            values,
+            positions,
         })
     }
 }

@@ -1,103 +1,118 @@
-// Lists in one list, one after another.
-ghost use Rattle.std.specs.Prelude.{◌≡◌, ◌+◌, ◌<◌, ◌≤◌, [], ◌∷◌, ◌++◌, length, map, slice_index, slice_index_or, All, IfOk, OnOk, OnErr};
-ghost use Rattle.fc_column.specs.Rows.{row_at};
+// The items of each position, where most positions may have none.
+ghost use Rattle.std.specs.Prelude.{◌≡◌, ◌<◌, ◌≤◌, ◌^◌, [], length, map, not, slice_index, slice_index_or, take, true, vec_len, All, IfOk, MatchBool};
+ghost use Rattle.std.specs.List.Sorted.{IsNonDecreasingBy};
+ghost use Rattle.fc_spec.specs.documents.Bits.{words_for, HasBits};
+ghost use Rattle.fc_spec.specs.words.Lists.{is_empty};
+ghost use Rattle.fc_column.specs.Among.{is_among};
+ghost use Rattle.fc_column.specs.Items.{rows_below};
+ghost use Rattle.fc_column.specs.Heads.{AreHeads};
 
+use crate::bits::{bits_before, copy_bits, rank, words_of};
+use crate::entries::{Entry, items_of};
+use crate::lists::Lists;
 use fc_base::WantMemory;
 use std::alloc::Global;
 use std::marker::Model;
 
-/// Rows of items, and the items of the next row.
+/// The items of each position, seen as the list of their lists.
 #[derive(Debug, Drop)]
 pub struct Rows<T> {
-    items: Vec<T>,
-    // Where each row starts, and the next one.
-    starts: Vec<u32>,
+    len: u32,
+    // Bit j of word i is 1 where position 64 i + j has items. There are no words past the last one.
+    words: Vec<u64>,
+    // How many positions before each word have items.
+    before: Vec<u32>,
+    // The items of the positions that have some.
+    lists: Lists<T>,
 }
 
 impl<T> Model for Rows<T> {
-    ghost use Rattle.fc_column.specs.Laid.{Laid};
+    ghost use Rattle.std.specs.Prelude.{List};
 
-    ghost Value = { Laid T };
+    ghost Value = { List (List T) };
 
-    ghost use Rattle.fc_column.specs.Rows.{laid, IsLaidOut};
+    ghost use Rattle.fc_column.specs.Rows.{spread, AreSpread};
 
-    ghost view = { laid };
+    ghost view = { spread };
 
-    ghost invariant = { IsLaidOut };
+    ghost invariant = { AreSpread };
+}
+
+impl<T: Copy> Rows<T> {
+    /// The items of each position below `len`, from entries in the order of their positions.
+    pub fn of(alloc: Global, entries: &[Entry<T>], len: u32) -> Result<Rows<T>, WantMemory>
+        requires rising { IsNonDecreasingBy (λ entry. entry.at) entries.now }
+        requires below { All (λ entry. entry.at < len) entries.now }
+        requires few { length entries.now < 2 ^ 32 }
+        ensures { IfOk result (λ rows. rows ≡ rows_below entries.now len) }
+    {
+        let (positions, starts) = heads(alloc, entries)?;
+        let items = items_of(alloc, entries)?;
+        let words = words_of(alloc, &positions)?;
+        let before = bits_before(alloc, &words)?;
+        Ok(Rows {
+            len,
+            words,
+            before,
+            lists: Lists::new(items, starts),
+        })
+    }
 }
 
 impl<T: Drop> Rows<T> {
-    /// No row yet.
-    pub fn new(alloc: Global) -> Result<Rows<T>, WantMemory>
-        ensures { IfOk result (λ made. made ≡ record { rows = []; next = [] }) }
-    {
-        Ok(Rows {
-            items: Vec::new(alloc),
-            starts: vec![in alloc; 0]?,
-        })
-    }
-
-    /// Adds an item to the next row.
-    pub fn push(&mut self, item: T) -> Result<(), WantMemory>
-        ensures ok { OnOk result
-            (self.new ≡ record self.old { next = self.old.next ++ item ∷ [] }) }
-        ensures err { OnErr result (self.new ≡ self.old) }
-    {
-        self.items.push(item)?;
-        Ok(())
-    }
-
-    /// Ends the next row. There are at most as many rows and items as a `u32` counts: past them, memory
-    /// is wanted.
-    pub fn end_row(&mut self) -> Result<(), WantMemory>
-        ensures ok { OnOk result
-            (self.new ≡ record { rows = self.old.rows ++ self.old.next ∷ []; next = [] }) }
-        ensures err { OnErr result (self.new ≡ self.old) }
-    {
-        if self.starts.len() > u32::MAX as usize {
-            return Err(WantMemory);
-        }
-        let start = u32::try_from(self.items.len()).ok().ok_or(WantMemory)?;
-        self.starts.push(start)?;
-        Ok(())
-    }
-
-    /// How many rows there are.
+    /// How many positions there are.
     pub fn len(&self) -> u32
-        ensures { result ≡ length self.now.rows }
+        ensures { result ≡ length self.now }
     {
-        (self.starts.len() - 1) as u32
+        self.len
     }
 
-    /// The items of a row.
+    /// The items of a position.
     pub fn row(&self, at: u32) -> &[T]
-        requires { at < length self.now.rows }
-        ensures { result.now ≡ slice_index_or self.now.rows at [] }
+        requires { at < length self.now }
+        ensures { result.now ≡ slice_index_or self.now at [] }
     {
-        part(&self.items, &self.starts, at as usize)
-    }
-}
-
-// The items from one start up to the next.
-fn part<'a, T>(items: &'a [T], starts: &[u32], at: usize) -> &'a [T]
-    requires more { at + 1 < length starts.now }
-    requires order { slice_index starts.now at ≤ slice_index starts.now (at + 1) }
-    requires within { slice_index starts.now (at + 1) ≤ length items.now }
-    ensures { result.now ≡ row_at starts.now items.now at }
-{
-    &items[starts[at] as usize..starts[at + 1] as usize]
-}
-
-impl Rows<u32> {
-    /// Puts the number that stands at its place in the list in place of each item.
-    pub fn renumber(&mut self, numbers: &[u32])
-        requires within { All (All (λ item. item < length numbers.now)) self.old.rows }
-        requires whole { self.old.next ≡ [] }
-        ensures { self.new ≡ record
-            { rows = map (map (λ item. slice_index numbers.now item)) self.old.rows; next = [] } }
-    {
-        for item in self.items.iter_mut() {
-            *item = numbers[*item as usize];
+        match rank(&self.words, &self.before, at) {
+            Some(rank) => self.lists.list(rank),
+            None => &[],
         }
     }
+
+    /// Makes the bits exactly those of the positions with an item.
+    pub fn any(&self, into: &mut [u64])
+        requires { words_for (length self.now) ≤ length into.old }
+        ensures { HasBits into.new (map (λ row. not (is_empty row)) self.now) }
+    {
+        copy_bits(&self.words, into);
+    }
+}
+
+// The positions that have items, where the items of each start, and where the last ones end.
+fn heads<T: Copy>(alloc: Global, entries: &[Entry<T>]) -> Result<(Vec<u32>, Vec<u32>), WantMemory>
+    requires rising { IsNonDecreasingBy (λ entry. entry.at) entries.now }
+    requires few { length entries.now < 2 ^ 32 }
+    ensures { IfOk result (λ made.
+        AreHeads (map (λ entry. entry.at) entries.now) made.0.items made.1.items) }
+{
+    let mut positions = Vec::new(alloc);
+    let mut starts = Vec::new(alloc);
+    for (place, entry) in entries.iter().enumerate() {
+        if is_head(entries, place) {
+            positions.push(entry.at)?;
+            starts.push(place as u32)?;
+        }
+    }
+    starts.push(entries.len() as u32)?;
+    Ok((positions, starts))
+}
+
+// Whether the entry at a place is the first of its position.
+fn is_head<T: Copy>(entries: &[Entry<T>], place: usize) -> bool
+    requires rising { IsNonDecreasingBy (λ entry. entry.at) entries.now }
+    requires within { place < length entries.now }
+    ensures { let all = map (λ entry. entry.at) entries.now in let at = slice_index all place in
+        MatchBool result (All (λ before. before < at) (take place all))
+        (is_among at (take place all) ≡ true) }
+{
+    place == 0 || entries[place - 1].at != entries[place].at
 }

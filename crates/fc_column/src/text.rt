@@ -1,10 +1,15 @@
 // Columns of texts.
-ghost use Rattle.std.specs.Prelude.{◌≡◌, ℕ, ◌<◌, ◌≤◌, [], length, map, slice_index_or, All, IfSome, is_some};
+ghost use Rattle.std.specs.Prelude.{◌≡◌, ℕ, ◌<◌, ◌≤◌, [], length, map, not, slice_index_or, All, IfSome, is_some};
 ghost use Rattle.std.specs.List.{list_any};
 ghost use Rattle.std.specs.List.Sorted.{IsStrictlyIncreasing};
 ghost use Rattle.fc_spec.specs.documents.Bits.{words_for, HasBits};
+ghost use Rattle.fc_spec.specs.words.Lists.{is_empty};
+ghost use Rattle.fc_docset.specs.Positions.{positions};
+ghost use Rattle.fc_column.specs.Among.{is_among};
 ghost use Rattle.fc_column.specs.Terms.{terms_of, terms_below, terms_up_to, ordinals_in, has_text, has_from_to};
 
+use crate::bits::mark;
+use crate::lists::Lists;
 use crate::rows::Rows;
 use fc_base::Name;
 use std::marker::Model;
@@ -16,6 +21,8 @@ use std::marker::Model;
 pub struct TextColumn {
     pub(crate) terms: Vec<Name>,
     pub(crate) ordinals: Rows<u32>,
+    // The positions of each ordinal.
+    pub(crate) positions: Lists<u32>,
 }
 
 impl Model for TextColumn {
@@ -92,6 +99,26 @@ impl TextColumn {
             .partition_point(|term| term.bytes().cmp(text).is_le()) as u32
     }
 
+    /// The positions that have a term, by its ordinal, in ascending order.
+    pub fn positions_of(&self, ord: u32) -> &[u32]
+        requires { ord < length (terms_of self.now) }
+        ensures positions { result.now
+            ≡ positions (map (has_text (slice_index_or (terms_of self.now) ord [])) self.now) }
+        ensures within { All (λ at. at < length self.now) result.now }
+        ensures ascending { IsStrictlyIncreasing result.now }
+    {
+        self.positions.list(ord)
+    }
+
+    /// Makes the bits exactly those of the positions with a text. Bit j of word i stands for position
+    /// 64 i + j.
+    pub fn any(&self, into: &mut [u64])
+        requires { words_for (length self.now) ≤ length into.old }
+        ensures { HasBits into.new (map (λ texts. not (is_empty texts)) self.now) }
+    {
+        self.ordinals.any(into);
+    }
+
     /// Makes the bits exactly those of the positions with an ordinal from `lo` up to but not including
     /// `hi`. Bit j of word i stands for position 64 i + j.
     pub fn between(&self, lo: u32, hi: u32, into: &mut [u64])
@@ -99,21 +126,20 @@ impl TextColumn {
         ensures { HasBits into.new
             (map (λ texts. has_from_to lo hi (ordinals_in self.now texts)) self.now) }
     {
-        into.fill(0);
-        for doc in 0..self.len() {
-            if self.has_from_to(doc, lo, hi) {
-                into[(doc / 64) as usize] |= 1 << (doc % 64);
-            }
-        }
+        mark(self.positions_between(lo, hi), into);
     }
 
-    fn has_from_to(&self, doc: u32, lo: u32, hi: u32) -> bool
-        requires { doc < length self.now }
-        ensures { result
-            ≡ has_from_to lo hi (ordinals_in self.now (slice_index_or self.now doc [])) }
+    // The positions with an ordinal from `lo` up to but not including `hi`, ordinal by ordinal.
+    fn positions_between(&self, lo: u32, hi: u32) -> &[u32]
+        ensures positions { (at : ℕ) → is_among at result.now
+            ≡ has_from_to lo hi (ordinals_in self.now (slice_index_or self.now at [])) }
+        ensures within { All (λ at. at < length self.now) result.now }
     {
-        self.ordinals_of(doc)
-            .iter()
-            .any(|ord| lo <= *ord && *ord < hi)
+        let hi = hi.min(self.terms());
+        if lo < hi {
+            self.positions.span(lo, hi)
+        } else {
+            &[]
+        }
     }
 }

@@ -1,19 +1,21 @@
-use Rattle.std.proofs.Common.{◌≡◌, false, [], replicate, length, sym, ◌∙◌, arith, rules}
-use Rattle.std.proofs.lemmas.List.{get_or-map}
-use Rattle.fc_column.proofs.Marks.{marked_none, marked_yes, marked_no}
+use Rattle.std.proofs.Common.{◌≡◌, [], false, map, get_or, w64, to_z, of_z, ap₂, ◌∙◌, arith, rules}
+use Rattle.fc_column.specs.Longs.{is_between, has_between}
+use Rattle.fc_column.proofs.InOrder.{among_if_any, any_at}
 use Rattle.fc_column.proofs.long.LongColumn.between.Goals as goal
-use Rattle.fc_column.proofs.long.LongColumn.between.Goals.{then-has_between, else-has_between}
 
-pub loop-doc-init : goal.loop-doc-init
-loop-doc-init c =
-    let zeros : c.fill.new.self ≡ replicate (length c.args.into.now) 0 = search rules in
-    marked_none c.fill.new.self _ (length c.args.into.now) zeros
+pub mark-requires : goal.mark-requires
+mark-requires c = λ k d inside.
+    let below = c.positions_between.ensures.within k d inside in
+    omega (arith, below, c.requires)
 
-pub loop-doc-preserved : goal.loop-doc-preserved
-loop-doc-preserved c =
-    elim c.if-has_between.branch [
-      | then-has_between w ↦ rw w.into-is (marked_yes c.loop-doc.into _ c.loop-doc.doc c.loop-doc.invariant
-          (get_or-map _ c.args.self.now c.loop-doc.doc [] false (omega arith) ∙ sym c.has_between.ensures ∙ w.if-has_between.true) (omega arith))
-      | else-has_between w ↦ rw w.into-is (marked_no c.loop-doc.into _ c.loop-doc.doc c.loop-doc.invariant
-          (get_or-map _ c.args.self.now c.loop-doc.doc [] false (omega arith) ∙ sym c.has_between.ensures ∙ w.if-has_between.false))
-    ]
+pub returns : goal.returns
+returns c = λ at.
+    let column = c.args.self.now in
+    let lo = to_z w64 (of_z w64 c.args.lo) in
+    let hi = to_z w64 (of_z w64 c.args.hi) in
+    let low : lo ≡ c.args.lo = search rules in
+    let high : hi ≡ c.args.hi = search rules in
+    c.mark.ensures at
+    ∙ among_if_any (is_between lo hi) at c.positions_between.result.now (get_or column at []) (c.positions_between.ensures.positions at)
+    ∙ any_at (is_between lo hi) column at
+    ∙ ap₂ (λ a b. get_or (map (has_between a b) column) at false) low high

@@ -13,7 +13,7 @@ pub returns-clause-ordinals : goal.returns-clause-ordinals
 returns-clause-ordinals c =
     let column = c.self.inside in
     let terms = column.terms.items in
-    let rows = column.ordinals.rows in
+    let rows = column.ordinals in
     let doc = c.args.doc in
     let size : doc < length rows = omega (arith, length-map rows (map (term_at terms)), ap length c.self.view_is) in
     let texts : get_or c.args.self.now doc [] ≡ map (term_at terms) (get_or rows doc []) =
@@ -27,7 +27,7 @@ pub returns-clause-ascending : goal.returns-clause-ascending
 returns-clause-ascending c =
     let column = c.self.inside in
     let terms = column.terms.items in
-    let rows = column.ordinals.rows in
+    let rows = column.ordinals in
     let doc = c.args.doc in
     let long = length-map rows (map (term_at terms)) in
     let size : doc < length rows = omega (arith, long, ap length c.self.view_is) in
