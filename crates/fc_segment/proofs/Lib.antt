@@ -2,4 +2,8 @@ pub mod Cutting
 pub mod Transposed
 pub mod Marking
 pub mod Rows
+pub mod ValidFields
+pub mod WalkedFields
+pub mod WalkedDocuments
 pub mod StoredBlocks
+pub mod BlockMarks

@@ -1,7 +1,7 @@
 -- The documents of columns, and the columns of documents.
 use Rattle.std.proofs.Common.{◌≡◌, ℕ, ◌<◌, List, [], ◌∷◌, ◌++◌, length, get_or, map, All, refl, sym, ap, ap₂, ◌∙◌}
 use Rattle.std.specs.List.{range_with_len}
-use Rattle.std.proofs.lemmas.List.{get_or-map, map_push}
+use Rattle.std.proofs.lemmas.List.{get_or-map, map_push, append_assoc}
 use Rattle.std.proofs.lemmas.List.FromFn.{fill_by_all}
 use Rattle.std.proofs.lemmas.Simd.{map-map}
 use Rattle.fc_spec.specs.documents.Val.{Val}
@@ -32,3 +32,10 @@ documents_at-columns_of count ds lists =
 -- one more item
 pub map-pushed : {X Y : Type 0} (f : X → Y) (xs new : List X) (x : X) (ys : List Y) (y : Y) → new ≡ xs ++ x ∷ [] → map f xs ≡ ys → f x ≡ y → map f new ≡ ys ++ y ∷ []
 map-pushed f xs new x ys y is before here = ap (map f) is ∙ map_push f xs x ∙ ap₂ (λ l z. l ++ z ∷ []) before here
+
+-- one item made, and one less left
+pub made_more : {X Y Z : Type 0} (f : X → Z) (g : Y → Z) (made new : List Y) (left : List X) (x : X) (rest : List X) (y : Y) (all : List Z)
+    → left ≡ x ∷ rest → new ≡ made ++ y ∷ [] → g y ≡ f x → map g made ++ map f left ≡ all → map g new ++ map f rest ≡ all
+made_more f g made new left x rest y all left_is new_is same before =
+    ap (λ l. map g l ++ map f rest) new_is ∙ ap (λ l. l ++ map f rest) (map_push g made y) ∙ append_assoc (map g made) (g y ∷ []) (map f rest)
+    ∙ ap (λ z. map g made ++ (z ∷ map f rest)) same ∙ ap (λ l. map g made ++ map f l) (sym left_is) ∙ before

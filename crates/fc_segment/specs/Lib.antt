@@ -1,6 +1,9 @@
 pub mod Parents
+pub mod BlockPositions
 pub mod Cut
 pub mod Segmented
 pub mod Columns
 pub mod Building
+pub mod Walked
+pub mod ColumnsSoFar
 pub mod Stored

@@ -3,6 +3,7 @@
 
 mod builder;
 mod column;
+mod columns;
 mod parents;
 mod segment;
 

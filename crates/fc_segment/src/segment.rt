@@ -1,16 +1,16 @@
 // Segments.
-ghost use Rattle.std.specs.Prelude.{◌≡◌, ◌<◌, ◌≤◌, length, map, slice_index_or, All, IfOk, false};
-ghost use Rattle.std.specs.List.{range_with_len};
+ghost use Rattle.std.specs.Prelude.{◌≡◌, ◌<◌, ◌≤◌, length, slice_index_or, All, IfOk, false};
 ghost use Rattle.fc_spec.specs.documents.Columns.{column_of};
 ghost use Rattle.fc_spec.specs.documents.Totals.{document_total, documents_in};
 ghost use Rattle.fc_spec.specs.documents.Schema.{texts_held};
 ghost use Rattle.fc_spec.specs.documents.ValidBlocks.{IsBlockOf};
 ghost use Rattle.fc_docs.specs.View.{batch_view};
+ghost use Rattle.fc_segment.specs.BlockPositions.{first_in_block, parent_in_block};
 ghost use Rattle.fc_segment.specs.Columns.{column_values, is_text_column};
 ghost use Rattle.fc_segment.specs.Parents.{parents_in};
 
 use crate::Column;
-use crate::builder::Builder;
+use crate::columns::columns_of;
 use crate::parents::parents_of;
 use fc_base::{FieldId, Schema, WantMemory};
 use fc_docs::Batch;
@@ -75,41 +75,29 @@ impl Segment {
     {
         &self.parents
     }
-}
 
-// The column of each field of the schema.
-fn columns_of(alloc: Global, schema: &Schema, batch: &Batch) -> Result<Vec<Column>, WantMemory>
-    requires { All (IsBlockOf schema.now) (batch_view batch.now) }
-    ensures values { IfOk result (λ columns. map column_values columns.items
-        ≡ map (λ field. column_of field (documents_in (batch_view batch.now)))
-        (range_with_len 0 (length schema.now.fields))) }
-    ensures kinds { IfOk result (λ columns. map is_text_column columns.items
-        ≡ texts_held schema.now.fields) }
-{
-    let mut columns = Vec::new(alloc);
-    for field in 0..schema.fields() {
-        columns.push(column_of(alloc, schema, batch, FieldId(field))?)?;
+    /// The position of the parent of the block in which a position stands.
+    pub fn parent_of(&self, at: u32) -> u32
+        requires { at < document_total self.now.blocks }
+        ensures { result ≡ parent_in_block self.now.blocks at }
+    {
+        match self.parents.next_from(at) {
+            Some(parent) => parent,
+            None => unreachable!(),
+        }
     }
-    Ok(columns)
-}
 
-// The column of a field.
-fn column_of(
-    alloc: Global,
-    schema: &Schema,
-    batch: &Batch,
-    field: FieldId,
-) -> Result<Column, WantMemory>
-    requires valid { All (IsBlockOf schema.now) (batch_view batch.now) }
-    requires below { field.0 < length schema.now.fields }
-    ensures values { IfOk result (λ column. column_values column
-        ≡ column_of field.0 (documents_in (batch_view batch.now))) }
-    ensures kind { IfOk result (λ column. is_text_column column
-        ≡ slice_index_or (texts_held schema.now.fields) field.0 false) }
-{
-    let mut builder = Builder::new(alloc, schema.field_type(field))?;
-    for block in &batch.blocks {
-        builder.push_block(block, field)?;
+    /// The first position of the block in which a position stands: its first child, or the parent where it has none.
+    pub fn first_child(&self, at: u32) -> u32
+        requires { at < document_total self.now.blocks }
+        ensures { result ≡ first_in_block self.now.blocks at }
+    {
+        if at == 0 {
+            return 0;
+        }
+        match self.parents.last_up_to(at - 1) {
+            Some(parent) => parent + 1,
+            None => 0,
+        }
     }
-    builder.finish()
 }

@@ -1,0 +1,14 @@
+-- Positions in blocks, whose documents stand one block behind the other, each block's parent behind its children.
+use Rattle.std.specs.Prelude.{ℕ, ◌+◌, ◌-◌, List, [], ◌∷◌, length, nat_lt, if◌then◌else◌}
+use Rattle.fc_spec.specs.documents.Document.{Block}
+use Rattle.fc_spec.specs.documents.Totals.{documents_of}
+
+-- the first position of the block in which a position stands
+abbrev pub first_in_block : List Block → ℕ → ℕ
+first_in_block [] at = 0
+first_in_block (b ∷ blocks) at = let size = length (documents_of b) in if nat_lt at size then 0 else size + first_in_block blocks (at - size)
+
+-- the position of its parent
+abbrev pub parent_in_block : List Block → ℕ → ℕ
+parent_in_block [] at = 0
+parent_in_block (b ∷ blocks) at = let size = length (documents_of b) in if nat_lt at size then length b.children else size + parent_in_block blocks (at - size)
