@@ -1,5 +1,13 @@
 pub mod CombiningSoFar
 pub mod CombinedShape
 pub mod ViewedEntries
+pub mod PartEntries
 pub mod TallyEntries
 pub mod BareBuckets
+pub mod CellRows
+pub mod CellParts
+pub mod NeutralCells
+pub mod ValueLists
+pub mod Fitting
+pub mod FittingSums
+pub mod OneDocuments

@@ -51,3 +51,6 @@ message_view m = buckets_view m.buckets.items
 abbrev pub bare : List (definition.Key × statistics.Stats) → Partials
 bare [] = no_partials
 bare (e ∷ es) = partial e.0 e.1 no_rows (bare es)
+
+abbrev pub bare_part : definition.Key × statistics.Stats → Part
+bare_part e = record { key = e.0; stats = e.1; rows = no_rows }

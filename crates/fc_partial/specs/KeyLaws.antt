@@ -9,6 +9,7 @@ use Rattle.fc_spec.specs.documents.Val.{Val, long, val_cmp}
 use Rattle.fc_spec.specs.documents.ValOrder.{val_cmp_total}
 use Rattle.fc_spec.specs.requests.Buckets.{Key, value, missing, gap, before, between, after, whole}
 use Rattle.fc_spec.specs.messages.KeyOrder.{key_cmp, same_key, key_rank}
+use Rattle.fc_partial.specs.declared.key.Key as code
 use Rattle.fc_partial.specs.View.{key_view}
 
 -- the value of a key, and its number, or the same one where it has none
@@ -54,6 +55,10 @@ key_cmp_by_parts k l =
 
 pub key_cmp_total : IsTotalOrder key_cmp
 key_cmp_total = subst IsTotalOrder (λ i k l. sym (key_cmp_by_parts k l) i) by_parts_total
+
+-- the order of keys, as the code has it
+abbrev pub code_cmp : code.Key → code.Key → Ordering
+code_cmp = on key_view key_cmp
 
 pub keys_total : IsTotalOrder (on key_view key_cmp)
 keys_total = on_total key_view key_cmp_total

@@ -6,4 +6,9 @@ pub mod Numbers
 pub mod Adding
 pub mod Tallied
 pub mod Tallying
+pub mod TallyParts
 pub mod TallyView
+pub mod Celled
+pub mod CellsView
+pub mod OneDocument
+pub mod Fitting

@@ -3,11 +3,15 @@
 #![tactic(auto)]
 
 mod bucket;
+mod cells;
+mod document;
+mod entries;
 mod key;
 mod statistics;
 mod tally;
 
 pub use bucket::{Message, PartialBucket, PartialNode};
+pub use cells::Cells;
 pub use key::Key;
 pub use statistics::{StatValue, Stats};
 pub use tally::Tally;

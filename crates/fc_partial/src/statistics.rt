@@ -24,7 +24,7 @@ pub enum StatValue {
 
 impl StatValue {
     // That of no document.
-    fn neutral(stat: Stat) -> StatValue
+    pub(crate) fn neutral(stat: Stat) -> StatValue
         ensures { stat_value_view result ≡ value_over (stat_view stat) [] }
     {
         match stat.of {
@@ -71,7 +71,7 @@ impl StatValue {
 }
 
 // The lesser of two, where they are there.
-fn lesser_of(a: Option<i64>, b: Option<i64>) -> Option<i64>
+pub(crate) fn lesser_of(a: Option<i64>, b: Option<i64>) -> Option<i64>
     ensures { result ≡ lesser a b }
 {
     match (a, b) {
@@ -82,7 +82,7 @@ fn lesser_of(a: Option<i64>, b: Option<i64>) -> Option<i64>
 }
 
 // The greater of two, where they are there.
-fn greater_of(a: Option<i64>, b: Option<i64>) -> Option<i64>
+pub(crate) fn greater_of(a: Option<i64>, b: Option<i64>) -> Option<i64>
     ensures { result ≡ greater a b }
 {
     match (a, b) {
@@ -143,7 +143,7 @@ impl Stats {
 }
 
 // Combines each value with the other of its place.
-fn combine_values(stats: &[Stat], values: &mut [StatValue], others: &[StatValue])
+pub(crate) fn combine_values(stats: &[Stat], values: &mut [StatValue], others: &[StatValue])
     requires shaped { IsTrue
         (values_fit (map stat_view stats.now) (map stat_value_view values.old)) }
     requires other_shaped { IsTrue

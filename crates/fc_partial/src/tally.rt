@@ -1,20 +1,19 @@
 // Statistics by key.
-ghost use Rattle.std.specs.Prelude.{◌≡◌, [], map, All, IfOk, OnOk, OnErr, is_some, option_map};
-ghost use Rattle.std.specs.Bool.{OnTrue, OnFalse};
+ghost use Rattle.std.specs.Prelude.{◌≡◌, [], map, IfOk, OnOk, OnErr, option_map};
 ghost use Rattle.std.specs.Option.{ForSome};
-ghost use Rattle.std.specs.List.Sorted.{IsStrictlySortedBy};
-ghost use Rattle.std.specs.Map.{keys_of, values_of};
-ghost use Rattle.fc_spec.specs.messages.KeyOrder.{key_cmp};
+ghost use Rattle.fc_spec.specs.requests.Buckets.{value};
 ghost use Rattle.fc_base.specs.StatisticView.{stat_view};
+ghost use Rattle.fc_base.specs.View.{val_view};
 ghost use Rattle.fc_partial.specs.View.{key_view};
 ghost use Rattle.fc_partial.specs.StatsView.{stats_view};
 ghost use Rattle.fc_partial.specs.BucketView.{buckets_view, bare};
 ghost use Rattle.fc_partial.specs.Adding.{HasShape, AddUp};
-ghost use Rattle.fc_partial.specs.Tallying.{AddsTo, IsTally, entry_at, added, with_added};
-ghost use Rattle.fc_partial.specs.TallyView.{entries_view};
+ghost use Rattle.fc_partial.specs.Tallying.{AddsTo, IsTally, entry_at, added};
+ghost use Rattle.fc_partial.specs.TallyParts.{long_key, text_key};
 
+use crate::entries::{add_at, combine_at, push_buckets, put};
 use crate::{Key, PartialBucket, Stats};
-use fc_base::{Stat, WantMemory};
+use fc_base::{Name, Stat, Val, WantMemory};
 use std::alloc::Global;
 use std::collections::BTreeMap;
 use std::marker::Model;
@@ -24,19 +23,21 @@ use std::marker::Model;
 pub struct Tally {
     alloc: Global,
     stats: Vec<Stat>,
-    entries: BTreeMap<Key, Stats>,
+    longs: BTreeMap<i64, Stats>,
+    texts: BTreeMap<Name, Stats>,
+    // Those of the keys that are no values.
+    others: BTreeMap<Key, Stats>,
 }
 
 impl Model for Tally {
     ghost use Rattle.fc_partial.specs.Tallied.{Tallied};
-    ghost use Rattle.fc_partial.specs.Tallying.{IsTally};
-    ghost use Rattle.fc_partial.specs.TallyView.{tally_view};
+    ghost use Rattle.fc_partial.specs.TallyView.{IsSound, tally_view};
 
     ghost Value = { Tallied };
 
-    ghost view = { λ t. tally_view t.stats.items t.entries };
+    ghost view = { tally_view };
 
-    ghost invariant = { λ t. IsTally (tally_view t.stats.items t.entries) };
+    ghost invariant = { IsSound };
 }
 
 impl Tally {
@@ -48,7 +49,9 @@ impl Tally {
         Ok(Tally {
             alloc,
             stats,
-            entries: BTreeMap::new(alloc),
+            longs: BTreeMap::new(alloc),
+            texts: BTreeMap::new(alloc),
+            others: BTreeMap::new(alloc),
         })
     }
 
@@ -62,11 +65,58 @@ impl Tally {
             (AddsTo self.old self.new (key_view key) (stats_view stats.now)) }
         ensures err { OnErr result (self.new ≡ self.old) }
     {
-        if combine_at(&mut self.entries, &self.stats, &key, stats) {
+        match key {
+            Key::Value(val) => self.add_val(val, stats)?,
+            other => add_at(self.alloc, &mut self.others, &self.stats, other, stats)?,
+        }
+        Ok(())
+    }
+
+    // Adds at the key of a value.
+    fn add_val(&mut self, val: Val, stats: &Stats) -> Result<(), WantMemory>
+        requires shaped { HasShape self.old.stats (stats_view stats.now) }
+        requires fits { ForSome (entry_at self.old.entries (value (val_view val)))
+            (λ there. AddUp there (stats_view stats.now)) }
+        ensures ok { OnOk result
+            (self.new ≡ added self.old (value (val_view val)) (stats_view stats.now)) }
+        ensures err { OnErr result (self.new ≡ self.old) }
+    {
+        match val {
+            Val::Long(number) => self.add_long(number, stats)?,
+            Val::Text(text) => add_at(self.alloc, &mut self.texts, &self.stats, text, stats)?,
+        }
+        Ok(())
+    }
+
+    /// Adds at the key of an integer.
+    pub fn add_long(&mut self, number: i64, stats: &Stats) -> Result<(), WantMemory>
+        requires shaped { HasShape self.old.stats (stats_view stats.now) }
+        requires fits { ForSome (entry_at self.old.entries (long_key number))
+            (λ there. AddUp there (stats_view stats.now)) }
+        ensures ok { OnOk result (self.new ≡ added self.old (long_key number) (stats_view stats.now)) }
+        ensures keys { OnOk result
+            (AddsTo self.old self.new (long_key number) (stats_view stats.now)) }
+        ensures err { OnErr result (self.new ≡ self.old) }
+    {
+        add_at(self.alloc, &mut self.longs, &self.stats, number, stats)?;
+        Ok(())
+    }
+
+    /// Adds at the key of a text, which is copied only where it has no statistics yet.
+    pub fn add_text(&mut self, text: &Name, stats: &Stats) -> Result<(), WantMemory>
+        requires shaped { HasShape self.old.stats (stats_view stats.now) }
+        requires fits { ForSome (entry_at self.old.entries (text_key text.now))
+            (λ there. AddUp there (stats_view stats.now)) }
+        ensures ok { OnOk result (self.new ≡ added self.old (text_key text.now) (stats_view stats.now)) }
+        ensures keys { OnOk result
+            (AddsTo self.old self.new (text_key text.now) (stats_view stats.now)) }
+        ensures err { OnErr result (self.new ≡ self.old) }
+    {
+        if combine_at(&mut self.texts, &self.stats, text, stats) {
             return Ok(());
         }
-        let copy = stats.copy(self.alloc)?;
-        self.entries.insert(key, copy)?;
+        let name = text.copy(self.alloc)?;
+        put(self.alloc, &mut self.texts, &self.stats, name, stats)?;
         Ok(())
     }
 
@@ -76,7 +126,22 @@ impl Tally {
             ≡ entry_at self.now.entries (key_view key.now) }
         ensures tally { IsTally self.now }
     {
-        self.entries.get(key)
+        match key {
+            Key::Value(val) => self.get_val(val),
+            other => self.others.get(other),
+        }
+    }
+
+    // The statistics of the key of a value.
+    fn get_val(&self, val: &Val) -> Option<&Stats>
+        ensures found { option_map (λ stats. stats_view stats.now) result
+            ≡ entry_at self.now.entries (value (val_view val.now)) }
+        ensures tally { IsTally self.now }
+    {
+        match val {
+            Val::Long(number) => self.longs.get(number),
+            Val::Text(text) => self.texts.get(text),
+        }
     }
 
     /// A bucket for each key, in the order of keys, with nothing nested.
@@ -87,44 +152,15 @@ impl Tally {
         let Tally {
             alloc,
             stats: _,
-            entries,
+            longs,
+            texts,
+            others,
         } = self;
-        let mut buckets = Vec::with_capacity(alloc, entries.len())?;
-        for (key, stats) in entries {
-            buckets.push(PartialBucket {
-                key,
-                stats,
-                nodes: Vec::new(alloc),
-            })?;
-        }
+        let values = longs.len().saturating_add(texts.len());
+        let mut buckets = Vec::with_capacity(alloc, values.saturating_add(others.len()))?;
+        push_buckets(alloc, longs, &mut buckets)?;
+        push_buckets(alloc, texts, &mut buckets)?;
+        push_buckets(alloc, others, &mut buckets)?;
         Ok(buckets)
-    }
-}
-
-// Combines statistics with those that the key has, and tells whether it has any.
-fn combine_at(
-    entries: &mut BTreeMap<Key, Stats>,
-    statistics: &[Stat],
-    key: &Key,
-    stats: &Stats,
-) -> bool
-    requires shaped { HasShape (map stat_view statistics.now) (stats_view stats.now) }
-    requires all_shaped { All (HasShape (map stat_view statistics.now))
-        (values_of (entries_view entries.old)) }
-    requires fits { ForSome (entry_at (entries_view entries.old) (key_view key.now))
-        (λ there. AddUp there (stats_view stats.now)) }
-    ensures there { result ≡ is_some (entry_at (entries_view entries.old) (key_view key.now)) }
-    ensures added { OnTrue result (entries_view entries.new
-        ≡ with_added (map stat_view statistics.now)
-        (entries_view entries.old) (key_view key.now) (stats_view stats.now)) }
-    ensures same { OnFalse result (entries.new.entries ≡ entries.old.entries) }
-    ensures ascend { IsStrictlySortedBy key_cmp (keys_of (entries_view entries.new)) }
-{
-    match entries.get_mut(key) {
-        Some(there) => {
-            there.combine(statistics, stats);
-            true
-        }
-        None => false,
     }
 }

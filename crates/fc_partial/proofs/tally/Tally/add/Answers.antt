@@ -1,57 +1,46 @@
-use Rattle.std.proofs.Common.{◌≡◌, ◌∙◌, List, map, ap}
-use Rattle.std.specs.BTreeMap.{insert_entry}
+use Rattle.std.proofs.Common.{◌∙◌, map, sym, ap}
 use Rattle.fc_base.specs.StatisticView.{stat_view}
 use Rattle.fc_partial.specs.View.{key_view}
 use Rattle.fc_partial.specs.StatsView.{stats_view}
-use Rattle.fc_partial.specs.Adding.{HasShape}
-use Rattle.fc_partial.specs.Tallied.{Entry, Tallied}
-use Rattle.fc_partial.specs.Tallying.{with_added}
-use Rattle.fc_partial.specs.TallyView.{entry_view, entries_view}
-use Rattle.fc_partial.proofs.TallyEntries.{code_cmp, keys_ascend, added_new, grown, none_from_test, adds_when}
+use Rattle.fc_partial.specs.Tallied.{Tallied}
+use Rattle.fc_partial.specs.Tallying.{entry_at}
+use Rattle.fc_partial.specs.TallyParts.{IsBeyond}
+use Rattle.fc_partial.specs.declared.key.Key.{Key}
+use Rattle.fc_partial.proofs.TallyEntries.{adds_when, at_other, beyond_from, with_other, still_beyond}
 use Rattle.fc_partial.proofs.tally.Tally.add.Goals as goal
 
-pub combine_at-requires-clause-fits : goal.combine_at-requires-clause-fits
-combine_at-requires-clause-fits c = rw (← c.self.view_is) at c.requires.fits
+pub add_val-requires-clause-fits : goal.add_val-requires-clause-fits
+add_val-requires-clause-fits c x found = c.requires.fits x (ap (λ (k : Key). entry_at c.args.self.now.entries (key_view k)) c.in-Value.is ∙ found)
+
+pub add_at-requires-clause-fits : goal.add_at-requires-clause-fits
+add_at-requires-clause-fits c x found =
+    let k = c.args.key in
+    c.requires.fits x (ap (λ (y : Tallied). entry_at y.entries (key_view k)) (sym c.self.view_is) ∙ at_other c.self.inside c.self.invariant k (beyond_from k c.in_default.not-Value) ∙ found)
+
+pub add_at-requires-clause-part : goal.add_at-requires-clause-part
+add_at-requires-clause-part c = rw c.deref.ensures.value c.self.invariant.others
 
 pub invariant_of-self : goal.invariant_of-self
 invariant_of-self c =
+    let k = c.args.key in
     let ss = map stat_view c.self.inside.stats.items in
-    let more = stats_view c.args.stats.now in
-    let shaped : HasShape ss more = rw (← c.self.view_is) at c.requires.shaped in
-    let is : entries_view c.combine_at.new.entries ≡ with_added ss (entries_view c.self.inside.entries) (key_view c.args.key) more = rw c.deref.ensures.value at c.if-combine_at.ensures.added in
-    grown ss (entries_view c.self.inside.entries) (entries_view c.combine_at.new.entries) (key_view c.args.key) more is c.if-combine_at.ensures.ascend c.self.invariant shaped
+    let b : IsBeyond (key_view k) = beyond_from k c.in_default.not-Value in
+    record {
+      longs = c.self.invariant.longs;
+      texts = c.self.invariant.texts;
+      others = rw c.deref.ensures.value at c.in_ok-add_at-in_default.ensures.part;
+      beyond = still_beyond ss c.self.inside.others c.add_at.new.entries k (stats_view c.args.stats.now) b (rw c.deref.ensures.value at c.in_ok-add_at-in_default.ensures.added) c.self.invariant.beyond;
+    }
 
-pub invariant_of-self-2 : goal.invariant_of-self-2
-invariant_of-self-2 c =
-    let ss = map stat_view c.self.inside.stats.items in
-    let es = c.self.inside.entries.entries in
-    let more = stats_view c.args.stats.now in
-    let shaped : HasShape ss more = rw (← c.self.view_is) at c.requires.shaped in
-    let inserted = c.in_ok-insert.ensures.entries ∙ ap (λ l. insert_entry code_cmp l c.args.key c.in_ok-copy.copy) c.if-combine_at.ensures.same in
-    let is : entries_view c.insert.new.self ≡ with_added ss (map entry_view es) (key_view c.args.key) more =
-    ap (map entry_view) inserted ∙ added_new ss es c.args.key c.in_ok-copy.copy more c.in_ok-copy.ensures (none_from_test _ c.if-combine_at.ensures.there) in
-    grown ss (map entry_view es) (entries_view c.insert.new.self) (key_view c.args.key) more is (keys_ascend c.insert.new.self.entries c.in_ok-insert.ensures.ordered) c.self.invariant shaped
+pub returns-in_ok-add_val-in-Value-clause-keys : goal.returns-in_ok-add_val-in-Value-clause-keys
+returns-in_ok-add_val-in-Value-clause-keys c =
+    adds_when c.args.self.now _ (key_view c.args.key) (stats_view c.args.stats.now) (rw c.in-Value.is c.in_ok-add_val-in-Value.ensures.ok)
 
-pub returns-clause-ok : goal.returns-clause-ok
-returns-clause-ok c =
-    let ss = map stat_view c.self.inside.stats.items in
-    let es = c.self.inside.entries.entries in
-    let more = stats_view c.args.stats.now in
-    let inserted = c.in_ok-insert.ensures.entries ∙ ap (λ l. insert_entry code_cmp l c.args.key c.in_ok-copy.copy) c.if-combine_at.ensures.same in
-    let is : entries_view c.insert.new.self ≡ with_added ss (map entry_view es) (key_view c.args.key) more =
-    ap (map entry_view) inserted ∙ added_new ss es c.args.key c.in_ok-copy.copy more c.in_ok-copy.ensures (none_from_test _ c.if-combine_at.ensures.there) in
-    let with_entries : List Entry → Tallied = λ l. record { stats = ss; entries = l } in
-    rw (← c.self.view_is) (ap with_entries is)
+pub returns-in_ok-add_at-in_default-clause-ok : goal.returns-in_ok-add_at-in_default-clause-ok
+returns-in_ok-add_at-in_default-clause-ok c =
+    let k = c.args.key in
+    let b : IsBeyond (key_view k) = beyond_from k c.in_default.not-Value in
+    rw (← c.self.view_is) (with_other c.self.inside c.self.invariant (stats_view c.args.stats.now) c.add_at.new.entries k b (rw c.deref.ensures.value at c.in_ok-add_at-in_default.ensures.added))
 
-pub returns-clause-keys : goal.returns-clause-keys
-returns-clause-keys c = adds_when c.args.self.now _ (key_view c.args.key) (stats_view c.args.stats.now) (returns-clause-ok c)
-
-pub returns-then-combine_at-clause-ok : goal.returns-then-combine_at-clause-ok
-returns-then-combine_at-clause-ok c =
-    let ss = map stat_view c.self.inside.stats.items in
-    let is : entries_view c.combine_at.new.entries ≡ with_added ss (entries_view c.self.inside.entries) (key_view c.args.key) (stats_view c.args.stats.now) = rw c.deref.ensures.value at c.if-combine_at.ensures.added in
-    let with_entries : List Entry → Tallied = λ l. record { stats = ss; entries = l } in
-    rw (← c.self.view_is) (ap with_entries is)
-
-pub returns-then-combine_at-clause-keys : goal.returns-then-combine_at-clause-keys
-returns-then-combine_at-clause-keys c = adds_when c.args.self.now _ (key_view c.args.key) (stats_view c.args.stats.now) (returns-then-combine_at-clause-ok c)
+pub returns-in_ok-add_at-in_default-clause-keys : goal.returns-in_ok-add_at-in_default-clause-keys
+returns-in_ok-add_at-in_default-clause-keys c = adds_when c.args.self.now _ (key_view c.args.key) (stats_view c.args.stats.now) (returns-in_ok-add_at-in_default-clause-ok c)
