@@ -26,6 +26,13 @@ forbidden : (here : Bool) (bs : List Bool) → all_taken must_not here bs ≡ (h
 forbidden here [] = sym (and-true here)
 forbidden here (b ∷ bs) = forbidden (here && not b) bs ∙ and_none here b (list_any (λ b. b) bs)
 
+-- of nothing required and forbidden answers leave nothing
+pub required_of_none : (bs : List Bool) → all_taken must false bs ≡ false
+required_of_none bs = required false bs
+
+pub forbidden_of_none : (bs : List Bool) → all_taken must_not false bs ≡ false
+forbidden_of_none bs = forbidden false bs
+
 pub some_member : {X : Type 0} (x : X) (xs : List X) → is_empty (x ∷ xs) ≡ false
 some_member x xs = ne_eqb (length (x ∷ xs)) 0 (λ h. omega arith)
 

@@ -1,7 +1,6 @@
 pub mod TextOrder
 pub mod Ordinals
 pub mod TextRows
-pub mod Marked
 pub mod LongRows
 pub mod Unbounded
 pub mod GroupAnswers
@@ -9,3 +8,8 @@ pub mod TakenSoFar
 pub mod QueryViews
 pub mod GroupSets
 pub mod SchemaFits
+pub mod BlockMembers
+pub mod BlockLoops
+pub mod StepSets
+pub mod ItemsLeft
+pub mod Settled

@@ -1,5 +1,5 @@
--- A query that fits a schema fits the columns of its fields.
-use Rattle.std.proofs.Common.{ℕ, zero, suc, ◌<◌, List, [], ◌∷◌, length, IsTrue, arith}
+-- What fits a schema fits the columns of its fields: queries, and with them requests and domain changes.
+use Rattle.std.proofs.Common.{ℕ, zero, suc, ◌<◌, List, [], ◌∷◌, length, get_or, Bool, IsTrue, arith}
 use Rattle.std.specs.Prelude.{IsSomeAnd, slice_get}
 use Rattle.std.proofs.lemmas.List.{length-map}
 use Rattle.fc_spec.specs.documents.Schema.{holds_texts, texts_held, Field, Schema}
@@ -8,7 +8,9 @@ use Rattle.fc_spec.specs.queries.Query.{Bound, unbounded, including, excluding, 
 use Rattle.fc_spec.specs.documents.ValidBlocks.{is_of_type}
 use Rattle.fc_spec.specs.queries.ValidQueries.{BoundFits, FitsSchema, AllFitSchema, IsFieldBound}
 use Rattle.fc_spec.proofs.documents.ValueKinds.{kind_of_type}
-use Rattle.fc_domain.specs.FieldsFit.{HasField, HasValue, FitsFields, AllFitFields}
+use Rattle.fc_spec.specs.requests.Request.{Request, BlockStep, stay, parents, children, DomainChange}
+use Rattle.fc_spec.specs.requests.ValidRequests.{IsValidRequest, IsValidChange, IsValidStep}
+use Rattle.fc_domain.specs.FieldsFit.{HasField, HasValue, FitsFields, AllFitFields, StepFits, ChangeFits, BaseFits}
 
 value_fits : (fields : List Field) (field : ℕ) (v : Val) → IsSomeAnd (slice_get fields field) (λ f. IsTrue (is_of_type f.kind v))
     → HasValue (texts_held fields) field v
@@ -37,3 +39,22 @@ mutual
   all_fields_fit : (s : Schema) (cs : Clauses) → AllFitSchema s cs → AllFitFields (texts_held s.fields) cs
   all_fields_fit s no_clauses fits = tt
   all_fields_fit s (clause need q cs) fits = (fields_fit s q fits.0, all_fields_fit s cs fits.1)
+
+-- ---- requests and domain changes
+
+pub base_fits : (s : Schema) (r : Request) → IsValidRequest s r → BaseFits (texts_held s.fields) r
+base_fits s r valid = record {
+  query = fields_fit s r.query valid.query.fits;
+  filters = λ k f below. fields_fit s (get_or r.filters k f).query (valid.filters k f below).query.fits;
+}
+
+step_fits : (s : Schema) (b : BlockStep) → IsValidStep s b → StepFits (texts_held s.fields) b
+step_fits s stay valid = tt
+step_fits s (parents q) valid = fields_fit s q valid.fits
+step_fits s (children q) valid = fields_fit s q valid.fits
+
+pub change_fits : (s : Schema) (is_outermost : Bool) (c : DomainChange) → IsValidChange s is_outermost c → ChangeFits (texts_held s.fields) c
+change_fits s is_outermost c valid = record {
+  step = step_fits s c.block valid.step;
+  filters = λ k q below. fields_fit s (get_or c.filters k q) (valid.filters k q below).fits;
+}

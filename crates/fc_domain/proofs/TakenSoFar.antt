@@ -1,7 +1,7 @@
 -- Clauses that are taken one after another, at every document.
 use Rattle.std.proofs.Common.{◌≡◌, Bool, true, false, cond, List, ◌∷◌, map, length, refl, sym, ap, ap₂, ◌∙◌}
-use Rattle.fc_docset.specs.Positions.{zip_with}
-use Rattle.fc_docset.proofs.BitLists.{length-zip_with, zip_with-map}
+use Rattle.fc_spec.specs.documents.Sets.{zip_with}
+use Rattle.fc_spec.proofs.words.WhereTrue.{length-zip_with, zip_with-map}
 use Rattle.fc_spec.specs.documents.Document.{Document}
 use Rattle.fc_spec.specs.queries.Matching.{matches, answers, same_need}
 use Rattle.fc_spec.specs.queries.Query.{Need, Query, Clauses, no_clauses, clause}

@@ -1,9 +1,10 @@
 -- Queries that fit columns.
-use Rattle.std.specs.Prelude.{◌≡◌, ℕ, ◌<◌, List, length, slice_index_or, Bool, false}
+use Rattle.std.specs.Prelude.{◌≡◌, ℕ, ◌<◌, List, length, slice_index_or, All, Bool, false}
 use Rattle.fc_spec.specs.documents.Columns.{is_text}
 use Rattle.fc_spec.specs.queries.Query.{Bound, unbounded, including, excluding, Query, Clauses}
 use Rattle.fc_spec.specs.documents.Val.{Val}
 use Rattle.fc_spec.specs.queries.ValidQueries.{QueryFits, ClausesFit}
+use Rattle.fc_spec.specs.requests.Request.{BlockStep, stay, parents, children, DomainChange, Request}
 
 -- the value is a text exactly where texts are held
 abbrev pub IsBoundOf : Bool → Bound → Type 0
@@ -25,3 +26,19 @@ FitsFields texts = QueryFits (HasField texts) (HasValue texts)
 
 abbrev pub AllFitFields : List Bool → Clauses → Type 0
 AllFitFields texts = ClausesFit (HasField texts) (HasValue texts)
+
+-- the query of a block step does
+abbrev pub StepFits : List Bool → BlockStep → Type 0
+StepFits texts stay = Unit {0}
+StepFits texts (parents q) = FitsFields texts q
+StepFits texts (children q) = FitsFields texts q
+
+-- each query of a domain change does
+pub record ChangeFits (texts : List Bool) (change : DomainChange) : Type 0 where
+  pub step : StepFits texts change.block
+  pub filters : All (FitsFields texts) change.filters
+
+-- the query and each filter of a request do
+pub record BaseFits (texts : List Bool) (r : Request) : Type 0 where
+  pub query : FitsFields texts r.query
+  pub filters : All (λ f. FitsFields texts f.query) r.filters

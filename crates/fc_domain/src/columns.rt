@@ -33,7 +33,7 @@ pub fn select_between(
 {
     match column {
         Column::Text(column) => texts::select_between(column, low, high, mask, into),
-        Column::Long(column) => longs::select_between(column, low, high, into),
+        Column::Long(column) => longs::select_between(column, low, high, mask, into),
     }
 }
 

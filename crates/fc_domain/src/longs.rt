@@ -70,43 +70,36 @@ fn ends(low: &Bound, high: &Bound) -> (i64, i64)
     }
 }
 
-// Whether one of the integers lies from `low` to `high`, both included.
-fn has_between(values: &[i64], low: i64, high: i64) -> bool
-    ensures { (test : ℤ → Bool) → PassesFromTo low high test → result ≡ list_any test values.now }
-{
-    for value in values {
-        if low <= *value && *value <= high {
-            return true;
-        }
-    }
-    false
-}
-
-// Makes the set the positions with an integer from `low` to `high`, both included.
-// Row by row, since only the rows show that each integer is one of 64 bits signed.
-fn select_from_to(column: &LongColumn, low: i64, high: i64, into: &mut DocSet)
-    requires { length into.old ≡ length column.now }
+// Makes the set the positions with an integer from `low` to `high`, both included. The mask is written over.
+fn select_from_to(column: &LongColumn, low: i64, high: i64, mask: &mut [u64], into: &mut DocSet)
+    requires length { length into.old ≡ length column.now }
+    requires room { words_for (length into.old) ≤ length mask.old }
     ensures { (test : ℤ → Bool) → PassesFromTo low high test
         → into.new ≡ map (list_any test) column.now }
 {
-    into.clear();
-    for at in 0..column.len() {
-        if has_between(column.values_of(at), low, high) {
-            into.add(at);
-        }
-    }
+    // The integers of a column are of 64 bits signed.
+    let _count = column.len();
+    column.between(low, high, mask);
+    into.set_mask(mask);
 }
 
-/// Makes the set the positions with an integer that meets both bounds.
-pub fn select_between(column: &LongColumn, low: &Bound, high: &Bound, into: &mut DocSet)
+/// Makes the set the positions with an integer that meets both bounds. The mask is written over.
+pub fn select_between(
+    column: &LongColumn,
+    low: &Bound,
+    high: &Bound,
+    mask: &mut [u64],
+    into: &mut DocSet,
+)
     requires low { IsBoundOf false (bound_view low.now) }
     requires high { IsBoundOf false (bound_view high.now) }
     requires length { length into.old ≡ length column.now }
+    requires room { words_for (length into.old) ≤ length mask.old }
     ensures { into.new ≡ map (has_meeting (bound_view low.now) (bound_view high.now))
         (map (map definition.long) column.now) }
 {
     let (least, greatest) = ends(low, high);
-    select_from_to(column, least, greatest, into);
+    select_from_to(column, least, greatest, mask, into);
 }
 
 /// Makes the set the positions with this integer. The mask is written over.

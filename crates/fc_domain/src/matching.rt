@@ -1,11 +1,14 @@
 // Which documents of a segment match a query.
-ghost use Rattle.std.specs.Prelude.{◌≡◌, ◌≤◌, length, map, replicate, Bool, OnOk};
+ghost use Rattle.std.specs.Prelude.{◌≡◌, ◌≤◌, false, length, map, replicate, Bool, List, OnOk};
+ghost use Rattle.std.specs.Bool.{OnTrue};
 ghost use Rattle.fc_spec.specs.documents.Bits.{words_for};
 ghost use Rattle.fc_spec.specs.documents.Document.{Document};
 ghost use Rattle.fc_spec.specs.queries.Matching.{answers, matches, same_need};
 ghost use Rattle.fc_spec.specs.queries.Query.{must};
 ghost use Rattle.fc_spec.specs.documents.Totals.{document_total, documents_in};
-ghost use Rattle.fc_docset.specs.Positions.{zip_with};
+ghost use Rattle.fc_spec.specs.documents.Sets.{zip_with};
+ghost use Rattle.fc_docset.specs.Neighbours.{HasNoneFrom};
+ghost use Rattle.fc_docset.specs.Positions.{contains};
 ghost use Rattle.fc_query.specs.QueryView.{clauses_view, need_view, query_view};
 ghost use Rattle.fc_domain.specs.FieldsFit.{AllFitFields, FitsFields};
 ghost use Rattle.fc_domain.specs.Grouping.{all_taken, first_need, has_need, taken};
@@ -56,6 +59,19 @@ fn begin(clauses: &[Clause], into: &mut DocSet) -> Need
     }
 }
 
+// Whether no answer with this need can change the set any more, since nothing is left of it.
+fn is_settled(need: Need, set: &DocSet) -> bool
+    ensures none { OnTrue result (HasNoneFrom (contains set.now) 0) }
+    ensures stays { OnTrue result
+        ((answers : List Bool) → all_taken (need_view need) false answers ≡ false) }
+{
+    match need {
+        Need::Must => set.next_from(0).is_none(),
+        Need::MustNot => set.next_from(0).is_none(),
+        Need::May => false,
+    }
+}
+
 // Takes the answers of each clause with this need. The scratch set and the mask are written over.
 #[cycle(matching)]
 fn take_clauses(
@@ -80,6 +96,9 @@ fn take_clauses(
     ensures scratch { length scratch.new ≡ length scratch.old }
 {
     for clause in clauses {
+        if is_settled(need, into) {
+            return Ok(());
+        }
         if clause.need == need {
             select(alloc, segment, &clause.query, mask, scratch)?;
             take(need, into, scratch);

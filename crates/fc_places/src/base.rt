@@ -1,7 +1,6 @@
 // The root domain, and the base without some filters.
 ghost use Rattle.std.specs.Prelude.{◌≡◌, ◌||◌, IfOk, map};
-ghost use Rattle.std.specs.List.{list_all, list_any};
-ghost use Rattle.fc_spec.specs.documents.Val.{same_text};
+ghost use Rattle.std.specs.List.{list_all};
 ghost use Rattle.fc_spec.specs.queries.Matching.{matches};
 ghost use Rattle.fc_spec.specs.requests.Base as definition;
 ghost use Rattle.fc_query.specs.FilterView.{filter_view};
@@ -19,29 +18,6 @@ use fc_query::Filter;
 use fc_request::Request;
 use std::alloc::Global;
 
-fn has_tag(tag: &Name, tags: &[Name]) -> bool
-    ensures { result ≡ list_any (same_text tag.now) tags.now }
-{
-    for other in tags {
-        if tag.cmp(other).is_eq() {
-            return true;
-        }
-    }
-    false
-}
-
-// Whether the filter has one of the tags.
-fn has_tag_in(filter: &Filter, tags: &[Name]) -> bool
-    ensures { result ≡ definition.has_tag_in tags.now (filter_view filter.now) }
-{
-    for tag in &filter.tags {
-        if has_tag(tag, tags) {
-            return true;
-        }
-    }
-    false
-}
-
 // Whether the document matches each filter that has none of the tags.
 fn meets_filters(filters: &[Filter], tags: &[Name], document: &Document) -> bool
     ensures { result
@@ -49,7 +25,7 @@ fn meets_filters(filters: &[Filter], tags: &[Name], document: &Document) -> bool
         (map filter_view filters.now) }
 {
     for filter in filters {
-        if !has_tag_in(filter, tags) && !is_match(&filter.query, document) {
+        if !filter.has_tag_in(tags) && !is_match(&filter.query, document) {
             return false;
         }
     }

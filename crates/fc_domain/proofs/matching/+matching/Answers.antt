@@ -14,6 +14,7 @@ use Rattle.fc_spec.specs.documents.Val.{has_val}
 use Rattle.fc_domain.specs.FieldsFit.{AllFitFields}
 use Rattle.fc_domain.specs.Grouping.{all_taken}
 use Rattle.fc_domain.specs.Within.{has_meeting}
+use Rattle.fc_domain.proofs.Settled.{all_are_settled}
 use Rattle.fc_domain.proofs.GroupSets.{group_set, on_ok}
 use Rattle.fc_domain.proofs.TakenSoFar.{AreTaken, one_taken, none_more_taken, all_are_taken}
 use Rattle.fc_domain.proofs.QueryViews.{view_of_all, view_of_has, view_of_is, view_of_between, view_of_group}
@@ -122,3 +123,8 @@ take_clauses-returns-clause-set t c =
     let none = drop_all c.loop-clause.clause-index c.args.clauses.now c.loop-clause-test.false in
     all_are_taken ds need whole c.args.into.now c.loop-clause.into
     (subst (λ (xs : List Clause). AreTaken ds need (clauses_view xs) whole c.args.into.now c.loop-clause.into) none c.loop-clause.invariant.taken)
+
+pub take_clauses-returns-then-is_settled-clause-set : goal.take_clauses-returns-then-is_settled-clause-set
+take_clauses-returns-then-is_settled-clause-set t c =
+    all_are_settled (documents_in c.args.segment.now.blocks) (need_view c.args.need) (clauses_view (drop c.loop-clause.clause-index c.args.clauses.now)) (clauses_view c.args.clauses.now)
+    c.args.into.now c.loop-clause.into c.loop-clause.invariant.taken c.if-is_settled.ensures.stays c.if-is_settled.ensures.none

@@ -1,0 +1,148 @@
+// What the tests are made of.
+ghost use Rattle.std.specs.Prelude.{◌≡◌, ◌≤◌, map, All, IfOk};
+ghost use Rattle.serde_json.specs.View.{view};
+ghost use Rattle.fc_spec.specs.documents.Schema.{texts_held};
+ghost use Rattle.fc_spec.specs.documents.Totals.{document_total};
+ghost use Rattle.fc_spec.specs.documents.ValidBlocks.{IsBlockOf};
+ghost use Rattle.fc_spec.specs.scripts.JsonValues.{HasAscendingKeys, HasNumbers};
+ghost use Rattle.fc_docs.specs.View.{batch_view};
+ghost use Rattle.fc_query.specs.QueryView.{query_view};
+ghost use Rattle.fc_facet.specs.KindView.{domain_view, step_view};
+ghost use Rattle.fc_request.specs.RequestView.{request_view};
+ghost use Rattle.fc_domain.specs.FieldsFit.{BaseFits, ChangeFits, FitsFields, StepFits};
+
+use fc_base::{Name, Schema};
+use fc_docs::{Batch, read_block};
+use fc_docset::DocSet;
+use fc_facet::{BlockStep, Domain};
+use fc_query::{Query, parse};
+use fc_request::Request;
+use fc_segment::Segment;
+use fc_spec::texts_are_json;
+use serde_json::Value;
+use std::alloc::Global;
+use std::process::Abort;
+use std::test::Fail;
+
+// A block step, with the text of its query.
+#[derive(Clone, Copy)]
+pub(super) enum Step {
+    Stay,
+    Parents(&'static str),
+    Children(&'static str),
+}
+
+// A domain change: tags, a block step, and the texts of filters.
+#[derive(Clone, Copy)]
+pub(super) struct Change {
+    pub exclude: &'static [&'static str],
+    pub step: Step,
+    pub filters: &'static [&'static str],
+}
+
+fn json_of(alloc: Global, text: &str) -> Result<Value, Fail>
+    ensures { IfOk result (λ json. HasNumbers (view json) × HasAscendingKeys (view json)) }
+{
+    texts_are_json();
+    Ok(Value::from_slice(alloc, text.as_bytes())?)
+}
+
+pub(super) fn schema_of(alloc: Global, text: &str) -> Result<Schema, Fail> {
+    Ok(Schema::read(alloc, &json_of(alloc, text)?)?)
+}
+
+// The batch of the blocks in an array: at most 1,000, each of at most 64 children.
+pub(super) fn batch_of(
+    rt: &impl Abort,
+    alloc: Global,
+    schema: &Schema,
+    text: &str,
+) -> Result<Batch, Fail>
+    ensures valid { IfOk result (λ batch. All (IsBlockOf schema.now) (batch_view batch)) }
+    ensures few { IfOk result (λ batch. document_total (batch_view batch) ≤ 65_000) }
+{
+    let json = json_of(alloc, text)?;
+    let items = json.as_array().ok_or("no array")?;
+    assert!(rt; items.len() <= 1_000);
+    let mut blocks = Vec::new(alloc);
+    for item in items {
+        let block = read_block(alloc, schema, item)?;
+        assert!(rt; block.children.len() <= 64);
+        blocks.push(block)?;
+    }
+    Ok(Batch { blocks })
+}
+
+pub(super) fn segment_of(alloc: Global, schema: &Schema, batch: &Batch) -> Result<Segment, Fail>
+    requires valid { All (IsBlockOf schema.now) (batch_view batch.now) }
+    requires few { document_total (batch_view batch.now) ≤ 65_000 }
+    ensures { IfOk result (λ segment. segment.texts ≡ texts_held schema.now.fields) }
+{
+    Ok(Segment::build(alloc, schema, batch)?)
+}
+
+pub(super) fn request_of(alloc: Global, schema: &Schema, text: &str) -> Result<Request, Fail>
+    ensures { IfOk result (λ request.
+        BaseFits (texts_held schema.now.fields) (request_view request)) }
+{
+    let json = json_of(alloc, text)?;
+    Ok(Request::read(alloc, schema, &json)?)
+}
+
+pub(super) fn names_of(alloc: Global, texts: &[&str]) -> Result<Vec<Name>, Fail> {
+    let mut names = Vec::new(alloc);
+    for text in texts {
+        names.push(Name::new(alloc, text)?)?;
+    }
+    Ok(names)
+}
+
+fn query_of(alloc: Global, schema: &Schema, text: &str) -> Result<Query, Fail>
+    ensures { IfOk result (λ query. FitsFields (texts_held schema.now.fields) (query_view query)) }
+{
+    Ok(parse(alloc, schema, text)?)
+}
+
+fn queries_of(alloc: Global, schema: &Schema, texts: &[&str]) -> Result<Vec<Query>, Fail>
+    ensures { IfOk result (λ queries.
+        All (FitsFields (texts_held schema.now.fields)) (map query_view queries.items)) }
+{
+    let mut queries = Vec::new(alloc);
+    for text in texts {
+        queries.push(query_of(alloc, schema, text)?)?;
+    }
+    Ok(queries)
+}
+
+fn step_of(alloc: Global, schema: &Schema, step: Step) -> Result<BlockStep, Fail>
+    ensures { IfOk result (λ made. StepFits (texts_held schema.now.fields) (step_view made)) }
+{
+    Ok(match step {
+        Step::Stay => BlockStep::Stay,
+        Step::Parents(text) => BlockStep::Parents(query_of(alloc, schema, text)?),
+        Step::Children(text) => BlockStep::Children(query_of(alloc, schema, text)?),
+    })
+}
+
+pub(super) fn domain_of(alloc: Global, schema: &Schema, change: Change) -> Result<Domain, Fail>
+    ensures { IfOk result (λ domain.
+        ChangeFits (texts_held schema.now.fields) (domain_view domain)) }
+{
+    let block = step_of(alloc, schema, change.step)?;
+    let filters = queries_of(alloc, schema, change.filters)?;
+    let exclude = names_of(alloc, change.exclude)?;
+    Ok(Domain {
+        exclude,
+        block,
+        filters,
+    })
+}
+
+// The positions in a set, each before a space.
+pub(super) fn shown(alloc: Global, set: &DocSet) -> Result<String, Fail> {
+    let mut text = String::new(alloc);
+    for at in set.iter() {
+        text.push_str(format!(in alloc; "{at} ")?.as_str())?;
+    }
+    Ok(text)
+}

@@ -1,7 +1,0 @@
-use Rattle.std.proofs.Common.{◌≡◌, drop}
-use Rattle.std.specs.List.{list_any}
-use Rattle.fc_spec.specs.documents.Val.{same_text}
-use Rattle.fc_places.proofs.base.has_tag_in.Given as goal
-
-abbrev pub invariant-loop-tag : goal.invariant-loop-tag
-invariant-loop-tag l = list_any (λ t. list_any (same_text t) l.tags) (drop l.tag-index l.filter.tags.items) ≡ list_any (λ t. list_any (same_text t) l.tags) l.filter.tags.items
