@@ -6,7 +6,7 @@ use Rattle.std.specs.declared.cmp.Ordering.{Ordering}
 use Rattle.std.specs.declared.cmp.Ordering.TheVariants.{Less, Equal, Greater}
 use Rattle.fc_base.specs.View.{val_view}
 use Rattle.fc_base.specs.declared.value.Val as base
-use Rattle.fc_reading.specs.FacetNode.{vals_view}
+use Rattle.fc_request.specs.FacetNode.{vals_view}
 use Rattle.fc_spec.specs.documents.Val.{Text, Val, val_cmp, same_val, has_val, insert_val}
 use Rattle.fc_spec.specs.requests.Buckets.{has_prefix}
 use Rattle.fc_spec.proofs.documents.Ascending.{has_val-insert_val}

@@ -4,8 +4,8 @@ use Rattle.std.specs.Map.{keys_of}
 use Rattle.std.specs.List.Sorted.{IsStrictlySortedBy}
 use Rattle.std.proofs.lemmas.List.Elements.{filter-append}
 use Rattle.fc_plain.specs.Groups.{Group, AreValueGroups}
-use Rattle.fc_reading.specs.Grouped.{Holds, if_any}
-use Rattle.fc_reading.proofs.Growing.{has_val-keys, held_groups, is_some-if_any}
+use Rattle.fc_refine.specs.Grouped.{Holds, if_any}
+use Rattle.fc_refine.proofs.Growing.{has_val-keys, held_groups, is_some-if_any}
 use Rattle.fc_spec.specs.documents.Val.{Val, has_val}
 use Rattle.fc_spec.specs.documents.World.{Place}
 use Rattle.fc_spec.specs.documents.Document.{values_of}

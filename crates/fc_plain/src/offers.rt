@@ -6,7 +6,7 @@ ghost use Rattle.fc_spec.specs.replies.Reading as definition;
 ghost use Rattle.fc_spec.specs.requests.Request as request;
 ghost use Rattle.fc_base.specs.StatisticView.{stat_view};
 ghost use Rattle.fc_facet.specs.KindView.{terms_view};
-ghost use Rattle.fc_reading.specs.FacetNode.{vals_view};
+ghost use Rattle.fc_request.specs.FacetNode.{vals_view};
 ghost use Rattle.fc_plain.specs.EntryView.{entries_view};
 ghost use Rattle.fc_places.specs.Fitting.{StatisticsFit};
 ghost use Rattle.fc_plain.specs.Groups.{groups_view};

@@ -9,7 +9,7 @@ ghost use Rattle.fc_spec.specs.requests.Paths.{at_root};
 ghost use Rattle.fc_spec.specs.requests.Shape.{no_limits, outermost_exclusions};
 ghost use Rattle.fc_spec.specs.words.Lists as words;
 ghost use Rattle.fc_request.specs.RequestView.{request_view};
-ghost use Rattle.fc_reading.specs.CountableRanges.{AreCountable};
+ghost use Rattle.fc_refine.specs.CountableRanges.{AreCountable};
 ghost use Rattle.fc_reply.specs.ReplyView.{reply_view};
 ghost use Rattle.fc_spec.specs.scripts.WorldLimits.{IsWithinLimits};
 ghost use Rattle.fc_places.specs.PlaceView.{places_view};

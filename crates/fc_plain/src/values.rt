@@ -8,8 +8,8 @@ ghost use Rattle.fc_spec.specs.requests.Buckets as definition;
 ghost use Rattle.fc_spec.specs.requests.Request as request;
 ghost use Rattle.fc_base.specs.View.{val_view};
 ghost use Rattle.fc_facet.specs.KindView.{terms_view};
-ghost use Rattle.fc_reading.specs.FacetNode.{vals_view};
-ghost use Rattle.fc_reading.specs.Grouped.{Grows, Holds, map_view};
+ghost use Rattle.fc_request.specs.FacetNode.{vals_view};
+ghost use Rattle.fc_refine.specs.Grouped.{Grows, Holds, map_view};
 ghost use Rattle.fc_plain.specs.Groups.{AreValueGroups, groups_view};
 ghost use Rattle.fc_places.specs.PlaceView.{place_view, places_view};
 

@@ -1,8 +1,6 @@
 pub mod Candidates
-pub mod Growing
 pub mod MadeLists
 pub mod Merging
-pub mod Nodes
 pub mod OfferedValues
 pub mod Printing
 pub mod RangeParts

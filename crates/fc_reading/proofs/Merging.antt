@@ -9,9 +9,9 @@ use Rattle.fc_spec.specs.documents.Val.{Val, same_val, has_val, distinct}
 use Rattle.fc_spec.proofs.documents.Ascending.{same_ascending, has_val-distinct, distinct_ascends}
 use Rattle.fc_spec.proofs.requests.FoundValues.{not-is_empty-filter}
 use Rattle.fc_spec.proofs.words.Members.{list_any-flat_map}
-use Rattle.fc_reading.specs.Grouped.{Group, Holds}
+use Rattle.fc_refine.specs.Grouped.{Group, Holds}
 use Rattle.fc_reading.specs.Terms.{merged}
-use Rattle.fc_reading.proofs.Growing.{has_val-keys, held_groups, is_some-if_any}
+use Rattle.fc_refine.proofs.Growing.{has_val-keys, held_groups, is_some-if_any}
 
 -- the shards that offer a value
 abbrev pub shards_with : (ℕ → List Val) → List ℕ → Val → List ℕ

@@ -4,9 +4,9 @@ use Rattle.fc_spec.specs.requests.Request.{Nodes, no_nodes, statistic, facet}
 use Rattle.fc_spec.specs.requests.RequestReading.{of_statistic, of_facet}
 use Rattle.fc_request.specs.declared.node.Node.{Node}
 use Rattle.fc_request.specs.NodeView.{Part, node_view, nodes_view, inner_view}
-use Rattle.fc_reading.specs.FacetNode.{has_buckets, kind_of}
+use Rattle.fc_request.specs.FacetNode.{has_buckets, kind_of}
 use Rattle.fc_reading.specs.Tree.{node_before}
-use Rattle.fc_reading.proofs.Nodes.{facet_is}
+use Rattle.fc_request.proofs.Nodes.{facet_is}
 
 abbrev pub node_total : Nodes → ℕ
 node_total no_nodes = 0

@@ -3,7 +3,7 @@ use Rattle.std.specs.Prelude.{Bool}
 use Rattle.fc_spec.specs.documents.Schema.{Schema}
 use Rattle.fc_spec.specs.requests.Request.{Kind, terms, range, query, Nodes, no_nodes, statistic, facet, Request}
 use Rattle.fc_spec.specs.requests.ValidRequests.{IsValidKind, AreValidNodes, IsValidRequest}
-use Rattle.fc_reading.specs.CountableRanges.{IsCountable, AreCountable}
+use Rattle.fc_refine.specs.CountableRanges.{IsCountable, AreCountable}
 
 kind_countable : (s : Schema) (inner : Nodes) (k : Kind) → IsValidKind s inner k → IsCountable k
 kind_countable s inner (terms t) valid = tt

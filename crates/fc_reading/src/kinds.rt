@@ -1,8 +1,8 @@
 // What a facet prints, kind by kind.
 ghost use Rattle.std.specs.Prelude.{◌≡◌, IfOk, IsTrue, map};
 ghost use Rattle.fc_spec.specs.requests.Request as definition;
-ghost use Rattle.fc_reading.specs.FacetNode.{has_buckets, kind_of, kind_view};
-ghost use Rattle.fc_reading.specs.CountableRanges.{IsCountable};
+ghost use Rattle.fc_request.specs.FacetNode.{has_buckets, kind_of, kind_view};
+ghost use Rattle.fc_refine.specs.CountableRanges.{IsCountable};
 ghost use Rattle.fc_reading.specs.Parts.{IsPrinted};
 ghost use Rattle.fc_request.specs.NodeView.{inner_view};
 

@@ -4,8 +4,8 @@ ghost use Rattle.std.specs.List.{filter};
 ghost use Rattle.std.specs.List.Sorted.{IsStrictlySortedBy};
 ghost use Rattle.fc_spec.specs.documents.Val as definition;
 ghost use Rattle.fc_base.specs.View.{val_view};
-ghost use Rattle.fc_reading.specs.FacetNode.{vals_view};
-ghost use Rattle.fc_reading.specs.Grouped.{Grows, Holds, map_view};
+ghost use Rattle.fc_request.specs.FacetNode.{vals_view};
+ghost use Rattle.fc_refine.specs.Grouped.{Grows, Holds, map_view};
 ghost use Rattle.fc_reading.specs.Terms.{merged as merged_of, offered_view};
 
 use fc_base::{Val, WantMemory};

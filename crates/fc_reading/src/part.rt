@@ -5,8 +5,8 @@ ghost use Rattle.fc_spec.specs.replies.Reply.{listed, spot_of};
 ghost use Rattle.fc_base.specs.StatisticView.{stat_view};
 ghost use Rattle.fc_base.specs.View.{val_view};
 ghost use Rattle.fc_partial.specs.View.{key_view};
-ghost use Rattle.fc_reading.specs.FacetNode.{has_buckets, kind_view};
-ghost use Rattle.fc_reading.specs.CountableRanges.{IsCountable, IsThere};
+ghost use Rattle.fc_request.specs.FacetNode.{has_buckets, kind_view};
+ghost use Rattle.fc_refine.specs.CountableRanges.{IsCountable, IsThere};
 ghost use Rattle.fc_reading.specs.Parts.{beside, IsCounted, part_view};
 
 use crate::BucketReading;

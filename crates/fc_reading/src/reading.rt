@@ -10,8 +10,8 @@ ghost use Rattle.fc_facet.specs.declared.kind.Kind.TheVariants as variant;
 ghost use Rattle.fc_facet.specs.KindView.{terms_view};
 ghost use Rattle.fc_partial.specs.StatsView.{stats_view};
 ghost use Rattle.fc_partial.specs.View.{key_view};
-ghost use Rattle.fc_reading.specs.FacetNode.{facet_view, has_buckets, kind_of, kind_view, vals_view};
-ghost use Rattle.fc_reading.specs.CountableRanges.{IsCountable, IsThere};
+ghost use Rattle.fc_request.specs.FacetNode.{facet_view, has_buckets, kind_of, kind_view, vals_view};
+ghost use Rattle.fc_refine.specs.CountableRanges.{IsCountable, IsThere};
 
 use fc_base::{Stat, Val, WantMemory};
 use fc_facet::{Kind, Terms};

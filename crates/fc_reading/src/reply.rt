@@ -3,7 +3,7 @@ ghost use Rattle.std.specs.Prelude.{◌≡◌, IfOk};
 ghost use Rattle.fc_spec.specs.replies.Distributed as definition;
 ghost use Rattle.fc_reply.specs.ReplyView.{reply_view};
 ghost use Rattle.fc_request.specs.NodeView.{inner_view};
-ghost use Rattle.fc_reading.specs.CountableRanges.{AreCountable};
+ghost use Rattle.fc_refine.specs.CountableRanges.{AreCountable};
 
 use crate::BucketReading;
 use crate::tree::facets;

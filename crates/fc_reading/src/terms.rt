@@ -11,7 +11,7 @@ ghost use Rattle.fc_facet.specs.declared.kind.Kind.TheVariants as variant;
 ghost use Rattle.fc_facet.specs.KindView.{sort_view, terms_view};
 ghost use Rattle.fc_request.specs.NodeView.{inner_view};
 ghost use Rattle.fc_refine.specs.Entries.{HaveAscendingValues};
-ghost use Rattle.fc_reading.specs.FacetNode.{kind_of};
+ghost use Rattle.fc_request.specs.FacetNode.{kind_of};
 ghost use Rattle.fc_reading.specs.Parts.{AreCounted, parts_of, parts_view};
 ghost use Rattle.fc_reading.specs.Terms.{AreOn, AreOnFirst, AreOnKnown, candidate_vals, candidates_view, IsOn, part_from};
 

@@ -1,8 +1,20 @@
-mod EntryTotal
-mod DistinctValues
+pub mod DistinctValues
 pub mod AscendingValues
 pub mod Among
-mod SortedEntries
-mod IndexOrder
-mod AllBelow
-mod Cuts
+pub mod SortedEntries
+pub mod IndexOrder
+pub mod AllBelow
+pub mod Rests
+pub mod RankedEntries
+pub mod Keeping
+pub mod Cuts
+pub mod Growing
+pub mod CountableNodes
+pub mod ListedValues
+pub mod Together
+pub mod TopEntries
+pub mod ToldValues
+pub mod Shapes
+pub mod Gathering
+pub mod GatheredEntries
+pub mod ChosenCandidates

@@ -1,2 +1,14 @@
 pub mod Entries
 pub mod Distinct
+pub mod Fronts
+pub mod Grouped
+pub mod CountableRanges
+pub mod AskView
+pub mod Leaving
+pub mod Along
+pub mod Tops
+pub mod ValuedView
+pub mod Parts
+pub mod Gathered
+pub mod Listings
+pub mod CandidateView

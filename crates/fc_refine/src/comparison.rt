@@ -58,5 +58,5 @@ fn compare_keys<T: Ranked>(sort: Sort, a: &T, b: &T) -> Ordering
 pub(crate) fn compare<T: Ranked>(sort: Sort, a: &T, b: &T) -> Ordering
     ensures { result ≡ definition.entry_cmp (sort_view sort) (T.entry a.now) (T.entry b.now) }
 {
-    compare_keys(sort, a, b).then(a.val().cmp(b.val()))
+    compare_keys(sort, a, b).then_with(|| a.val().cmp(b.val()))
 }

@@ -12,7 +12,7 @@ ghost use Rattle.std.specs.Prelude.{IfOk};
 ghost use Rattle.serde_json.specs.View.{view};
 ghost use Rattle.fc_spec.specs.scripts.JsonValues.{HasAscendingKeys, HasNumbers};
 ghost use Rattle.fc_request.specs.RequestView.{request_view};
-ghost use Rattle.fc_reading.specs.CountableRanges.{AreCountable};
+ghost use Rattle.fc_refine.specs.CountableRanges.{AreCountable};
 ghost use Rattle.fc_spec.specs.scripts.WorldLimits.{IsWithinLimits};
 ghost use Rattle.fc_places.specs.WorldView.{world_view};
 

@@ -3,3 +3,4 @@ pub mod NodeAnswers
 pub mod NodeStatistics
 pub mod NodeWalk
 pub mod RequestParts
+pub mod Nodes

@@ -1,5 +1,6 @@
 pub mod FaultView
 pub mod NodeView
+pub mod FacetNode
 pub mod RequestView
 pub mod NodeStatistics
 pub mod SortView

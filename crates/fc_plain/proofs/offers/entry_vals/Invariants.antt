@@ -1,6 +1,6 @@
 use Rattle.std.proofs.Common.{◌≡◌, ◌++◌, drop, map}
 use Rattle.fc_plain.specs.EntryView.{entries_view}
-use Rattle.fc_reading.specs.FacetNode.{vals_view}
+use Rattle.fc_request.specs.FacetNode.{vals_view}
 use Rattle.fc_spec.specs.requests.Ranks.{Entry}
 use Rattle.fc_plain.proofs.offers.entry_vals.Given as goal
 

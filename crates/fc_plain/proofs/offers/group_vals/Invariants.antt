@@ -1,6 +1,6 @@
 use Rattle.std.proofs.Common.{◌≡◌, ◌++◌, drop, map}
 use Rattle.fc_plain.specs.Groups.{Group, groups_view}
-use Rattle.fc_reading.specs.FacetNode.{vals_view}
+use Rattle.fc_request.specs.FacetNode.{vals_view}
 use Rattle.fc_plain.proofs.offers.group_vals.Given as goal
 
 abbrev pub invariant-loop-group : goal.invariant-loop-group

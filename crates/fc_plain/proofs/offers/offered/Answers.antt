@@ -6,7 +6,7 @@ use Rattle.fc_plain.proofs.OfferedValues.{entries_ascend, offered_all, offered_a
 use Rattle.fc_plain.specs.Groups.{Group, groups_view}
 use Rattle.fc_plain.specs.Offers.{offered_of}
 use Rattle.fc_places.specs.PlaceView.{places_view}
-use Rattle.fc_reading.specs.FacetNode.{vals_view}
+use Rattle.fc_request.specs.FacetNode.{vals_view}
 use Rattle.fc_spec.specs.documents.Val.{val_cmp}
 use Rattle.fc_plain.proofs.offers.offered.Goals as goal
 

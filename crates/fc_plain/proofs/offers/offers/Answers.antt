@@ -13,7 +13,7 @@ use Rattle.fc_places.specs.Fitting.{StatisticsFit}
 use Rattle.fc_plain.specs.Offers.{offered_of}
 use Rattle.fc_places.specs.Parts.{places_in}
 use Rattle.fc_places.specs.PlaceView.{places_view}
-use Rattle.fc_reading.specs.FacetNode.{vals_view}
+use Rattle.fc_request.specs.FacetNode.{vals_view}
 use Rattle.fc_spec.specs.documents.Val.{Val, val_cmp}
 use Rattle.fc_spec.specs.documents.World.{Place, on_shards}
 use Rattle.fc_spec.specs.requests.Request.{Stat, Terms}

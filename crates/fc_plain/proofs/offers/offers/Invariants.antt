@@ -5,7 +5,7 @@ use Rattle.fc_base.specs.StatisticView.{stat_view}
 use Rattle.fc_facet.specs.KindView.{terms_view}
 use Rattle.fc_plain.specs.Offers.{offered_of}
 use Rattle.fc_places.specs.PlaceView.{places_view}
-use Rattle.fc_reading.specs.FacetNode.{vals_view}
+use Rattle.fc_request.specs.FacetNode.{vals_view}
 use Rattle.fc_spec.specs.documents.Val.{val_cmp}
 use Rattle.fc_spec.specs.documents.World.{on_shards}
 use Rattle.fc_plain.proofs.offers.offers.Given as goal

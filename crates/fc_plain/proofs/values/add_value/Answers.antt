@@ -1,6 +1,6 @@
 use Rattle.std.proofs.Common.{◌∙◌, ap}
 use Rattle.fc_plain.proofs.FacetValues.{vals_inserted}
-use Rattle.fc_reading.specs.FacetNode.{vals_view}
+use Rattle.fc_request.specs.FacetNode.{vals_view}
 use Rattle.fc_plain.proofs.values.add_value.Goals as goal
 
 pub returns : goal.returns

@@ -1,7 +1,7 @@
 use Rattle.std.proofs.Common.{◌+◌, ◌∷◌, drop, map, sym, ◌∙◌, ap, ◌||◌, ◌&&◌}
 use Rattle.fc_base.specs.View.{val_view}
 use Rattle.fc_plain.proofs.FacetValues.{AreLeft, first_left, value_passed, value_taken}
-use Rattle.fc_reading.specs.FacetNode.{vals_view}
+use Rattle.fc_request.specs.FacetNode.{vals_view}
 use Rattle.fc_spec.specs.documents.Document.{values_of}
 use Rattle.fc_spec.specs.documents.Val.{has_val}
 use Rattle.fc_spec.specs.requests.Buckets.{has_prefix}

@@ -1,8 +1,8 @@
 use Rattle.std.proofs.Common.{◌≡◌, ◌++◌}
 use Rattle.fc_plain.specs.Groups.{groups_view}
 use Rattle.fc_places.specs.PlaceView.{place_view}
-use Rattle.fc_reading.specs.Grouped.{map_view}
-use Rattle.fc_reading.proofs.Growing.{seen}
+use Rattle.fc_refine.specs.Grouped.{map_view}
+use Rattle.fc_refine.proofs.Growing.{seen}
 use Rattle.fc_plain.proofs.values.groups_of.Given as goal
 
 abbrev pub invariant-loop-val : goal.invariant-loop-val

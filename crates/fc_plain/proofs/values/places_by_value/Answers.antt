@@ -2,11 +2,11 @@ use Rattle.std.proofs.Common.{◌≡◌, ◌+◌, ◌++◌, ◌∷◌, [], List,
 use Rattle.std.proofs.lemmas.List.{map_more}
 use Rattle.fc_facet.specs.KindView.{terms_view}
 use Rattle.fc_plain.proofs.ValueGroups.{no_places, one_more_place}
-use Rattle.fc_reading.proofs.Growing.{holds_more}
-use Rattle.fc_reading.specs.Grouped.{Holds, map_view}
+use Rattle.fc_refine.proofs.Growing.{holds_more}
+use Rattle.fc_refine.specs.Grouped.{Holds, map_view}
 use Rattle.fc_spec.specs.replies.Values.{value_places}
 use Rattle.fc_places.specs.PlaceView.{place_view, places_view}
-use Rattle.fc_reading.specs.FacetNode.{vals_view}
+use Rattle.fc_request.specs.FacetNode.{vals_view}
 use Rattle.fc_spec.specs.documents.World.{Place}
 use Rattle.fc_plain.proofs.values.places_by_value.Goals as goal
 

@@ -1,6 +1,6 @@
 use Rattle.std.proofs.Common.{take}
 use Rattle.fc_facet.specs.KindView.{terms_view}
-use Rattle.fc_reading.specs.Grouped.{Holds, map_view}
+use Rattle.fc_refine.specs.Grouped.{Holds, map_view}
 use Rattle.fc_spec.specs.replies.Values.{value_places}
 use Rattle.fc_places.specs.PlaceView.{place_view, places_view}
 use Rattle.fc_plain.proofs.values.places_by_value.Given as goal

@@ -1,10 +1,10 @@
 use Rattle.std.proofs.Common.{◌∷◌, List, ap, sym, subst}
 use Rattle.fc_base.specs.View.{val_view}
 use Rattle.fc_partial.proofs.ViewedEntries.{sorted_seen}
-use Rattle.fc_reading.proofs.Growing.{IsGrowing, growing_none, growing_more, val_at}
-use Rattle.fc_reading.specs.Grouped.{map_view}
+use Rattle.fc_refine.proofs.Growing.{IsGrowing, growing_none, growing_more, val_at}
+use Rattle.fc_refine.specs.Grouped.{map_view}
 use Rattle.fc_places.specs.PlaceView.{place_view}
-use Rattle.fc_reading.specs.FacetNode.{vals_view}
+use Rattle.fc_request.specs.FacetNode.{vals_view}
 use Rattle.fc_spec.specs.documents.Val.{Val, val_cmp}
 use Rattle.fc_plain.proofs.values.push_for_each.Goals as goal
 

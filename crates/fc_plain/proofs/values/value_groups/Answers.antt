@@ -2,7 +2,7 @@ use Rattle.std.proofs.Common.{List, sym, subst}
 use Rattle.fc_facet.specs.KindView.{terms_view}
 use Rattle.fc_plain.proofs.ValueGroups.{grouped}
 use Rattle.fc_plain.specs.Groups.{Group}
-use Rattle.fc_reading.specs.Grouped.{Holds}
+use Rattle.fc_refine.specs.Grouped.{Holds}
 use Rattle.fc_spec.specs.replies.Values.{value_places}
 use Rattle.fc_places.specs.PlaceView.{places_view}
 use Rattle.fc_plain.proofs.values.value_groups.Goals as goal

@@ -1,7 +1,7 @@
 use Rattle.std.proofs.Common.{◌≡◌, ◌++◌, map}
-use Rattle.fc_reading.specs.Grouped.{map_view}
+use Rattle.fc_refine.specs.Grouped.{map_view}
 use Rattle.fc_reading.specs.Terms.{offered_view}
-use Rattle.fc_reading.proofs.Growing.{seen}
+use Rattle.fc_refine.proofs.Growing.{seen}
 use Rattle.fc_reading.proofs.offered.listed.Given as goal
 
 abbrev pub invariant-loop-val : goal.invariant-loop-val

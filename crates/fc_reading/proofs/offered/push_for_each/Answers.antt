@@ -1,8 +1,8 @@
 use Rattle.std.proofs.Common.{◌≡◌, ◌+◌, ◌∷◌, List, suc, drop, drop-cons, ap, sym, subst, ◌∙◌, add-one}
 use Rattle.fc_base.specs.View.{val_view}
-use Rattle.fc_reading.specs.FacetNode.{vals_view}
-use Rattle.fc_reading.specs.Grouped.{map_view}
-use Rattle.fc_reading.proofs.Growing.{IsGrowing, growing_more}
+use Rattle.fc_request.specs.FacetNode.{vals_view}
+use Rattle.fc_refine.specs.Grouped.{map_view}
+use Rattle.fc_refine.proofs.Growing.{IsGrowing, growing_more}
 use Rattle.fc_spec.specs.documents.Val.{Val}
 use Rattle.fc_reading.proofs.offered.push_for_each.Goals as goal
 

@@ -1,7 +1,7 @@
 use Rattle.std.proofs.Common.{drop}
-use Rattle.fc_reading.specs.FacetNode.{vals_view}
-use Rattle.fc_reading.specs.Grouped.{map_view}
-use Rattle.fc_reading.proofs.Growing.{IsGrowing}
+use Rattle.fc_request.specs.FacetNode.{vals_view}
+use Rattle.fc_refine.specs.Grouped.{map_view}
+use Rattle.fc_refine.proofs.Growing.{IsGrowing}
 use Rattle.fc_reading.proofs.offered.push_for_each.Given as goal
 
 abbrev pub invariant-loop-val : goal.invariant-loop-val

@@ -1,6 +1,6 @@
 use Rattle.std.proofs.Common.{◌∙◌, ap, unwrap_or, rules}
 use Rattle.std.specs.BTreeMap.Entry.{map_with_value}
-use Rattle.fc_reading.proofs.Growing.{pushed_written}
+use Rattle.fc_refine.proofs.Growing.{pushed_written}
 use Rattle.fc_reading.proofs.offered.push_shard.Goals as goal
 
 pub returns : goal.returns

@@ -2,9 +2,9 @@ use Rattle.std.proofs.Common.{◌≡◌, ◌<◌, List, length, get_or, Vec, Bor
 use Rattle.std.specs.declared.alloc.Global.{Global}
 use Rattle.fc_base.specs.declared.value.Val as code
 use Rattle.fc_spec.specs.documents.Val.{Val}
-use Rattle.fc_reading.specs.FacetNode.{vals_view}
-use Rattle.fc_reading.specs.Grouped.{Grows}
-use Rattle.fc_reading.proofs.Growing.{holds_more}
+use Rattle.fc_request.specs.FacetNode.{vals_view}
+use Rattle.fc_refine.specs.Grouped.{Grows}
+use Rattle.fc_refine.proofs.Growing.{holds_more}
 use Rattle.fc_reading.proofs.Merging.{holds_none, shards_with, shards_more, offered_at}
 use Rattle.fc_reading.proofs.offered.shards_by_value.Goals as goal
 

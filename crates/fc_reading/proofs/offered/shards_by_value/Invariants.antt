@@ -1,8 +1,8 @@
 use Rattle.std.proofs.Common.{◌≡◌, ℕ, List, map, take}
 use Rattle.std.specs.List.{filter}
 use Rattle.fc_spec.specs.documents.Val.{Val, has_val}
-use Rattle.fc_reading.specs.FacetNode.{vals_view}
-use Rattle.fc_reading.specs.Grouped.{Holds, map_view}
+use Rattle.fc_request.specs.FacetNode.{vals_view}
+use Rattle.fc_refine.specs.Grouped.{Holds, map_view}
 use Rattle.fc_reading.proofs.offered.shards_by_value.Given as goal
 
 abbrev pub invariant-loop-at : goal.invariant-loop-at

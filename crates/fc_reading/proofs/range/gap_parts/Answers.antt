@@ -4,7 +4,7 @@ use Rattle.std.proofs.lemmas.List.Elements.{All-push}
 use Rattle.fc_base.specs.StatisticView.{stat_view}
 use Rattle.fc_base.specs.View.{val_view}
 use Rattle.fc_facet.specs.KindView.{range_view}
-use Rattle.fc_reading.specs.FacetNode.{kind_view}
+use Rattle.fc_request.specs.FacetNode.{kind_view}
 use Rattle.fc_spec.specs.replies.Reply.{listed}
 use Rattle.fc_spec.specs.requests.Buckets.{gap}
 use Rattle.fc_spec.specs.requests.Gaps.{gap_count}

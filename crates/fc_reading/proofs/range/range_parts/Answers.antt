@@ -1,6 +1,6 @@
 use Rattle.std.proofs.Common.{None, ap, refl}
 use Rattle.fc_facet.specs.KindView.{range_view}
-use Rattle.fc_reading.specs.FacetNode.{kind_view}
+use Rattle.fc_request.specs.FacetNode.{kind_view}
 use Rattle.fc_reading.proofs.RangeParts.{all_parts}
 use Rattle.fc_reading.proofs.range.range_parts.Goals as goal
 

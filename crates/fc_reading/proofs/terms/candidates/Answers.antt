@@ -2,7 +2,7 @@ use Rattle.std.proofs.Common.{◌∙◌, ap, sym, map}
 use Rattle.fc_spec.specs.replies.Chosen as chosen
 use Rattle.fc_facet.specs.KindView.{terms_view}
 use Rattle.fc_request.specs.NodeView.{inner_view}
-use Rattle.fc_reading.specs.FacetNode.{vals_view}
+use Rattle.fc_request.specs.FacetNode.{vals_view}
 use Rattle.fc_reading.proofs.OfferedValues.{offered_shards, offered_vals}
 use Rattle.fc_reading.proofs.terms.candidates.Goals as goal
 

@@ -3,7 +3,7 @@ use Rattle.std.specs.Prelude.{All}
 use Rattle.fc_spec.specs.replies.Reply.{as_missing}
 use Rattle.fc_facet.specs.KindView.{terms_view}
 use Rattle.fc_request.specs.NodeView.{inner_view}
-use Rattle.fc_reading.specs.FacetNode.{kind_of, kind_view}
+use Rattle.fc_request.specs.FacetNode.{kind_of, kind_view}
 use Rattle.fc_reading.specs.Parts.{beside, IsCounted}
 use Rattle.fc_reading.proofs.ValueParts.{missing_made, parts_counted, terms_parts_are}
 use Rattle.fc_reading.proofs.terms.terms_parts.Goals as goal

@@ -2,14 +2,14 @@ use Rattle.std.proofs.Common.{◌≡◌, ◌∙◌, ◌+◌, ◌++◌, ◌∷◌
 use Rattle.std.proofs.lemmas.Bool.{ne_eqb}
 use Rattle.std.proofs.lemmas.List.Elements.{All-rest}
 use Rattle.fc_base.specs.StatisticView.{stat_view}
-use Rattle.fc_reading.proofs.Nodes.{has_buckets_by, statistic_of}
+use Rattle.fc_request.proofs.Nodes.{has_buckets_by, statistic_of}
 use Rattle.fc_spec.specs.requests.Request.{stats_of}
 use Rattle.std.specs.List.{enumerate_from}
 use Rattle.fc_spec.specs.words.Lists.{is_empty}
 use Rattle.fc_spec.specs.replies.Reply.{Bucket, Row, listed}
 use Rattle.fc_spec.specs.replies.Distributed.{dist_buckets, dist_facets}
-use Rattle.fc_reading.specs.FacetNode.{facet_view as asked_facet, kind_of, kind_view}
-use Rattle.fc_reading.specs.CountableRanges.{AreCountable}
+use Rattle.fc_request.specs.FacetNode.{facet_view as asked_facet, kind_of, kind_view}
+use Rattle.fc_refine.specs.CountableRanges.{AreCountable}
 use Rattle.fc_reply.specs.declared.reply.ReplyBody.TheFolds.{fold-roll-ReplyFacet}
 use Rattle.fc_partial.specs.StatsView.{stats_view}
 use Rattle.fc_reply.proofs.ReplyViews.{view_of_made_buckets}

@@ -8,7 +8,7 @@ use Rattle.fc_reply.specs.ReplyView.{bucket_view, facet_view, facets_over}
 use Rattle.fc_spec.specs.replies.Reply.{listed}
 use Rattle.fc_spec.specs.replies.Distributed.{dist_facets}
 use Rattle.fc_spec.specs.requests.Request.{no_nodes, stats_of}
-use Rattle.fc_reading.specs.CountableRanges.{AreCountable}
+use Rattle.fc_refine.specs.CountableRanges.{AreCountable}
 use Rattle.fc_reading.specs.Parts.{bucket_with, IsCounted, part_view}
 use Rattle.fc_reading.specs.Tree.{count_in, inside, node_before}
 use Rattle.fc_reading.proofs.Sizes.{node_total}

@@ -1,6 +1,6 @@
 use Rattle.std.proofs.Common.{◌≡◌, ◌∙◌, ap}
 use Rattle.fc_partial.specs.View.{key_view}
-use Rattle.fc_reading.specs.FacetNode.{kind_view}
+use Rattle.fc_request.specs.FacetNode.{kind_view}
 use Rattle.fc_spec.specs.requests.Buckets.{bucket_places}
 use Rattle.fc_places.specs.PlaceView.{places_view}
 use Rattle.fc_places.proofs.FittingDomains.{bucket_fits}
