@@ -6,7 +6,7 @@ use Rattle.fc_spec.specs.laws.RefinedPaths.{AreRefinedPathsExact}
 use Rattle.fc_spec.specs.laws.RequestLaws.{ValidExcludeOutermost}
 use Rattle.fc_spec.specs.laws.ScriptLaws.{EndsAreOutputs, IsOnlyOutput, StandByPhase, WorldsAreWithin}
 use Rattle.fc_spec.specs.laws.WithoutLimits.{IsSingleWithoutLimits}
-use Rattle.fc_reading.specs.CountableRanges.{AreCountable}
+use Rattle.fc_refine.specs.CountableRanges.{AreCountable}
 
 pub record AreRunLaws : Type 0 where
   pub by_phase : StandByPhase

@@ -12,8 +12,9 @@ use Rattle.fc_spec.specs.scripts.PhaseEnds.{line_in}
 use Rattle.fc_spec.specs.scripts.WorldLimits.{IsWithinLimits}
 use Rattle.fc_docs.specs.declared.block.Batch.{Batch}
 use Rattle.fc_request.specs.RequestView.{request_view}
-use Rattle.fc_reading.specs.CountableRanges.{AreCountable}
-use Rattle.fc_script.specs.PartsView.{asked_view, batches_view, session_at}
+use Rattle.fc_refine.specs.CountableRanges.{AreCountable}
+use Rattle.fc_lines.specs.LineView.{asked_view}
+use Rattle.fc_script.specs.PartsView.{batches_view, session_at}
 use Rattle.fc_script.specs.SoundScripts.{CutLists}
 use Rattle.fc_script.specs.declared.script.Phase.{Phase}
 use Rattle.fc_script.specs.declared.script.Search.{Search}

@@ -11,7 +11,7 @@ use crate::run_text::{RunText, run_text_of, too_long};
 use crate::status::Status;
 use fc_base::WantMemory;
 use fc_io::{AllRead, Sink, Source, WriteEnd, read_all, write_all};
-use fc_script::SCRIPT_LIMIT;
+use fc_script::SCRIPT_BYTES;
 use std::alloc::Global;
 
 // Writes the answer, where there is one.
@@ -69,7 +69,7 @@ pub fn run<S: Source, K: Sink>(
     if words.len() != 1 {
         return Status::Usage;
     }
-    match read_all(alloc, source, SCRIPT_LIMIT) {
+    match read_all(alloc, source, SCRIPT_BYTES) {
         Ok(AllRead::Bytes(bytes)) => give(sink, &run_text_of(alloc, bytes)),
         Ok(AllRead::TooLong) => give(sink, &too_long(alloc)),
         Ok(AllRead::ReadFault) => Status::Read,

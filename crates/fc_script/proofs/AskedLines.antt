@@ -16,10 +16,10 @@ use Rattle.fc_spec.specs.words.Walks.{◌>>=◌}
 use Rattle.fc_spec.proofs.scripts.ValidSearches.{scripts_ask_valid}
 use Rattle.fc_base.specs.Answers.{Answers}
 use Rattle.fc_base.specs.declared.error.Refusal.{Refusal}
+use Rattle.fc_lines.specs.FaultView.{script_fault_view}
+use Rattle.fc_lines.specs.declared.fault.ScriptFault as code
 use Rattle.fc_script.specs.AskedRequests.{IsAskedOf}
-use Rattle.fc_script.specs.FaultView.{script_fault_view}
 use Rattle.fc_script.specs.ScriptView.{read_view}
-use Rattle.fc_script.specs.declared.fault.ScriptFault as code
 use Rattle.fc_script.specs.declared.script_reader.ReadScript.{ReadScript}
 
 abbrev IsAskedScript : AskedScript → Type 0

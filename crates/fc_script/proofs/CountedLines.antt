@@ -1,12 +1,10 @@
 -- One line more behind the others: what is counted then.
-use Rattle.std.proofs.Common.{◌≡◌, ℕ, ◌+◌, ◌<◌, ◌≤◌, List, [], ◌∷◌, ◌++◌, length, get_or, Bool, false, cond, None, Some, Result, Vec, Global, refl, sym, ◌∙◌, ap, subst, append-nil, arith}
+use Rattle.std.proofs.Common.{◌≡◌, ℕ, ◌+◌, ◌<◌, ◌≤◌, List, [], ◌∷◌, ◌++◌, length, get_or, Bool, false, cond, None, Some, Vec, Global, refl, sym, ◌∙◌, ap, subst, append-nil, arith}
 use Rattle.std.specs.Prelude.{count_by, nat_le, Option, All}
 use Rattle.std.specs.List.{filter_map, list_all, range_with_len}
 use Rattle.std.proofs.lemmas.List.Elements.{All-append, All-cons, All-nil, filter_map-append}
 use Rattle.fc_spec.specs.documents.Val.{Text}
 use Rattle.fc_spec.specs.documents.Document.{Block}
-use Rattle.fc_spec.specs.requests.Request.{Request}
-use Rattle.fc_spec.specs.requests.RequestFault.{RequestFault}
 use Rattle.fc_spec.specs.documents.Schema.{Schema}
 use Rattle.fc_spec.specs.scripts.Script.{add, commit, sync, asks, is_sync, commits_shard}
 use Rattle.fc_spec.specs.scripts.ScriptFault.{too_many_commits, too_many_sessions, too_many_syncs}
@@ -17,7 +15,7 @@ use Rattle.fc_spec.specs.words.Walks.{unless}
 use Rattle.fc_script.specs.Commits.{more_at}
 use Rattle.fc_script.specs.Counts.{AreCounts}
 use Rattle.fc_script.specs.DocumentCounts.{AreDocumentCounts}
-use Rattle.fc_spec.specs.scripts.AskedScripts.{AskedLine}
+use Rattle.fc_spec.specs.scripts.AskedScripts.{Asked, AskedLine}
 use Rattle.fc_script.specs.Sessions.{with_session}
 use Rattle.fc_script.specs.declared.counts.Counts.{Counts}
 use Rattle.fc_script.specs.declared.counts.documents.DocumentCounts.{DocumentCounts}
@@ -27,10 +25,6 @@ use Rattle.fc_spec.proofs.words.Counting.{count_by-push}
 
 abbrev Lines : Type 0
 Lines = List AskedLine
-
--- what a search asks
-abbrev Asked : Type 0
-Asked = Result Request RequestFault
 
 -- ---- blocks
 

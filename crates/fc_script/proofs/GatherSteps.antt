@@ -1,5 +1,5 @@
 -- All lines of a script, one after another.
-use Rattle.std.proofs.Common.{◌≡◌, ℕ, ◌<◌, ◌≤◌, List, [], ◌∷◌, length, fold, get_or, All, IfOk, None, Some, Result, Ok, Err, true, refl, sym, ◌∙◌, ap, subst, arith}
+use Rattle.std.proofs.Common.{◌≡◌, ℕ, ◌<◌, List, [], ◌∷◌, length, fold, get_or, All, IfOk, None, Some, Result, Ok, Err, true, refl, sym, ◌∙◌, ap, subst, arith}
 use Rattle.std.specs.Arc.{arc_value}
 use Rattle.std.proofs.lemmas.List.{get_or-map, length-map}
 use Rattle.fc_spec.specs.documents.Schema.{Schema}
@@ -7,9 +7,11 @@ use Rattle.fc_spec.specs.documents.Val.{Text}
 use Rattle.fc_spec.specs.scripts.AskedScripts.{Asked, AskedLine, AskedScript}
 use Rattle.fc_spec.specs.scripts.Script.{add, commit, sync, asks}
 use Rattle.fc_spec.specs.scripts.ScriptParts.{Parts, parts_of}
-use Rattle.fc_spec.specs.scripts.ScriptTotals.{few_commits, sessions}
+use Rattle.fc_spec.specs.scripts.ScriptTotals.{Limits, few_commits, sessions}
+use Rattle.fc_spec.specs.scripts.ValidScripts.{IsWithin}
+use Rattle.fc_base.specs.ValidSchema.{IsValidSchema}
 use Rattle.fc_docs.specs.View.{batch_view}
-use Rattle.fc_script.specs.Counts.{IsLineOf}
+use Rattle.fc_lines.specs.ValidLines.{IsLineOf}
 use Rattle.fc_script.specs.Gathered as gathered
 use Rattle.fc_script.specs.GatheredView.{gathered_view, AreSoundPhases, IsPlaced}
 use Rattle.fc_script.specs.PartsView.{parts_view}
@@ -56,12 +58,12 @@ module _ (S : AskedScript) (known : List Text) (is_known : known ≡ sessions S.
   parted (Ok script) is = is ∙ parts
   parted (Err e) is = tt
 
-  sound_script : (script : Script) → parts_view script ≡ parts_of S → AreSoundPhases S.schema (length known) script → S.schema.shards ≤ 64 → IsSound script
-  sound_script script same sound few =
+  sound_script : (script : Script) → parts_view script ≡ parts_of S → (limits : Limits) → IsWithin limits S → AreSoundPhases S.schema (length known) script → IsValidSchema S.schema → IsSound limits script
+  sound_script script same limits within sound valid =
       let schema : S.schema ≡ arc_value script.schema = sym (ap (λ (p : Parts Asked). p.schema) same) in
       let number : known ≡ script.sessions.items = is_known ∙ sym (ap (λ (p : Parts Asked). p.sessions) same) in
-      sound_parts script S same (subst (λ s. AreSoundPhases s (length script.sessions.items) script) schema (subst (λ ts. AreSoundPhases S.schema (length ts) script) number sound)) (subst (λ (s : Schema). s.shards ≤ 64) schema few)
+      sound_parts script S same limits within (subst (λ s. AreSoundPhases s (length script.sessions.items) script) schema (subst (λ ts. AreSoundPhases S.schema (length ts) script) number sound)) (subst IsValidSchema schema valid)
 
-  pub soundly : {E : Type 0} (r : Result Script E) → IfOk r (λ script. parts_view script ≡ gathered.gathered_parts S.schema known g) → IfOk r (AreSoundPhases S.schema (length known)) → S.schema.shards ≤ 64 → IfOk r IsSound
-  soundly (Ok script) is sound few = sound_script script (is ∙ parts) sound few
-  soundly (Err e) is sound few = tt
+  pub soundly : {E : Type 0} (r : Result Script E) → IfOk r (λ script. parts_view script ≡ gathered.gathered_parts S.schema known g) → (limits : Limits) → IsWithin limits S → IfOk r (AreSoundPhases S.schema (length known)) → IsValidSchema S.schema → IfOk r (IsSound limits)
+  soundly (Ok script) is limits within sound valid = sound_script script (is ∙ parts) limits within sound valid
+  soundly (Err e) is limits within sound valid = tt

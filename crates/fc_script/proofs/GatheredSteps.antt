@@ -8,9 +8,10 @@ use Rattle.fc_spec.specs.documents.Schema.{Schema}
 use Rattle.fc_spec.specs.documents.Val.{Text}
 use Rattle.fc_docs.specs.View.{batch_view}
 use Rattle.fc_docs.specs.declared.block.Batch.{Batch}
+use Rattle.fc_lines.specs.LineView.{asked_view}
 use Rattle.fc_script.specs.Gathered as gathered
 use Rattle.fc_script.specs.GatheredView.{gathered_view, HasSoundSearches, IsSoundSoFar}
-use Rattle.fc_script.specs.PartsView.{asked_view, batches_view, parts_view, phase_view, phases_view, search_view, session_at}
+use Rattle.fc_script.specs.PartsView.{batches_view, parts_view, phase_view, phases_view, search_view, session_at}
 use Rattle.fc_script.specs.ShardView.{shard_view}
 use Rattle.fc_script.specs.SoundScripts.{IsSoundSearch}
 use Rattle.fc_script.specs.declared.gather.gathered.Gathered.{Gathered}

@@ -2,7 +2,6 @@ pub mod AskedCounts
 pub mod AskedLines
 pub mod CountedDocuments
 pub mod CountedLines
-pub mod CutLines
 pub mod IdSets
 pub mod InRange
 pub mod LimitsLeft

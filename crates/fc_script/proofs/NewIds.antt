@@ -13,9 +13,9 @@ use Rattle.fc_base.specs.declared.error.Refusal.{Refusal}
 use Rattle.fc_base.specs.declared.error.Refusal.TheVariants as refusal
 use Rattle.fc_spec.specs.scripts.ScriptFault as fault
 use Rattle.fc_spec.specs.scripts.ScriptFault.{duplicate_id}
-use Rattle.fc_script.specs.FaultView.{line_fault_view}
+use Rattle.fc_lines.specs.FaultView.{line_fault_view}
+use Rattle.fc_lines.specs.declared.fault.LineFault.{LineFault}
 use Rattle.fc_script.specs.Ids.{ids_of, are_new, if_new, AreIdsOf, AreKnownToo}
-use Rattle.fc_script.specs.declared.fault.LineFault.{LineFault}
 use Rattle.fc_spec.proofs.documents.ValOrder.{same_val_equiv}
 
 -- ---- tests of lists

@@ -11,6 +11,7 @@ use Rattle.fc_spec.specs.scripts.ScriptReading.{Numbered, at_line, check_last, n
 use Rattle.fc_spec.specs.scripts.ScriptTotals.{Limits}
 use Rattle.fc_spec.specs.scripts.LineReading.{line_said}
 use Rattle.fc_spec.specs.words.Walks.{◌>>=◌, unless}
+use Rattle.fc_lines.specs.AskedLines.{asked_line}
 use Rattle.fc_script.specs.ReadSoFar.{ReadSoFar, with_asked, with_rest, read_from, read_in}
 use Rattle.fc_script.proofs.AskedCounts.{check_last-asked}
 
@@ -42,7 +43,7 @@ module _ (limits : Limits) (s : Schema) where
 
     -- with what a line says, or its fault
     line_here : (said : Result (Line Data) LineFault)
-        → (at_line n (said >>= λ now. with_asked (so_far (map see earlier)) (see now)) >>= λ r. with_rest r ls)
+        → (at_line n (asked_line s said >>= λ l. with_asked (so_far (map see earlier)) l) >>= λ r. with_rest r ls)
         ≡ as_asked (at_line n (said >>= λ now. check_last limits s (earlier ++ now ∷ []) now >>= λ u. Ok (earlier ++ now ∷ [])) >>= λ more. with_lines limits s more ls)
     line_here (Ok now) =
         ap (λ count. at_line n (count >>= λ u. Ok (so_far (map see earlier ++ see now ∷ []))) >>= λ r. with_rest r ls) (same_count now)
@@ -51,7 +52,7 @@ module _ (limits : Limits) (s : Schema) where
 
     -- with its value, or its fault
     value_here : (v : Result Data LineFault)
-        → (at_line n (v >>= λ d. line_said s d >>= λ now. with_asked (so_far (map see earlier)) (see now)) >>= λ r. with_rest r ls)
+        → (at_line n ((v >>= λ d. asked_line s (line_said s d)) >>= λ l. with_asked (so_far (map see earlier)) l) >>= λ r. with_rest r ls)
         ≡ as_asked (at_line n (v >>= λ d. line_said s d >>= λ now. check_last limits s (earlier ++ now ∷ []) now >>= λ u. Ok (earlier ++ now ∷ [])) >>= λ more. with_lines limits s more ls)
     value_here (Ok d) = line_here (line_said s d)
     value_here (Err e) = refl

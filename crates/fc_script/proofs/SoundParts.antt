@@ -1,5 +1,5 @@
 -- What is known of a script by its parts.
-use Rattle.std.proofs.Common.{◌≡◌, ℕ, zero, suc, ◌<◌, ◌≤◌, List, [], ◌∷◌, map, length, get_or, All, Vec, Global, refl, sym, ◌∙◌, ap, subst, arith}
+use Rattle.std.proofs.Common.{◌≡◌, ℕ, zero, suc, ◌<◌, List, [], ◌∷◌, map, length, get_or, All, Vec, Global, refl, sym, ◌∙◌, ap, subst, arith}
 use Rattle.std.specs.Arc.{arc_value}
 use Rattle.std.specs.List.{enumerate_from}
 use Rattle.std.proofs.lemmas.List.{get_or-map, length-map}
@@ -9,15 +9,19 @@ use Rattle.fc_spec.specs.scripts.AskedScripts.{Asked, AskedScript}
 use Rattle.fc_spec.specs.scripts.Phases as definition
 use Rattle.fc_spec.specs.scripts.Script.{stream}
 use Rattle.fc_spec.specs.scripts.ScriptParts.{Parts, parts_of}
+use Rattle.fc_spec.specs.scripts.ScriptTotals.{Limits}
+use Rattle.fc_spec.specs.scripts.ValidScripts.{IsWithin}
+use Rattle.fc_base.specs.ValidSchema.{IsValidSchema}
 use Rattle.fc_docs.specs.View.{batch_view}
 use Rattle.fc_docs.specs.declared.block.Batch.{Batch}
 use Rattle.fc_script.specs.CutBatches.{CutBatches}
 use Rattle.fc_script.specs.GatheredView.{AreSoundPhases}
 use Rattle.fc_script.specs.PartsView.{batches_view, parts_view, phase_view, phases_view}
-use Rattle.fc_script.specs.SoundScripts.{CutLists, IsSound}
+use Rattle.fc_script.specs.SoundScripts.{CutLists, IsBatchOf, IsSound}
 use Rattle.fc_script.specs.declared.script.Phase.{Phase}
 use Rattle.fc_script.specs.declared.script.Script.{Script}
 use Rattle.fc_script.proofs.gathered.CutBatches.{phases_cut_batches}
+use Rattle.fc_script.proofs.gathered.ValidBatches.{batches_are}
 
 -- ---- the same lists, seen or not
 
@@ -50,14 +54,24 @@ phases_length sessions ps = length-map (enumerate_from 0 ps) (phase_view session
 abbrev phases_cut : Parts Asked → Type 0
 phases_cut parts = All (λ p. CutBatches parts.batches p.commits) parts.phases
 
+-- ---- batches
+
+All-unmap : {X Y : Type 0} (P : Y → Type 0) (f : X → Y) (xs : List X) → All P (map f xs) → All (λ x. P (f x)) xs
+All-unmap P f xs all k d below = subst P (get_or-map f xs k d (f d) below) (all k (f d) (let long = length-map xs f in omega arith))
+
+abbrev valid_batches : Limits → Parts Asked → Type 0
+valid_batches limits parts = All (All (IsBatchOf limits parts.schema)) parts.batches
+
 -- ---- the script
 
-pub sound_parts : (script : Script) (S : AskedScript) → parts_view script ≡ parts_of S → AreSoundPhases (arc_value script.schema) (length script.sessions.items) script → (arc_value script.schema).shards ≤ 64 → IsSound script
-sound_parts script S same sound few = record {
+pub sound_parts : (script : Script) (S : AskedScript) → parts_view script ≡ parts_of S → (limits : Limits) → IsWithin limits S → AreSoundPhases (arc_value script.schema) (length script.sessions.items) script → IsValidSchema (arc_value script.schema)
+    → IsSound limits script
+sound_parts script S same limits within sound valid = record {
+  schema = valid;
   shards =
       sym (length-map script.batches.items (λ b. batches_view (arc_value {X = Vec Batch Global} b).items)) ∙ ap (λ (p : Parts Asked). length p.batches) same
       ∙ length-map-range_with_len (stream S.lines) 0 S.schema.shards ∙ sym (ap (λ (p : Parts Asked). p.schema.shards) same);
-  few = few;
+  batches = All-unmap (All (IsBatchOf limits (arc_value script.schema))) (λ b. batches_view (arc_value {X = Vec Batch Global} b).items) script.batches.items (subst (valid_batches limits) (sym same) (batches_are limits S within));
   phases = λ k d below. record {
     commits = cut_seen (λ b. (arc_value {X = Vec Batch Global} b).items) batch_view script.batches.items (get_or script.phases.items k d).commits.items
         (subst (CutBatches (map (λ b. batches_view (arc_value {X = Vec Batch Global} b).items) script.batches.items)) (commits_at script.sessions.items script.phases.items k d below)

@@ -1,4 +1,5 @@
 pub mod ShardsBehind
 pub mod GatheredParts
 pub mod CutBatches
+pub mod ValidBatches
 pub mod KnownSessions

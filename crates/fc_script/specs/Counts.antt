@@ -1,20 +1,13 @@
 -- What is counted over the lines of a script.
-use Rattle.std.specs.Prelude.{◌≡◌, ◌<◌, ◌≤◌, ℕ, List, count_by, length, slice_index, All, IfSome}
+use Rattle.std.specs.Prelude.{◌≡◌, ◌<◌, ◌≤◌, ℕ, List, count_by, length, slice_index, All}
 use Rattle.std.specs.List.{filter_map}
 use Rattle.fc_spec.specs.documents.Schema.{Schema}
-use Rattle.fc_spec.specs.scripts.Script.{Line, add, commit, sync, asks, is_sync, commits_shard}
+use Rattle.fc_spec.specs.scripts.Script.{is_sync, commits_shard}
 use Rattle.fc_spec.specs.scripts.ScriptTotals.{Limits, added, sessions, total_limit}
 use Rattle.fc_spec.specs.documents.ValidBlocks.{IsBlockOf}
 use Rattle.fc_script.specs.DocumentCounts.{AreDocumentCounts}
 use Rattle.fc_spec.specs.scripts.AskedScripts.{AskedLine}
 use Rattle.fc_script.specs.declared.counts.Counts.{Counts}
-
--- a block is of the schema, and shards are among its shards
-abbrev pub IsLineOf : {A : Type 0} → Schema → Line A → Type 0
-IsLineOf s (add shard block) = (shard < s.shards) × IsBlockOf s block
-IsLineOf s (commit shard) = IfSome shard (λ n. n < s.shards)
-IsLineOf s sync = Unit {0}
-IsLineOf s (asks session a) = Unit {0}
 
 -- there is a sum for each field and a count for each shard; these, the sessions and the sync lines are within their limits
 pub record AreWithin (s : Schema) (c : Counts) : Type 0 where

@@ -5,8 +5,8 @@ use Rattle.fc_spec.specs.documents.Val.{Text}
 use Rattle.fc_spec.specs.scripts.AskedScripts.{AskedLine}
 use Rattle.fc_spec.specs.scripts.Script.{add, commit, sync, asks}
 use Rattle.fc_spec.specs.scripts.ScriptTotals as totals
+use Rattle.fc_lines.specs.ValidLines.{HasRoot, IsLineOf}
 use Rattle.fc_script.specs.AskedRequests.{IsAskedOf}
-use Rattle.fc_script.specs.Counts.{IsLineOf}
 use Rattle.fc_script.specs.Gathered as gathered
 use Rattle.fc_script.specs.PartsView.{phases_view, search_view}
 use Rattle.fc_script.specs.ScriptView.{read_view}
@@ -43,10 +43,11 @@ pub record IsSoundSoFar (s : Schema) (sessions : ℕ) (g : Gathered) : Type 0 wh
   pub phases : All (HasSoundSearches s sessions) g.phases.items
   pub searches : All (IsSoundSearch s sessions) g.searches.items
 
--- a script that was read: its sessions are those of its lines, these are of its schema and ask for what is valid, and commits and sessions are few
+-- a script that was read: its sessions are those of its lines, these are of its schema and ask for what is valid, in roots as requests do, and commits and sessions are few
 pub record IsWhole (r : ReadScript) : Type 0 where
   pub sessions : r.sessions.items ≡ totals.sessions (read_view r).lines
   pub lines : All (IsLineOf r.schema) (read_view r).lines
   pub asked : All (IsAskedOf r.schema) (read_view r).lines
+  pub roots : All HasRoot r.lines.items
   pub few_commits : IsTrue (totals.few_commits r.schema (read_view r).lines)
   pub few_sessions : IsTrue (totals.few_sessions (read_view r).lines)

@@ -1,6 +1,5 @@
--- What is left of the limits on documents and values, and of a script's lines.
-use Rattle.std.specs.Prelude.{ℕ, ◌+◌, ◌-◌, List, length, ◌&&◌, nat_le, Option, None, Some, if◌then◌else◌}
-use Rattle.fc_spec.specs.documents.Val.{Text}
+-- What is left of the limits on documents and values.
+use Rattle.std.specs.Prelude.{◌+◌, ◌-◌, List, length, ◌&&◌, nat_le, Option, None, Some, if◌then◌else◌}
 use Rattle.fc_spec.specs.documents.Document.{Block}
 use Rattle.fc_spec.specs.documents.Totals.{documents_of, document_total, value_count, value_total}
 use Rattle.fc_spec.specs.scripts.ScriptTotals.{Limits}
@@ -17,8 +16,3 @@ limits_after left b =
 -- the limits of which so much is left behind the blocks
 abbrev pub limits_with : Limits → List Block → Limits
 limits_with left blocks = record { documents = left.documents + document_total blocks; values = left.values + value_total blocks }
-
--- the lines that are left, and the number of the line before them
-pub record LinesLeft : Type 0 where
-  pub number : ℕ
-  pub lines : List Text

@@ -1,4 +1,3 @@
-pub mod FaultView
 pub mod LimitsView
 pub mod PartsView
 pub mod SoundScripts

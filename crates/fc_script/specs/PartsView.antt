@@ -1,8 +1,7 @@
 -- What a script that was read stands for in the definitions.
-use Rattle.std.specs.Prelude.{ℕ, List, [], map, Result, Vec, slice_index_or}
+use Rattle.std.specs.Prelude.{ℕ, List, [], map, Vec, slice_index_or}
 use Rattle.std.specs.Arc.{arc_value}
 use Rattle.std.specs.List.{enumerate_from}
-use Rattle.std.specs.Result.{result_map_both}
 use Rattle.std.specs.declared.alloc.Global.{Global}
 use Rattle.fc_spec.specs.documents.Document as documents
 use Rattle.fc_spec.specs.documents.Val.{Text}
@@ -11,17 +10,10 @@ use Rattle.fc_spec.specs.scripts.Phases as definition
 use Rattle.fc_spec.specs.scripts.ScriptParts.{Parts}
 use Rattle.fc_docs.specs.View.{batch_view}
 use Rattle.fc_docs.specs.declared.block.Batch.{Batch}
-use Rattle.fc_request.specs.FaultView.{request_fault_view}
-use Rattle.fc_request.specs.RequestView.{request_view}
-use Rattle.fc_request.specs.declared.fault.RequestFault.{RequestFault}
-use Rattle.fc_request.specs.declared.request.Request.{Request}
+use Rattle.fc_lines.specs.LineView.{asked_view}
 use Rattle.fc_script.specs.declared.script.Phase.{Phase}
 use Rattle.fc_script.specs.declared.script.Script.{Script}
 use Rattle.fc_script.specs.declared.script.Search.{Search}
-
--- a request, or its fault
-abbrev pub asked_view : Result Request RequestFault → Asked
-asked_view asked = result_map_both request_view request_fault_view asked
 
 -- the session of this number; the empty text where there is none
 abbrev pub session_at : List Text → ℕ → Text

@@ -2,13 +2,12 @@
 use Rattle.std.specs.Prelude.{ℕ, List, [], ◌∷◌, ◌++◌, length, nat_le, Result, Ok, Err}
 use Rattle.fc_spec.specs.documents.Val.{Text}
 use Rattle.fc_spec.specs.documents.Schema.{Schema}
-use Rattle.fc_spec.specs.requests.RequestReading.{request_of}
-use Rattle.fc_spec.specs.scripts.AskedScripts.{AskedLine, AskedScript, line_asking}
-use Rattle.fc_spec.specs.scripts.LineReading.{line_said}
+use Rattle.fc_spec.specs.scripts.AskedScripts.{AskedLine, AskedScript}
 use Rattle.fc_spec.specs.scripts.ScriptFault.{LineFault, no_schema, too_long, ScriptFault}
-use Rattle.fc_spec.specs.scripts.ScriptReading.{Numbered, at_line, numbered_lines, check_last, schema_on, script_limit, value_on}
+use Rattle.fc_spec.specs.scripts.ScriptReading.{Numbered, at_line, numbered_lines, check_last, schema_on, script_limit}
 use Rattle.fc_spec.specs.scripts.ScriptTotals.{Limits}
 use Rattle.fc_spec.specs.words.Walks.{◌>>=◌, unless}
+use Rattle.fc_lines.specs.AskedLines.{asked_on}
 
 -- with the limits that it is held to
 pub record ReadSoFar : Type 0 where
@@ -25,9 +24,8 @@ with_asked r l = do
 -- with a line of the script, and its request read
 abbrev pub with_text : ReadSoFar → Text → Result ReadSoFar LineFault
 with_text r t = do
-  d ← value_on t
-  said ← line_said r.schema d
-  with_asked r (line_asking (request_of r.schema) said)
+  l ← asked_on r.schema t
+  with_asked r l
 
 abbrev pub with_numbered : ReadSoFar → Numbered → Result ReadSoFar ScriptFault
 with_numbered r l = at_line l.0 (with_text r l.1)

@@ -3,11 +3,12 @@ ghost use Rattle.std.specs.Prelude.{◌≡◌, ℕ, [], ◌∷◌, ◌++◌, IfO
 ghost use Rattle.fc_spec.specs.scripts.ScriptReading.{check_last};
 ghost use Rattle.fc_spec.specs.scripts.ScriptTotals as totals;
 ghost use Rattle.fc_base.specs.Answers.{Answers};
-ghost use Rattle.fc_script.specs.Counts.{AreCounts, AreWithin, IsLineOf};
+ghost use Rattle.fc_lines.specs.FaultView.{line_fault_view};
+ghost use Rattle.fc_lines.specs.LineView.{line_view};
+ghost use Rattle.fc_lines.specs.ValidLines.{IsLineOf};
+ghost use Rattle.fc_script.specs.Counts.{AreCounts, AreWithin};
 ghost use Rattle.fc_spec.specs.scripts.AskedScripts.{AskedLine};
 ghost use Rattle.fc_script.specs.LimitsView.{limits_view};
-ghost use Rattle.fc_script.specs.FaultView.{line_fault_view};
-ghost use Rattle.fc_script.specs.ScriptView.{line_view};
 
 mod commits;
 mod documents;
@@ -15,12 +16,11 @@ mod ids;
 mod room;
 mod sessions;
 
-use crate::fault::LineFault;
 use crate::limits::Limits;
-use crate::line::Line;
 use commits::add_commit;
 use documents::DocumentCounts;
 use fc_base::{Name, Refusal, Schema, WantMemory};
+use fc_lines::{Line, LineFault};
 use sessions::add_session;
 use std::alloc::Global;
 

@@ -1,6 +1,8 @@
 // From the lines of a script to its batches and its phases.
 ghost use Rattle.std.specs.Prelude.{◌≡◌, IfOk};
 ghost use Rattle.fc_spec.specs.scripts.ScriptParts.{parts_of};
+ghost use Rattle.fc_spec.specs.scripts.ScriptTotals.{Limits};
+ghost use Rattle.fc_spec.specs.scripts.ValidScripts.{IsWithin};
 ghost use Rattle.fc_script.specs.GatheredView.{IsWhole};
 ghost use Rattle.fc_script.specs.PartsView.{parts_view};
 ghost use Rattle.fc_script.specs.ScriptView.{read_view};
@@ -20,7 +22,7 @@ use std::alloc::Global;
 pub(crate) fn gather(alloc: Global, read: ReadScript) -> Result<Script, WantMemory>
     requires { IsWhole read }
     ensures parts { IfOk result (λ script. parts_view script ≡ parts_of (read_view read)) }
-    ensures sound { IfOk result IsSound }
+    ensures sound { (limits : Limits) → IsWithin limits (read_view read) → IfOk result (IsSound limits) }
 {
     let ReadScript {
         schema,

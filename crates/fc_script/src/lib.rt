@@ -3,17 +3,12 @@
 #![tactic(auto)]
 
 mod counts;
-mod fault;
 mod gather;
 mod limits;
-mod line;
-mod lines;
 mod read;
-mod refusal_line;
 mod script;
 mod script_reader;
 
-pub use fault::{LineFault, ScriptFault};
-pub use limits::{Limits, SCRIPT_LIMIT, SCRIPT_LIMITS};
-pub use refusal_line::fault_line;
+pub use fc_lines::{LineFault, ScriptFault, fault_line};
+pub use limits::{Limits, SCRIPT_BYTES, SCRIPT_LIMITS};
 pub use script::{Phase, Script, Search};

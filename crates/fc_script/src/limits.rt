@@ -8,7 +8,7 @@ pub struct Limits {
 }
 
 /// The most bytes of a script.
-pub const SCRIPT_LIMIT: usize = 67_108_864;
+pub const SCRIPT_BYTES: usize = 67_108_864;
 
 /// The limits of every script.
 pub const SCRIPT_LIMITS: Limits = Limits {

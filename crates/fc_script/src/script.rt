@@ -1,10 +1,10 @@
 // Scripts as a run takes them.
-use crate::fault::ScriptFault;
 use crate::gather::gather;
 use crate::limits::{Limits, SCRIPT_LIMITS};
 use crate::read::read_script;
 use fc_base::{Name, Refusal, Schema};
 use fc_docs::Batch;
+use fc_lines::ScriptFault;
 use fc_request::{Request, RequestFault};
 use std::alloc::Global;
 use std::sync::Arc;
@@ -17,7 +17,7 @@ pub struct Search {
     pub request: Result<Request, RequestFault>,
 }
 
-/// A phase: for each shard its commits up to the end of the phase, and the searches of the phase in script order.
+/// A phase: how many commits each shard has up to its end, by the numbers of the shards, and its searches in script order.
 #[derive(Debug, Drop)]
 pub struct Phase {
     pub commits: Vec<u32>,
@@ -41,17 +41,17 @@ impl Script {
     ghost use Rattle.fc_spec.specs.scripts.ScriptTotals.{script_limits};
     ghost use Rattle.fc_spec.specs.scripts.ValidScripts.{IsWithin};
     ghost use Rattle.fc_base.specs.Answers.{Answers};
-    ghost use Rattle.fc_script.specs.FaultView.{script_fault_view};
+    ghost use Rattle.fc_lines.specs.FaultView.{script_fault_view};
     ghost use Rattle.fc_script.specs.LimitsView.{limits_view};
     ghost use Rattle.fc_script.specs.PartsView.{parts_view};
     ghost use Rattle.fc_script.specs.SoundScripts.{IsSound};
 
     /// The script that the bytes spell, each request read, or the fault of that; or the script's first fault. Requests that
-    /// were read are valid for the schema, and the script is within its limits.
+    /// were read are valid for the schema, as are the blocks of the batches, and the script is within its limits.
     pub fn read(alloc: Global, bytes: &[u8]) -> Result<Script, Refusal<ScriptFault>>
         ensures answer { Answers parts_view script_fault_view result (parts_spelled script_limits bytes.now) }
         ensures within { IfOk result (λ script. IfOk (asked_script_of script_limits bytes.now) (IsWithin script_limits)) }
-        ensures sound { IfOk result IsSound }
+        ensures sound { IfOk result (IsSound script_limits) }
     {
         Script::read_within(alloc, SCRIPT_LIMITS, bytes)
     }
@@ -64,7 +64,7 @@ impl Script {
     ) -> Result<Script, Refusal<ScriptFault>>
         ensures answer { Answers parts_view script_fault_view result (parts_spelled (limits_view limits) bytes.now) }
         ensures within { IfOk result (λ script. IfOk (asked_script_of (limits_view limits) bytes.now) (IsWithin (limits_view limits))) }
-        ensures sound { IfOk result IsSound }
+        ensures sound { IfOk result (IsSound (limits_view limits)) }
     {
         let read = read_script(alloc, limits, bytes)?;
         Ok(gather(alloc, read)?)

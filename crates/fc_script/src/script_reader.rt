@@ -3,18 +3,18 @@ ghost use Rattle.std.specs.Prelude.{◌≡◌, [], map, All, IfOk};
 ghost use Rattle.fc_spec.specs.scripts.ScriptTotals.{sessions as sessions_of};
 ghost use Rattle.fc_spec.specs.scripts.ValidScripts.{IsWithin};
 ghost use Rattle.fc_base.specs.Answers.{Answers};
-ghost use Rattle.fc_script.specs.Counts.{AreCounts, IsLineOf};
-ghost use Rattle.fc_script.specs.FaultView.{line_fault_view, script_fault_view};
+ghost use Rattle.fc_lines.specs.FaultView.{line_fault_view, script_fault_view};
+ghost use Rattle.fc_lines.specs.LineView.{line_view};
+ghost use Rattle.fc_lines.specs.ValidLines.{HasRoot, IsLineOf};
+ghost use Rattle.fc_script.specs.Counts.{AreCounts};
 ghost use Rattle.fc_script.specs.LimitsView.{limits_view};
 ghost use Rattle.fc_script.specs.ReadSoFar.{with_asked, with_numbered as with_numbered_line, with_text as with_text_line};
-ghost use Rattle.fc_script.specs.ScriptView.{line_view, read_view};
+ghost use Rattle.fc_script.specs.ScriptView.{read_view};
 
 use crate::counts::Counts;
-use crate::fault::{LineFault, ScriptFault, at_line};
 use crate::limits::Limits;
-use crate::line::{Line, asked_line, line_said};
-use crate::lines::value_on;
 use fc_base::{Name, Refusal, Schema, WantMemory};
+use fc_lines::{Line, LineFault, ScriptFault, at_line, line_on};
 use std::alloc::Global;
 
 /// A script that was read: its schema, the lines behind it in their order, without the blank ones, and its sessions in
@@ -59,7 +59,8 @@ impl ScriptReader {
 
     // The script so far, with a line behind the others.
     fn with_line(self, alloc: Global, line: Line) -> Result<ScriptReader, Refusal<LineFault>>
-        requires { IsLineOf self.schema (line_view line) }
+        requires valid { IsLineOf self.schema (line_view line) }
+        requires root { HasRoot line }
         ensures answer { Answers reader_view line_fault_view result (with_asked (reader_view self) (line_view line)) }
         ensures limits { IfOk result (λ r. (reader_view r).limits ≡ (reader_view self).limits) }
         ensures schema { IfOk result (λ r. (reader_view r).schema ≡ (reader_view self).schema) }
@@ -88,9 +89,7 @@ impl ScriptReader {
         ensures schema { IfOk result (λ r. (reader_view r).schema ≡ (reader_view self).schema) }
         ensures read { IsRead self → IfOk result IsRead }
     {
-        let json = value_on(alloc, text)?;
-        let said = line_said(alloc, &self.schema, &json)?;
-        let line = asked_line(alloc, &self.schema, said)?;
+        let line = line_on(alloc, &self.schema, text)?;
         self.with_line(alloc, line)
     }
 
@@ -118,6 +117,7 @@ impl ScriptReader {
         ensures sessions { result.sessions.items ≡ sessions_of (read_view result).lines }
         ensures within { IsWithin (reader_view self).limits (read_view result) }
         ensures valid { All (IsLineOf result.schema) (read_view result).lines }
+        ensures roots { All HasRoot result.lines.items }
     {
         let ScriptReader {
             schema,

@@ -19,7 +19,7 @@ use Rattle.fc_spec.specs.scripts.ScriptParts.{batches, parts_of}
 use Rattle.fc_spec.specs.scripts.ScriptTotals.{script_limits}
 use Rattle.fc_spec.specs.scripts.ValidScripts.{IsWithin}
 use Rattle.fc_spec.specs.scripts.WorldLimits.{IsWithinLimits}
-use Rattle.fc_reading.specs.CountableRanges.{AreCountable}
+use Rattle.fc_refine.specs.CountableRanges.{AreCountable}
 use Rattle.fc_request.specs.RequestView.{request_view}
 use Rattle.fc_request.specs.declared.fault.RequestFault.{RequestFault}
 use Rattle.fc_request.specs.declared.request.Request.{Request}
@@ -78,16 +78,16 @@ read_within worlds S s is few within =
 
 -- ---- phases
 
-all_answerable : AreRunLaws → (S : AskedScript) (s : Script) → parts_of S ≡ parts_view s → IsWithin script_limits S → IsSound s
+all_answerable : AreRunLaws → (S : AskedScript) (s : Script) → parts_of S ≡ parts_view s → IsWithin script_limits S → IsSound script_limits s
     → All (IsAnswerablePhase s.batches.items s.sessions.items) s.phases.items
 all_answerable laws S s is within sound = λ k d below. record {
   commits = (sound.phases k d below).commits;
-  within = read_within laws.worlds S s is sound.few within k d below;
+  within = read_within laws.worlds S s is sound.schema.few_shards within k d below;
   searches = All-weaker (IsSoundSearch (arc_value s.schema) (length s.sessions.items)) (IsAnswerable (length s.sessions.items))
       (λ q here. answerable laws.countable (arc_value s.schema) (length s.sessions.items) q here) _ (sound.phases k d below).searches;
 }
 
 pub answerable_phases : AreRunLaws → (spelled : Result AskedScript ScriptFault) (s : Script) → (spelled >>= λ S. Ok (parts_of S)) ≡ Ok (parts_view s)
-    → IfOk spelled (IsWithin script_limits) → IsSound s → All (IsAnswerablePhase s.batches.items s.sessions.items) s.phases.items
+    → IfOk spelled (IsWithin script_limits) → IsSound script_limits s → All (IsAnswerablePhase s.batches.items s.sessions.items) s.phases.items
 answerable_phases laws (Ok S) s is within sound = all_answerable laws S s (cc) within sound
 answerable_phases laws (Err f) s is within sound = absurd (cc)

@@ -6,6 +6,7 @@ use Rattle.fc_spec.specs.scripts.Lines.{fault_line}
 use Rattle.fc_spec.specs.scripts.Outputs.{IsOutput, IsOutputBy}
 use Rattle.fc_spec.specs.scripts.PhaseEnds.{text_at_ends}
 use Rattle.fc_spec.specs.scripts.ScriptFault.{ScriptFault}
+use Rattle.fc_spec.specs.scripts.ScriptTotals.{script_limits}
 use Rattle.fc_spec.specs.scripts.ScriptParts.{parts_of}
 use Rattle.fc_spec.specs.words.Walks.{◌>>=◌}
 use Rattle.fc_script.specs.PartsView.{parts_view}
@@ -18,7 +19,7 @@ use Rattle.fc_run.specs.declared.run_text.RunText.TheVariants.{Lines, Fault}
 use Rattle.fc_run.proofs.scripts.PartsText.{text_of_parts}
 use Rattle.fc_run.proofs.scripts.ScriptText.{same_text, text_is}
 
-printed : AreRunLaws → (S : AskedScript) (s : Script) → parts_of S ≡ parts_view s → IsSound s → ArePrinted S (parts_text distributed (parts_view s))
+printed : AreRunLaws → (S : AskedScript) (s : Script) → parts_of S ≡ parts_view s → IsSound script_limits s → ArePrinted S (parts_text distributed (parts_view s))
 printed laws S s is sound = record {
   output = output;
   single_index = subst (IsOutputBy single_without_limits S) (sym single_text) (laws.ends single_without_limits S);
@@ -37,7 +38,7 @@ printed laws S s is sound = record {
     output : IsOutput S (parts_text distributed (parts_view s))
     output = subst (IsOutput S) (sym plain_text) (laws.ends distributed S)
 
-pub printed_lines : AreRunLaws → (spelled : Result AskedScript ScriptFault) (s : Script) (text : Vec ℕ Global) → (spelled >>= λ S. Ok (parts_of S)) ≡ Ok (parts_view s) → IsSound s
+pub printed_lines : AreRunLaws → (spelled : Result AskedScript ScriptFault) (s : Script) (text : Vec ℕ Global) → (spelled >>= λ S. Ok (parts_of S)) ≡ Ok (parts_view s) → IsSound script_limits s
     → text.items ≡ parts_text distributed (parts_view s) → IsRunText spelled (Lines text)
 printed_lines laws (Ok S) s text read sound is = subst (ArePrinted S) (sym is) (printed laws S s (cc) sound)
 printed_lines laws (Err f) s text read sound is = absurd (cc)

@@ -17,10 +17,12 @@ use Rattle.fc_spec.specs.requests.ValidRequests.{IsValidRequest}
 use Rattle.fc_spec.specs.scripts.Lines.{reply_line}
 use Rattle.fc_spec.specs.scripts.Outputs.{Replies}
 use Rattle.fc_spec.specs.scripts.PhaseEnds.{line_in}
+use Rattle.fc_spec.specs.scripts.ScriptTotals.{script_limits}
 use Rattle.fc_request.specs.RequestView.{request_view}
 use Rattle.fc_request.specs.declared.fault.RequestFault.{RequestFault}
 use Rattle.fc_request.specs.declared.request.Request.{Request}
-use Rattle.fc_script.specs.PartsView.{asked_view, parts_view, phase_view, search_view, session_at}
+use Rattle.fc_lines.specs.LineView.{asked_view}
+use Rattle.fc_script.specs.PartsView.{parts_view, phase_view, search_view, session_at}
 use Rattle.fc_script.specs.SoundScripts.{IsSound, IsSoundPhase, IsSoundSearch}
 use Rattle.fc_script.specs.declared.script.Phase.{Phase}
 use Rattle.fc_script.specs.declared.script.Script.{Script}
@@ -77,5 +79,5 @@ same_phases single_index outermost s n lists shards ss (p ∷ ps) sound =
     ++ same_phases single_index outermost s n lists shards ss ps (All-tail (IsSoundPhase s n lists) p ps sound) i
 
 -- in the requests of a script that was read exclusions stand on outermost nodes alone
-pub same_text : IsSingleWithoutLimits → ValidExcludeOutermost → (s : Script) → IsSound s → script_text distributed s ≡ script_text single_without_limits s
+pub same_text : IsSingleWithoutLimits → ValidExcludeOutermost → (s : Script) → IsSound script_limits s → script_text distributed s ≡ script_text single_without_limits s
 same_text single_index outermost s sound = same_phases single_index outermost _ _ _ (shards_view s.batches.items) s.sessions.items s.phases.items sound.phases

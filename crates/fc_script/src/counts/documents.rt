@@ -9,16 +9,16 @@ ghost use Rattle.fc_spec.specs.documents.Totals.{documents_in, documents_of};
 ghost use Rattle.fc_spec.specs.documents.ValidBlocks.{IsBlockOf};
 ghost use Rattle.fc_base.specs.Answers.{Answers};
 ghost use Rattle.fc_docs.specs.View.{block_view};
+ghost use Rattle.fc_lines.specs.FaultView.{line_fault_view};
 ghost use Rattle.fc_script.specs.DocumentCounts.{AreDocumentCounts};
 ghost use Rattle.fc_script.specs.LimitsView.{limits_view};
-ghost use Rattle.fc_script.specs.FaultView.{line_fault_view};
 
 use super::ids::insert_ids;
 use super::room::limits_after;
-use crate::fault::LineFault;
 use crate::limits::Limits;
 use fc_base::{Refusal, Schema, Val, WantMemory};
 use fc_docs::Block;
+use fc_lines::LineFault;
 use std::alloc::Global;
 use std::collections::BTreeSet;
 

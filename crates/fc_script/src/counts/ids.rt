@@ -3,12 +3,12 @@ ghost use Rattle.std.specs.Prelude.{[], ◌∷◌, map, OnOk};
 ghost use Rattle.fc_base.specs.Answers.{Answers};
 ghost use Rattle.fc_base.specs.View.{val_view};
 ghost use Rattle.fc_docs.specs.View.{block_view};
+ghost use Rattle.fc_lines.specs.FaultView.{line_fault_view};
 ghost use Rattle.fc_script.specs.Ids.{ids_of, if_new, AreKnownToo};
-ghost use Rattle.fc_script.specs.FaultView.{line_fault_view};
 
-use crate::fault::LineFault;
 use fc_base::{FieldId, Refusal, Val};
 use fc_docs::Block;
+use fc_lines::LineFault;
 use std::alloc::Global;
 use std::collections::BTreeSet;
 

@@ -4,20 +4,21 @@ ghost use Rattle.std.specs.List.{list_any};
 ghost use Rattle.fc_spec.specs.documents.Schema as definition;
 ghost use Rattle.fc_spec.specs.documents.Val.{Text, same_text};
 ghost use Rattle.fc_spec.specs.requests.ValidRequests.{IsValidRequest};
-ghost use Rattle.fc_request.specs.RequestView.{request_view};
+ghost use Rattle.fc_request.specs.RequestView.{request_view, IsRoot};
+ghost use Rattle.fc_lines.specs.LineView.{asked_view, line_view};
+ghost use Rattle.fc_lines.specs.ValidLines.{HasRoot};
 ghost use Rattle.fc_script.specs.AskedRequests.{IsAskedOf};
 ghost use Rattle.fc_script.specs.Gathered as gathered;
 ghost use Rattle.fc_script.specs.GatheredView.{gathered_view, IsPlaced, IsSoundSoFar, AreSoundPhases};
-ghost use Rattle.fc_script.specs.PartsView.{asked_view, parts_view};
-ghost use Rattle.fc_script.specs.ScriptView.{line_view};
+ghost use Rattle.fc_script.specs.PartsView.{parts_view};
 ghost use Rattle.fc_script.specs.KnownSessions.{IsKnownIn};
 ghost use Rattle.fc_script.specs.ShardView.{HasFewBatches};
 
 use super::session::session_number;
 use super::shards::{ShardSoFar, add_block, batches, commit, commits, empty_shards};
-use crate::line::Line;
 use crate::script::{Phase, Script, Search};
 use fc_base::{Name, Schema, WantMemory};
+use fc_lines::Line;
 use fc_request::{Request, RequestFault};
 use std::alloc::Global;
 use std::mem;
@@ -73,6 +74,7 @@ impl Gathered {
         ensures lines { OnOk result (gathered_view sessions.now self.new
             ≡ gathered.with_search session.now (asked_view request) (gathered_view sessions.now self.old)) }
         ensures sound { (s : definition.Schema) → IfOk request (λ r. IsValidRequest s (request_view r))
+            → IfOk request (λ r. IsRoot r.root)
             → IsSoundSoFar s (length sessions.now) self.old
             → OnOk result (IsSoundSoFar s (length sessions.now) self.new) }
         ensures shards { self.new.shards ≡ self.old.shards }
@@ -95,7 +97,7 @@ impl Gathered {
         requires few_batches { All HasFewBatches self.old.shards.items }
         ensures lines { OnOk result (gathered_view sessions.now self.new
             ≡ gathered.after (gathered_view sessions.now self.old) (line_view line)) }
-        ensures sound { (s : definition.Schema) → IsAskedOf s (line_view line)
+        ensures sound { (s : definition.Schema) → IsAskedOf s (line_view line) → HasRoot line
             → IsSoundSoFar s (length sessions.now) self.old
             → OnOk result (IsSoundSoFar s (length sessions.now) self.new) }
         ensures shards { length self.new.shards.items ≡ length self.old.shards.items }

@@ -1,12 +1,13 @@
-use Rattle.std.proofs.Common.{◌≡◌, ◌≤◌, [], ◌∷◌, All, fold, length, map, rules, sym, ◌∙◌, ap, subst}
+use Rattle.std.proofs.Common.{◌≡◌, [], ◌∷◌, All, fold, length, map, rules, sym, ◌∙◌, ap, subst}
 use Rattle.std.proofs.lemmas.List.Elements.{All-rest}
-use Rattle.fc_spec.specs.documents.Schema.{Schema}
+use Rattle.fc_base.specs.ValidSchema.{IsValidSchema}
+use Rattle.fc_lines.specs.LineView.{line_view}
+use Rattle.fc_lines.specs.ValidLines.{HasRoot, IsLineOf}
 use Rattle.fc_script.specs.AskedRequests.{IsAskedOf}
-use Rattle.fc_script.specs.Counts.{IsLineOf}
 use Rattle.fc_script.specs.Gathered as gathered
 use Rattle.fc_script.specs.GatheredView.{gathered_view, IsSoundSoFar}
 use Rattle.fc_script.specs.KnownSessions.{IsKnownIn}
-use Rattle.fc_script.specs.ScriptView.{line_view, read_view}
+use Rattle.fc_script.specs.ScriptView.{read_view}
 use Rattle.fc_script.proofs.GatherSteps.{first_of_all, placed, few_batches, no_items, stepped, parted, soundly}
 use Rattle.fc_script.proofs.gathered.KnownSessions.{sessions_are_known}
 use Rattle.fc_script.proofs.gather.gather.Goals as goal
@@ -21,6 +22,7 @@ loop-line-init c =
       shards = c.in_ok-gathered.ensures.shards;
       sound = c.in_ok-gathered.ensures.sound read.schema (length read.sessions.items);
       lines = subst (λ ls. All (IsLineOf read.schema) (map line_view ls)) (sym given) c.requires.lines;
+      roots = subst (All HasRoot) (sym given) c.requires.roots;
       asked = subst (λ ls. All (IsAskedOf read.schema) (map line_view ls)) (sym given) c.requires.asked;
       known = subst (λ ls. All (IsKnownIn read.sessions.items) (map line_view ls)) (sym given) known;
     }
@@ -48,14 +50,17 @@ loop-line-preserved c =
     let ls = map line_view c.next.new.self.rest.items in
     let all = map line_view c.loop-line.line-iterator.rest.items in
     let rest : all ≡ l ∷ ls = ap (map line_view) c.in-Some.ensures.steps.0 in
+    let here = c.in-Some.ensures.steps.0 in
+    let root = first_of_all HasRoot c.in-Some.line c.next.new.self.rest.items c.loop-line.line-iterator.rest.items here c.loop-line.invariant.roots in
     let asks = first_of_all (IsAskedOf read.schema) l ls all rest c.loop-line.invariant.asked in
     let before : IsSoundSoFar read.schema (length c.deref.result.now) old = subst (λ ts. IsSoundSoFar read.schema (length ts) old) (sym c.deref.ensures.value) c.loop-line.invariant.sound in
     record {
       same = stepped (gathered_view read.sessions.items old) (gathered_view read.sessions.items new) _ l ls all
           (subst (λ ts. gathered_view ts new ≡ gathered.after (gathered_view ts old) l) c.deref.ensures.value c.in_ok-add.ensures.lines) rest c.loop-line.invariant.same;
       shards = c.in_ok-add.ensures.shards ∙ c.loop-line.invariant.shards;
-      sound = subst (λ ts. IsSoundSoFar read.schema (length ts) new) c.deref.ensures.value (c.in_ok-add.ensures.sound read.schema asks before);
+      sound = subst (λ ts. IsSoundSoFar read.schema (length ts) new) c.deref.ensures.value (c.in_ok-add.ensures.sound read.schema asks root before);
       lines = All-rest (IsLineOf read.schema) l ls all rest c.loop-line.invariant.lines;
+      roots = All-rest HasRoot c.in-Some.line c.next.new.self.rest.items c.loop-line.line-iterator.rest.items here c.loop-line.invariant.roots;
       asked = All-rest (IsAskedOf read.schema) l ls all rest c.loop-line.invariant.asked;
       known = All-rest (IsKnownIn read.sessions.items) l ls all rest c.loop-line.invariant.known;
     }
@@ -73,9 +78,9 @@ returns-clause-parts c =
     parted (read_view c.args.read) known c.requires.sessions g all c.finish.result c.finish.ensures.parts
 
 pub returns-clause-sound : goal.returns-clause-sound
-returns-clause-sound c =
+returns-clause-sound c = λ limits within.
     let known = c.args.read.sessions.items in
     let g = gathered_view known c.loop-line.gathered in
     let none : c.loop-line.line-iterator.rest.items ≡ [] = no_items c.loop-line.line-iterator.rest.items (sym c.loop-line.line-iterator.rest.ok.0 ∙ c.in-None.ensures.steps.0) in
     let all = ap (λ ls. fold gathered.after g (map line_view ls)) (sym none) ∙ c.loop-line.invariant.same in
-    soundly (read_view c.args.read) known c.requires.sessions g all c.finish.result c.finish.ensures.parts (c.finish.ensures.sound c.loop-line.invariant.sound) (subst (λ (s : Schema). s.shards ≤ 64) c.schema.view_is c.schema.invariant.few_shards)
+    soundly (read_view c.args.read) known c.requires.sessions g all c.finish.result c.finish.ensures.parts limits within (c.finish.ensures.sound c.loop-line.invariant.sound) (subst IsValidSchema c.schema.view_is c.schema.invariant)

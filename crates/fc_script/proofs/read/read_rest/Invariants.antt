@@ -1,7 +1,7 @@
 use Rattle.std.proofs.Common.{◌≡◌, length}
+use Rattle.fc_lines.specs.LinesLeft.{lines_left}
 use Rattle.fc_script.specs.ReadSoFar.{with_rest}
 use Rattle.fc_script.specs.ReadView.{reader_view, IsRead}
-use Rattle.fc_script.specs.ScriptView.{lines_left}
 use Rattle.fc_script.proofs.read.read_rest.Given as goal
 
 abbrev pub invariant-loop-text : goal.invariant-loop-text

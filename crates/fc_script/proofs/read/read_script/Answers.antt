@@ -1,6 +1,6 @@
 use Rattle.std.proofs.Common.{subst}
 use Rattle.fc_base.specs.Answers.{Answers}
-use Rattle.fc_script.specs.FaultView.{script_fault_view}
+use Rattle.fc_lines.specs.FaultView.{script_fault_view}
 use Rattle.fc_script.specs.LimitsView.{limits_view}
 use Rattle.fc_script.specs.ScriptView.{read_view}
 use Rattle.fc_script.proofs.AskedLines.{answer_is_asked}

@@ -8,11 +8,11 @@ use Rattle.fc_base.specs.Answers.{Answers}
 use Rattle.fc_base.specs.declared.error.Refusal.{Refusal}
 use Rattle.fc_base.specs.declared.error.Refusal.TheVariants as refusal
 use Rattle.fc_spec.specs.scripts.ScriptFault as fault
-use Rattle.fc_script.specs.FaultView.{line_fault_view}
-use Rattle.fc_script.specs.PartsView.{asked_view}
+use Rattle.fc_lines.specs.FaultView.{line_fault_view}
+use Rattle.fc_lines.specs.LineView.{asked_view}
+use Rattle.fc_lines.specs.declared.fault.LineFault.{LineFault}
 use Rattle.fc_script.specs.declared.counts.Counts.{Counts}
 use Rattle.fc_script.specs.declared.counts.documents.DocumentCounts.{DocumentCounts}
-use Rattle.fc_script.specs.declared.fault.LineFault.{LineFault}
 use Rattle.fc_spec.specs.scripts.ScriptReading.{check_documents}
 use Rattle.fc_spec.specs.scripts.ScriptTotals.{added}
 use Rattle.fc_spec.specs.documents.Totals.{documents_in}

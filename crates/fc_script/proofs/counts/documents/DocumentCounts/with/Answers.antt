@@ -7,9 +7,9 @@ use Rattle.fc_base.specs.Answers.{Answers}
 use Rattle.fc_base.specs.declared.error.Refusal.{Refusal}
 use Rattle.fc_base.specs.declared.error.Refusal.TheVariants as refusal
 use Rattle.fc_spec.specs.scripts.ScriptFault as fault
-use Rattle.fc_script.specs.FaultView.{line_fault_view}
+use Rattle.fc_lines.specs.FaultView.{line_fault_view}
+use Rattle.fc_lines.specs.declared.fault.LineFault.{LineFault}
 use Rattle.fc_script.specs.declared.counts.documents.DocumentCounts.{DocumentCounts}
-use Rattle.fc_script.specs.declared.fault.LineFault.{LineFault}
 use Rattle.fc_spec.specs.documents.Totals.{documents_in, documents_of}
 use Rattle.fc_spec.specs.scripts.ScriptTotals.{absolute_total, total_limit, sums_fit}
 use Rattle.fc_base.specs.View.{val_view}

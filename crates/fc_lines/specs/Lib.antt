@@ -1,0 +1,5 @@
+pub mod FaultView
+pub mod LineView
+pub mod AskedLines
+pub mod ValidLines
+pub mod LinesLeft
