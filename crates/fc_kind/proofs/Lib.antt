@@ -1,0 +1,5 @@
+pub mod Covered
+pub mod JoinedTallies
+pub mod PlaceColumns
+pub mod PickedPlaces
+pub mod BucketPlaces

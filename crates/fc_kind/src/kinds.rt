@@ -1,0 +1,44 @@
+// Lists of kinds of facet.
+ghost use Rattle.std.specs.Prelude.{◌≡◌, ◌↔◌, IsSome, IsTrue, IfSome, map};
+ghost use Rattle.fc_kind.specs.Names.{Covers, Has};
+
+use crate::{FacetKind, KindName};
+
+// The first of the kinds that has the name.
+fn find<K: FacetKind>(kinds: &[K], wanted: KindName) -> Option<&K>
+    ensures found { IfSome result (λ kind. K.name kind.now ≡ wanted) }
+    ensures there { IsSome result ↔ Has wanted (map K.name kinds.now) }
+{
+    let mut rest = kinds;
+    while let Some((kind, others)) = rest.split_first() {
+        if kind.kind() == wanted {
+            return Some(kind);
+        }
+        rest = others;
+    }
+    None
+}
+
+fn has<K: FacetKind>(kinds: &[K], wanted: KindName) -> bool
+    ensures { IsTrue result ↔ Has wanted (map K.name kinds.now) }
+{
+    find(kinds, wanted).is_some()
+}
+
+/// Whether each name is the kind of one of them.
+pub fn covers(kinds: &[Box<dyn FacetKind>]) -> bool
+    ensures { IsTrue result ↔ Covers (map name kinds.now) }
+{
+    has(kinds, KindName::Terms) && has(kinds, KindName::Range) && has(kinds, KindName::Query)
+}
+
+/// The first of them that has the name.
+pub fn the_kind(kinds: &[Box<dyn FacetKind>], wanted: KindName) -> &Box<dyn FacetKind>
+    requires { Covers (map name kinds.now) }
+    ensures { name result.now ≡ wanted }
+{
+    match find(kinds, wanted) {
+        Some(kind) => kind,
+        None => unreachable!(),
+    }
+}

@@ -1,0 +1,14 @@
+//! The interface of a kind of facet: what it collects in a segment, and which documents it selects there.
+#![tactic(auto)]
+
+mod kind;
+mod kinds;
+mod law;
+mod name;
+mod statistics;
+
+pub use kind::FacetKind;
+pub use kinds::{covers, the_kind};
+pub use law::collecting_joins;
+pub use name::{KindName, name_of};
+pub use statistics::{document_values, set_stats};

@@ -1,0 +1,4 @@
+// What no clause says: kinds with memory enough, and one of the test's own.
+mod ends;
+mod names;
+mod wholes;
