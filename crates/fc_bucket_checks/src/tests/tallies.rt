@@ -95,21 +95,62 @@ fn add_each(rt: &impl Abort, alloc: Global, tally: &mut Tally, keys: &[Key]) -> 
     Ok(())
 }
 
+// Adds one document to each key of a tally without statistics, values as they are lent.
+fn add_lent(rt: &impl Abort, alloc: Global, tally: &mut Tally, keys: &[Key]) -> Result<(), Fail>
+    requires { tally.old.stats ≡ [] }
+    ensures { tally.new.stats ≡ [] }
+{
+    for key in keys {
+        assert!(rt; count_at(tally, key) < 9);
+        let one = Stats {
+            count: 1,
+            values: Vec::new(alloc),
+        };
+        match key {
+            Key::Value(val) => match val {
+                Val::Text(text) => tally.add_text(text, &one)?,
+                Val::Long(number) => tally.add_long(*number, &one)?,
+            },
+            other => tally.add(other.copy(alloc)?, &one)?,
+        }
+    }
+    Ok(())
+}
+
 #[test]
 fn tallied_keys(rt: HostRuntime) -> Result<(), Fail> {
     let alloc = rt.alloc();
     let keys = keys_of(alloc)?;
     let mut tally = Tally::new(alloc, Vec::new(alloc))?;
+    add_lent(&rt, alloc, &mut tally, &keys)?;
     add_each(&rt, alloc, &mut tally, &keys)?;
-    add_each(&rt, alloc, &mut tally, &keys)?;
-    assert_eq!(rt; count_at(&tally, &Key::Gap(9)), 2);
+    add_lent(&rt, alloc, &mut tally, &keys)?;
+    assert_eq!(rt; count_at(&tally, &Key::Gap(9)), 3);
     assert!(rt; tally.get(&Key::Gap(8)).is_none());
     let buckets = tally.into_buckets()?;
     assert_eq!(rt; buckets.len(), keys.len());
     for (bucket, key) in buckets.iter().zip(keys.iter().rev()) {
         assert!(rt; bucket.key == *key, "{:?} at {key:?}", &bucket.key);
-        assert_eq!(rt; bucket.stats.count, 2);
+        assert_eq!(rt; bucket.stats.count, 3);
         assert!(rt; bucket.nodes.is_empty());
+    }
+    Ok(())
+}
+
+// The statistics of one document, of how many texts.
+const OF_TEXTS: [(StatKind, usize, StatValue); 5] = [
+    (StatKind::Sum, 2, StatValue::Number(0)),
+    (StatKind::Max, 2, StatValue::Extreme(None)),
+    (StatKind::CountVals, 2, StatValue::Number(2)),
+    (StatKind::Missing, 2, StatValue::Number(0)),
+    (StatKind::Missing, 0, StatValue::Number(1)),
+];
+
+#[test]
+fn statistics_of_texts(rt: HostRuntime) -> Result<(), Fail> {
+    for (of, count, value) in OF_TEXTS {
+        assert!(rt; count < 9);
+        assert_eq!(rt; StatValue::of_texts(of, count), value);
     }
     Ok(())
 }

@@ -106,15 +106,91 @@ fn texts_stand_between(rt: HostRuntime) -> Result<(), Fail> {
     Ok(())
 }
 
-// Two integers, and the bits of the positions with one between them.
-const LONGS_BETWEEN: [(i64, i64, u64); 7] = [
-    (6, 9, 0b00001),
-    (7, 5, 0),
-    (i64::MIN, i64::MIN, 0b00100),
-    (i64::MAX, i64::MAX, 0b01000),
-    (i64::MIN + 1, i64::MAX - 1, 0b11001),
-    (i64::MIN, i64::MAX, 0b11101),
-    (i64::MAX, i64::MIN, 0),
+// So many positions, of which every sixteenth has texts: a and c, and b, by turns.
+fn few_texts(alloc: Global, len: u32) -> Result<TextColumn, WantMemory> {
+    let mut builder = TextBuilder::new(alloc)?;
+    for turn in 0..len / 16 {
+        builder.skip(15)?;
+        if turn % 2 == 0 {
+            push_texts(alloc, &mut builder)?;
+        } else {
+            builder.push_doc(&[text(alloc, "b")?])?;
+        }
+    }
+    builder.skip(len % 16)?;
+    builder.finish()
+}
+
+// A length, a text, and the positions that have it.
+const POSITIONS: [(u32, &str, &[u32]); 10] = [
+    (0, "a", &[]),
+    (15, "a", &[]),
+    (16, "a", &[15]),
+    (16, "b", &[]),
+    (63, "a", &[15, 47]),
+    (64, "a", &[15, 47]),
+    (64, "b", &[31, 63]),
+    (65, "c", &[15, 47]),
+    (129, "b", &[31, 63, 95, 127]),
+    (129, "c", &[15, 47, 79, 111]),
+];
+
+#[test]
+fn positions_of_texts_are_listed(rt: HostRuntime) -> Result<(), Fail> {
+    for (len, text, expected) in POSITIONS {
+        let column = few_texts(rt.alloc(), len)?;
+        assert_eq!(rt; column.len(), len);
+        match column.ordinal_of(text.as_bytes()) {
+            Some(ord) => {
+                assert_eq!(rt; column.positions_of(ord), expected, "at {len} and {text}");
+            }
+            None => assert!(rt; expected.is_empty(), "at {len} and {text}"),
+        }
+        for at in 0..column.len() {
+            let found = column
+                .ordinals_of(at)
+                .iter()
+                .any(|ord| column.term(*ord).text() == text);
+            assert_eq!(rt; found, expected.contains(&at), "at {at}, {len} and {text}");
+        }
+    }
+    Ok(())
+}
+
+// A length, and the bits of the positions with a text.
+const ANY: [(u32, [u64; 3]); 7] = [
+    (0, [0; 3]),
+    (15, [0; 3]),
+    (16, [0x8000, 0, 0]),
+    (63, [0x8000_8000_8000, 0, 0]),
+    (64, [0x8000_8000_8000_8000, 0, 0]),
+    (65, [0x8000_8000_8000_8000, 0, 0]),
+    (129, [0x8000_8000_8000_8000, 0x8000_8000_8000_8000, 0]),
+];
+
+#[test]
+fn positions_with_texts_are_marked(rt: HostRuntime) -> Result<(), Fail> {
+    for (len, expected) in ANY {
+        let column = few_texts(rt.alloc(), len)?;
+        assert_eq!(rt; column.len(), len);
+        assert!(rt; len <= 192);
+        let mut words = [u64::MAX; 3];
+        column.any(&mut words);
+        assert_eq!(rt; words, expected, "at {len}");
+    }
+    Ok(())
+}
+
+// Two integers, the bits of the positions with one between them, and those positions in the order of
+// their integers.
+const LONGS_BETWEEN: [(i64, i64, u64, &[u32]); 7] = [
+    (6, 9, 0b00001, &[0]),
+    (7, 5, 0, &[]),
+    (i64::MIN, i64::MIN, 0b00100, &[2]),
+    (i64::MAX, i64::MAX, 0b01000, &[3]),
+    (i64::MIN + 1, i64::MAX - 1, 0b11001, &[4, 4, 3, 0, 0]),
+    (i64::MIN, i64::MAX, 0b11101, &[2, 4, 4, 3, 0, 0, 3]),
+    (i64::MAX, i64::MIN, 0, &[]),
 ];
 
 // Five positions with up to two integers.
@@ -134,11 +210,19 @@ fn integers_are_found(rt: HostRuntime) -> Result<(), Fail> {
     assert_eq!(rt; column.len(), 5);
     assert_eq!(rt; column.values_of(0), [5, 7].as_slice());
     assert_eq!(rt; column.values_of(1), [].as_slice());
-    for (low, high, expected) in LONGS_BETWEEN {
+    for (low, high, bits, positions) in LONGS_BETWEEN {
         let mut words = [u64::MAX];
         column.between(low, high, &mut words);
-        assert_eq!(rt; words, [expected], "at {low} and {high}");
+        assert_eq!(rt; words, [bits], "at {low} and {high}");
+        assert_eq!(rt;
+            column.positions_between(low, high),
+            positions,
+            "at {low} and {high}"
+        );
     }
+    let mut words = [u64::MAX];
+    column.any(&mut words);
+    assert_eq!(rt; words, [0b11101]);
     Ok(())
 }
 
@@ -167,6 +251,52 @@ fn integers_stand_between(rt: HostRuntime) -> Result<(), Fail> {
         let mut words = [u64::MAX; 3];
         column.between(low, high, &mut words);
         assert_eq!(rt; words, expected, "at {len}, {low} and {high}");
+    }
+    Ok(())
+}
+
+// How many positions come before one with an integer, and behind it.
+const SKIPPED: [(u32, u32); 7] = [
+    (0, 0),
+    (0, 64),
+    (62, 1),
+    (63, 0),
+    (63, 1),
+    (64, 0),
+    (64, 128),
+];
+
+#[test]
+fn integers_of_few_positions_are_found(rt: HostRuntime) -> Result<(), Fail> {
+    for (before, behind) in SKIPPED {
+        let mut builder = LongBuilder::new(rt.alloc())?;
+        builder.skip(before)?;
+        builder.push_doc(&[Val::Long(i64::from(before))])?;
+        builder.skip(behind)?;
+        assert_eq!(rt;
+            builder.len(),
+            before + 1 + behind,
+            "at {before} and {behind}"
+        );
+        let column = builder.finish()?;
+        assert_eq!(rt;
+            column.len(),
+            before + 1 + behind,
+            "at {before} and {behind}"
+        );
+        assert_eq!(rt;
+            column.positions_between(i64::MIN, i64::MAX),
+            [before].as_slice()
+        );
+        for at in 0..column.len() {
+            let held = column.values_of(at).first().copied();
+            let expected = if at == before {
+                Some(i64::from(at))
+            } else {
+                None
+            };
+            assert_eq!(rt; held, expected, "at {at}, {before} and {behind}");
+        }
     }
     Ok(())
 }
