@@ -135,23 +135,27 @@ const POSITIONS: [(u32, &str, &[u32]); 10] = [
     (129, "c", &[15, 47, 79, 111]),
 ];
 
+// The positions of a text; none where the column does not have it.
+fn listed<'a>(column: &'a TextColumn, text: &str) -> &'a [u32] {
+    match column.ordinal_of(text.as_bytes()) {
+        Some(ord) => column.positions_of(ord),
+        None => &[],
+    }
+}
+
 #[test]
 fn positions_of_texts_are_listed(rt: HostRuntime) -> Result<(), Fail> {
     for (len, text, expected) in POSITIONS {
         let column = few_texts(rt.alloc(), len)?;
         assert_eq!(rt; column.len(), len);
-        match column.ordinal_of(text.as_bytes()) {
-            Some(ord) => {
-                assert_eq!(rt; column.positions_of(ord), expected, "at {len} and {text}");
-            }
-            None => assert!(rt; expected.is_empty(), "at {len} and {text}"),
-        }
+        let positions = listed(&column, text);
+        assert_eq!(rt; positions, expected, "at {len}");
         for at in 0..column.len() {
             let found = column
                 .ordinals_of(at)
                 .iter()
                 .any(|ord| column.term(*ord).text() == text);
-            assert_eq!(rt; found, expected.contains(&at), "at {at}, {len} and {text}");
+            assert_eq!(rt; found, expected.contains(&at), "at {at} of {len}");
         }
     }
     Ok(())
