@@ -18,3 +18,13 @@ pub mod RoundComplete
 pub mod SearchEnds
 pub mod OwnBlocks
 pub mod ShardSets
+pub mod ShapedStatistics
+pub mod ShapedAnswers
+pub mod FittingBuckets
+pub mod LacksThere
+pub mod LacksApart
+pub mod HeldOrder
+pub mod LacksDeep
+pub mod ToldOnce
+pub mod FittingSums
+pub mod SearchesTellOnce

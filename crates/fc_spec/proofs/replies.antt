@@ -1,7 +1,9 @@
 pub mod Unlimited
+pub mod OfferedValues
 pub mod Carried
 pub mod PrintedKeys
 pub mod ExactPaths
 pub mod NoLimits
 pub mod RenumberedReply
 pub mod SingleIndex
+pub mod DistinctKeys

@@ -7,6 +7,7 @@ pub mod PermutedFilters
 pub mod Counting
 pub mod Ranked
 pub mod Sorting
+pub mod Inserted
 pub mod Rests
 pub mod Present
 pub mod Cancelling
@@ -17,3 +18,4 @@ pub mod ReadingWords
 pub mod NumbersBelow
 pub mod Sums
 pub mod WhereTrue
+pub mod Differing

@@ -12,3 +12,6 @@ pub mod RequestLaws
 pub mod ScheduleLaw
 pub mod ScriptLaws
 pub mod Blockwise
+pub mod ShapedAnswers
+pub mod LacksLaws
+pub mod SumsLaw

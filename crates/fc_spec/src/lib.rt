@@ -21,6 +21,21 @@ ghost use Rattle.fc_spec.specs.laws.Blockwise.{
 };
 ghost use Rattle.fc_spec.specs.laws.CombiningLaw.{CombinesLists, CombinesParts};
 ghost use Rattle.fc_spec.specs.scripts.JsonValues.{TextsAreJson};
+ghost use Rattle.fc_spec.specs.laws.LacksLaws.{
+  FirstTellOnce,
+  HeldIsEnough,
+  HeldJoins,
+  LacksAreThere,
+  LacksAtDepth,
+  LacksDiffer,
+  LacksStandApart,
+  OrderIsFree,
+  RoundsOrderIsFree,
+  RoundsTellOnce,
+  SearchesTellOnce,
+  ShapedAreFitting,
+  WantsStandApart,
+};
 ghost use Rattle.fc_spec.specs.laws.Merging.{MergesIntoReply};
 ghost use Rattle.fc_spec.specs.laws.QueryReadingLaw.{HasOneReading};
 ghost use Rattle.fc_spec.specs.laws.QuerySpellingLaw.{HasOneTree};
@@ -37,9 +52,11 @@ ghost use Rattle.fc_spec.specs.laws.RequestLaws.{
 ghost use Rattle.fc_spec.specs.laws.RoundsEnd.{NothingLacksBeyond, RoundsAnswer, RoundsAreFew, RoundsComplete, SearchesEnd};
 ghost use Rattle.fc_spec.specs.laws.ScheduleLaw.{PhasesGoOn, PinsAreLegal, RunsAreLegal};
 ghost use Rattle.fc_spec.specs.laws.ScriptLaws.{EndsAreOutputs, IsOnlyOutput, StandByPhase, WorldsAreWithin};
+ghost use Rattle.fc_spec.specs.laws.ShapedAnswers.{AnswersAreShaped};
 ghost use Rattle.fc_spec.specs.laws.ShardAlone.{AnswersFromItsBlocks};
 ghost use Rattle.fc_spec.specs.laws.SortingLaw.{PagesAreCuts, RanksAreFronts, RestsKeepFronts, RestsKeepPages};
 ghost use Rattle.fc_spec.specs.laws.SpellingLaw.{HasOneSpelling};
+ghost use Rattle.fc_spec.specs.laws.SumsLaw.{AnswersFit};
 ghost use Rattle.fc_spec.specs.laws.WithoutLimits.{
   IsExactOverSingle,
   IsExactWithoutLimits,
@@ -75,6 +92,12 @@ pub fn refined_paths_are_exact()
 /// A shard's answer is made from its own blocks, and its number plays no part.
 pub fn shards_answer_alone()
     ensures { AnswersFromItsBlocks }
+{}
+
+/// A shard's answer has the shape of its ask, whatever is asked: in each list the keys are the facet's and ascend, buckets
+/// other than a query facet's have a place, and values are at most as many as a terms facet's shard may offer.
+pub fn answers_are_shaped()
+    ensures { AnswersAreShaped }
 {}
 
 /// The base, a domain change and the places of a bucket are made list of blocks by list of blocks.
@@ -115,6 +138,43 @@ pub fn rounds_end()
     ensures beyond { NothingLacksBeyond }
     ensures end { SearchesEnd }
     ensures few { RoundsAreFew }
+{}
+
+/// Where messages have the shapes that their asks demand, what lacks names keys of facets of the request, and shards
+/// that are there.
+pub fn what_lacks_is_there()
+    ensures fitting { ShapedAreFitting }
+    ensures there { LacksAreThere }
+{}
+
+/// Whatever was told, each shard is asked for a bucket once, and for none under another.
+pub fn what_lacks_is_asked_once()
+    ensures lacks { LacksStandApart }
+    ensures differ { LacksDiffer }
+    ensures wants { WantsStandApart }
+{}
+
+/// What lacks and the merged reply are made of what is held, whatever the order in which the messages of a round came.
+pub fn order_of_arrival_is_free()
+    ensures held { HeldIsEnough }
+    ensures joins { HeldJoins }
+    ensures messages { OrderIsFree }
+    ensures rounds { RoundsOrderIsFree }
+{}
+
+/// No shard tells a bucket twice, whatever its messages hold, where it first tells of its root and then, one depth after
+/// another, of what lacks there.
+pub fn buckets_are_told_once()
+    ensures depth { LacksAtDepth }
+    ensures first { FirstTellOnce }
+    ensures rounds { RoundsTellOnce }
+    ensures searches { SearchesTellOnce }
+{}
+
+/// The counts and the numbers that the answers of shards within the limits on totals tell of a bucket can be added up,
+/// where no shard tells it twice.
+pub fn answers_fit()
+    ensures { AnswersFit }
 {}
 
 /// No two messages have the same bytes, and no bytes of a message are the front of another's.

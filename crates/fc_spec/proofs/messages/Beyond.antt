@@ -60,7 +60,7 @@ carried_among R (terms t) inner H Y (value v) i m = go t.refine m
     go false m = (filter_member _ H i m).0
 carried_among R _ inner H Y _ i m = m
 
-wanted_part : (empty : Bool) (f : Facet) (all : List Lack) (l : Lack) → Member l (facet_wanted empty f all) → Member l all
+pub wanted_part : (empty : Bool) (f : Facet) (all : List Lack) (l : Lack) → Member l (facet_wanted empty f all) → Member l all
 wanted_part empty f all l m = go (empty && is_empty f.change.exclude) m
   where
     go : (b : Bool) → Member l (cond b [] all) → Member l all

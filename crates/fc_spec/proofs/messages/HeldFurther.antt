@@ -93,7 +93,7 @@ answers_told r W [] a = tt
 answers_told r W (s ∷ ss) a =
     all_append (IsTold r W) (told_by r.nodes s.shard s.ask s.message) (told_in r.nodes ss) (subst (λ m. AllByRecursion (IsTold r W) (told_by r.nodes s.shard s.ask m)) (sym a.0) (ask_told r W s.shard s.ask)) (answers_told r W ss a.1)
 
-behind_itself : (way : Way) → behind way way ≡ Some []
+pub behind_itself : (way : Way) → behind way way ≡ Some []
 behind_itself [] = refl
 behind_itself (s ∷ ss) =
     ap (λ b. cond (b && same_key s.key s.key) (behind ss ss) None) (eq-eqb s.node s.node refl) ∙ ap (λ b. cond b (behind ss ss) None) (same_key_itself s.key) ∙ behind_itself ss

@@ -1,6 +1,6 @@
 -- Answers that tell of every root and lack nothing merge into the distributed reply.
-use Rattle.std.proofs.Common.{◌≡◌, ℕ, zero, suc, ◌+◌, ◌<◌, List, [], ◌∷◌, length, true, cond, Option, None, Some, is_some, is_none, refl, inl, inr, arith}
-use Rattle.std.specs.List.{AllByRecursion, range_with_len}
+use Rattle.std.proofs.Common.{◌≡◌, ℕ, List, [], ◌∷◌, length, true, cond, Option, None, Some, is_some, is_none, refl, inl, inr}
+use Rattle.std.specs.List.{AllByRecursion}
 use Rattle.std.proofs.lemmas.Bool.{false≢true}
 use Rattle.fc_spec.specs.words.Lists.{numbers_below}
 use Rattle.fc_spec.specs.documents.World.{World}
@@ -15,21 +15,12 @@ use Rattle.fc_spec.specs.messages.Merged.{over_held, merged}
 use Rattle.fc_spec.specs.messages.Lacks.{Lack, untold, wanted, lacks}
 use Rattle.fc_spec.specs.messages.Rounds.{told_in}
 use Rattle.fc_spec.specs.laws.Merging.{HasRoots, MergesIntoReply}
-use Rattle.fc_spec.proofs.words.Members.{Member}
+use Rattle.fc_spec.proofs.words.NumbersBelow.{member_below}
 use Rattle.fc_spec.proofs.requests.Together.{distinct_numbers}
 use Rattle.fc_spec.proofs.messages.HeldAnswers.{IsTold}
 use Rattle.fc_spec.proofs.messages.HeldFurther.{answers_told}
 use Rattle.fc_spec.proofs.messages.NextBuckets.{IsState, count_agrees}
 use Rattle.fc_spec.proofs.messages.Merges.{AllTold, from_start, facets_merge}
-
-below_end : (n a i : ℕ) → Member i (range_with_len a n) → i < a + n
-below_end zero a i m = absurd m
-below_end (suc n) a i (inl e) = omega arith
-below_end (suc n) a i (inr m) = let h = below_end n (a + 1) i m in omega arith
-
--- a number below another is below it
-pub number_below : (n i : ℕ) → Member i (numbers_below n) → i < n
-number_below n i m = let h = below_end n 0 i m in omega arith
 
 -- where nothing is untold, all is told
 pub all_told : (A : List Told) (all : List Lack) → untold A all ≡ [] → AllTold A all
@@ -53,7 +44,7 @@ none_untold A (l ∷ ls) t = go (held A l.shard (way_of l.want)) t.0 (none_untol
 pub root_state : (r : Request) (W : World) (A : List Told) → outermost_exclusions r.nodes ≡ true → HasRoots (length W) A → IsState r W A (numbers_below (length W)) [] (root_domain r W)
 root_state r W A outermost roots = record {
   places = refl;
-  known = λ i m. inl (roots i (number_below (length W) i m));
+  known = λ i m. inl (roots i (member_below (length W) i m));
   distinct = distinct_numbers (length W);
   inside = inr outermost;
 }

@@ -32,7 +32,7 @@ abbrev pub key_values : List Key → List Val
 key_values [] = []
 key_values (k ∷ ks) = listed_value k (key_values ks)
 
-listed_values-partials_of : (stats : Key → Stats) (rows : Key → Rows) (keys : List Key) → listed_values (partials_of stats rows keys) ≡ key_values keys
+pub listed_values-partials_of : (stats : Key → Stats) (rows : Key → Rows) (keys : List Key) → listed_values (partials_of stats rows keys) ≡ key_values keys
 listed_values-partials_of stats rows [] = refl
 listed_values-partials_of stats rows (k ∷ ks) = ap (listed_value k) (listed_values-partials_of stats rows ks)
 
@@ -50,7 +50,7 @@ no_value_missing t Y true = go (not (is_empty (bucket_places (terms t) missing Y
     go false = refl
 
 -- the values of an answer's keys are those offered
-key_values-answer_keys : (t : Terms) (inner : Nodes) (Y : List Place) (i : ℕ) → key_values (answer_keys (terms t) inner Y i) ≡ offered t inner Y i
+pub key_values-answer_keys : (t : Terms) (inner : Nodes) (Y : List Place) (i : ℕ) → key_values (answer_keys (terms t) inner Y i) ≡ offered t inner Y i
 key_values-answer_keys t inner Y i =
     key_values-values (offered t inner Y i) (not_empty (terms t) Y (asked t.missing missing)) ∙ ap (λ vs. offered t inner Y i ++ vs) (no_value_missing t Y t.missing) ∙ append-nil (offered t inner Y i)
 

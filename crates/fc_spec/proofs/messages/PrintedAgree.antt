@@ -16,6 +16,7 @@ use Rattle.fc_spec.specs.messages.Held.{Told}
 use Rattle.fc_spec.specs.messages.Merged.{NodeOf, over_held}
 use Rattle.fc_spec.proofs.words.Members.{Member, filter_member}
 use Rattle.fc_spec.proofs.requests.Together.{IsDistinct, distinct-filter}
+use Rattle.fc_spec.proofs.replies.DistinctKeys.{asked_is}
 use Rattle.fc_spec.proofs.messages.HeldAnswers.{IsTold}
 use Rattle.fc_spec.proofs.messages.HeldFurther.{step_to}
 use Rattle.fc_spec.proofs.messages.KnownBuckets.{nodes_of}
@@ -99,11 +100,6 @@ printed_value t entries key m = elim (member_append (map (λ e. value e.val) (pa
   where
     kept : List Entry
     kept = filter (λ e. nat_le t.mincount e.stats.count) entries
-
-asked_is : (b : Bool) (k key : Key) → Member key (asked b k) → key ≡ k
-asked_is true k key (inl e) = e
-asked_is true k key (inr m) = absurd m
-asked_is false k key m = absurd m
 
 -- the bucket of another key than a value, over the shards of the bucket around it
 other_state : (r : Request) (W : World) (A : List Told) (H : List ℕ) (way : Way) (X : List Place) (n : ℕ) (f : Facet) (inner : Nodes) (key : Key) → AllByRecursion (IsTold r W) A → IsState r W A H way X

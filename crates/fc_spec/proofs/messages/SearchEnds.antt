@@ -26,7 +26,7 @@ use Rattle.fc_spec.proofs.messages.RoundComplete.{told_in-append, later_round_an
 abbrev pub IsNext : Request → ℕ → List Told → ℕ → ℕ → List Lack → Type 0
 IsNext r n A depths e all = ((all ≡ []) × ((d : ℕ) → e ≤ d → d < e + depths → lacks r n A d ≡ [])) ⊎ ((f : ℕ) × (all ≡ lacks r n A f) × (is_empty all ≡ false) × ((d : ℕ) → e ≤ d → d < f → lacks r n A d ≡ []))
 
-next_is : (r : Request) (n : ℕ) (A : List Told) (depths e : ℕ) → IsNext r n A depths e (next_lacks r n A depths e)
+pub next_is : (r : Request) (n : ℕ) (A : List Told) (depths e : ℕ) → IsNext r n A depths e (next_lacks r n A depths e)
 next_is r n A zero e = inl (refl, λ d low high. absurd (omega arith))
 next_is r n A (suc k) e = go (is_empty (lacks r n A e)) refl (next_is r n A k (suc e))
   where
@@ -74,17 +74,17 @@ ends_from r W (suc left) done round sent outermost bound answers roots none = go
         deeper d less (inl shallow) = absurd (false≢true (sym goes_on.2 ∙ ap is_empty (goes_on.1 ∙ none goes_on.0 shallow)))
         deeper d less (inr deep) = omega arith
 
-first_answers : (r : Request) (W : World) (is : List ℕ) → AllByRecursion (IsAnswer r W) (map (λ i. sent_by r W 1 i first) is)
+pub first_answers : (r : Request) (W : World) (is : List ℕ) → AllByRecursion (IsAnswer r W) (map (λ i. sent_by r W 1 i first) is)
 first_answers r W [] = tt
 first_answers r W (i ∷ is) = (refl, first_answers r W is)
 
 -- each shard that is asked first tells of its root
-first_roots : (r : Request) (W : World) (is : List ℕ) (i : ℕ) → Member i is → is_some (held (told_in r.nodes (map (λ j. sent_by r W 1 j first) is)) i []) ≡ true
+pub first_roots : (r : Request) (W : World) (is : List ℕ) (i : ℕ) → Member i is → is_some (held (told_in r.nodes (map (λ j. sent_by r W 1 j first) is)) i []) ≡ true
 first_roots r W [] i m = absurd m
 first_roots r W (j ∷ is) i (inl e) = subst (λ k. is_some (held (told_in r.nodes (map (λ j. sent_by r W 1 j first) (j ∷ is))) k []) ≡ true) (sym e) (told_held (record { shard = j; way = []; bucket = answer_at r W j (target_of r.nodes []) }) (told_in r.nodes (map (λ j. sent_by r W 1 j first) is)))
 first_roots r W (j ∷ is) i (inr m) = held_among_later (told_by r.nodes j first (answer r W j first)) (told_in r.nodes (map (λ j. sent_by r W 1 j first) is)) i [] (first_roots r W is i m)
 
-number_is_below : (n a i : ℕ) → a ≤ i → i < a + n → Member i (range_with_len a n)
+pub number_is_below : (n a i : ℕ) → a ≤ i → i < a + n → Member i (range_with_len a n)
 number_is_below zero a i low high = absurd (omega arith)
 number_is_below (suc n) a i low high = elim (cases_eq i a) [ inl e ↦ inl e | inr apart ↦ inr (number_is_below n (a + 1) i (omega arith) (omega arith)) ]
 

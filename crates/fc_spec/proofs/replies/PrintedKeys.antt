@@ -9,17 +9,18 @@ use Rattle.fc_spec.specs.documents.Val.{Val, val_cmp, has_val, insert_val, disti
 use Rattle.fc_spec.specs.documents.Document.{values_of}
 use Rattle.fc_spec.specs.words.Lists.{numbers_below, is_empty}
 use Rattle.fc_spec.specs.documents.World.{World, Place, on_shards}
-use Rattle.fc_spec.specs.requests.Request.{Terms, Range, Kind, terms, range, query, Sort, Nodes, Request, stats_of}
+use Rattle.fc_spec.specs.requests.Request.{Terms, Range, Kind, terms, range, query, Sort, Nodes, Request}
 use Rattle.fc_spec.specs.requests.Gaps.{gap_count}
 use Rattle.fc_spec.specs.requests.Buckets.{Key, value, missing, gap, before, between, after, has_prefix, is_key_of, is_range_key}
-use Rattle.fc_spec.specs.requests.Statistics.{pair_values, stats_over}
+use Rattle.fc_spec.specs.requests.Statistics.{pair_values}
 use Rattle.fc_spec.specs.requests.Ranks.{Entry, rank, page}
 use Rattle.fc_spec.specs.replies.Printed.{asked, range_keys}
-use Rattle.fc_spec.specs.replies.Values.{value_places, values_in, entries_in}
-use Rattle.fc_spec.specs.replies.Reading.{offered, over_places}
+use Rattle.fc_spec.specs.replies.Values.{value_places, values_in}
+use Rattle.fc_spec.specs.replies.Reading.{Reading, offered, over_places}
 use Rattle.fc_spec.specs.replies.Chosen.{candidates, offering, entry_on, chosen, known, chosen_entries}
 use Rattle.fc_spec.specs.replies.Distributed.{printed_keys}
 use Rattle.fc_spec.proofs.words.Members.{Every, every_from_members, every_filter, every_append, every_flat_map, every_map, filter_member, passing_member}
+use Rattle.fc_spec.proofs.replies.OfferedValues.{every_offered}
 use Rattle.fc_spec.proofs.requests.FoundValues.{holds_value, not-is_empty-filter}
 
 every_insert_val : (p : Val → Bool) (v : Val) (ws : List Val) → p v ≡ true → Every p ws → Every p (insert_val v ws)
@@ -43,28 +44,29 @@ prefixed_values_in t Y = every_from_members (has_prefix t.prefix) (values_in t Y
     (and_parts (has_val v (values_of (place.0).document t.field)) (has_prefix t.prefix v) place.2).1)
 
 -- and so do those offered and chosen
-prefixed_offered : (t : Terms) (inner : Nodes) (Y : List Place) (i : ℕ) → Every (has_prefix t.prefix) (offered t inner Y i)
-prefixed_offered t inner Y i =
-    every_map (has_prefix t.prefix) (λ e. e.val) _
-    (every_filter (λ e. has_prefix t.prefix e.val) _ (entries_in t (stats_of inner) (on_shards (i ∷ []) Y))
-    (every_map (λ (e : Entry). has_prefix t.prefix e.val) (λ v. record { val = v; stats = stats_over (stats_of inner) (value_places t v (on_shards (i ∷ []) Y)) }) (values_in t (on_shards (i ∷ []) Y)) (prefixed_values_in t (on_shards (i ∷ []) Y))))
+pub prefixed_offered : (t : Terms) (inner : Nodes) (Y : List Place) (i : ℕ) → Every (has_prefix t.prefix) (offered t inner Y i)
+prefixed_offered t inner Y i = every_offered (has_prefix t.prefix) t inner Y i (prefixed_values_in t (on_shards (i ∷ []) Y))
 
-prefixed_chosen_entries : (r : Request) (W : World) (t : Terms) (inner : Nodes) (H : List ℕ) (Y : List Place) → Every (λ e. has_prefix t.prefix e.val) (chosen_entries (over_places r W) t inner H Y)
-prefixed_chosen_entries r W t inner H Y =
-    every_map (λ e. has_prefix t.prefix e.val) (λ v. entry_on (over_places r W) t inner H Y (known (over_places r W) t inner H Y v) v) (chosen (over_places r W) t inner H Y)
-    (every_map (has_prefix t.prefix) (λ e. e.val) _
-    (every_filter (λ e. has_prefix t.prefix e.val) _ (map made (candidates (over_places r W) t inner H Y))
-    (every_map (λ e. has_prefix t.prefix e.val) made (candidates (over_places r W) t inner H Y)
-    (every_distinct (has_prefix t.prefix) (flat_map (λ i. offered t inner Y i) H) (every_flat_map (has_prefix t.prefix) (λ i. offered t inner Y i) H (prefixed_offered t inner Y))))))
-  where
-    made : Val → Entry
-    made v = entry_on (over_places r W) t inner H Y (offering (over_places r W) t inner H Y v) v
+-- in any reading, where the shards offer such values
+module _ {B D : Type 0} (R : Reading B D) (t : Terms) (inner : Nodes) (H : List ℕ) (Y : D) (offers : (i : ℕ) → Every (has_prefix t.prefix) (R.offered_by t inner Y i)) where
+  abbrev made : Val → Entry
+  made v = entry_on R t inner H Y (offering R t inner H Y v) v
+
+  pub prefixed_chosen : Every (has_prefix t.prefix) (chosen R t inner H Y)
+  prefixed_chosen =
+      every_map (has_prefix t.prefix) (λ e. e.val) _
+      (every_filter (λ e. has_prefix t.prefix e.val) _ (map made (candidates R t inner H Y))
+      (every_map (λ e. has_prefix t.prefix e.val) made (candidates R t inner H Y)
+      (every_distinct (has_prefix t.prefix) (flat_map (λ i. R.offered_by t inner Y i) H) (every_flat_map (has_prefix t.prefix) (λ i. R.offered_by t inner Y i) H offers))))
+
+  prefixed_chosen_entries : Every (λ e. has_prefix t.prefix e.val) (chosen_entries R t inner H Y)
+  prefixed_chosen_entries = every_map (λ e. has_prefix t.prefix e.val) (λ v. entry_on R t inner H Y (known R t inner H Y v) v) (chosen R t inner H Y) prefixed_chosen
 
 -- a page has entries of the list alone
 every_page : (p : Entry → Bool) (s : Sort) (offset : ℕ) (limit : Option ℕ) (V : List Entry) → Every p V → Every p (page s offset limit V)
 every_page p s offset limit V e = every_flat_map p (λ k. filter (λ w. rank s V w == k) V) _ (λ k. every_filter p (λ w. rank s V w == k) V e)
 
-every_asked : (p : Key → Bool) (b : Bool) (key : Key) → p key ≡ b → Every p (asked b key)
+pub every_asked : (p : Key → Bool) (b : Bool) (key : Key) → p key ≡ b → Every p (asked b key)
 every_asked p true key h = (h, tt)
 every_asked p false key h = tt
 
@@ -72,20 +74,33 @@ every_below : (n a m : ℕ) → a + n ≤ m → Every (λ i. nat_lt i m) (range_
 every_below zero a m h = tt
 every_below (suc n) a m h = (lt-ltb a m (omega arith), every_below n (a + 1) m (omega arith))
 
-every_range_key : (g : Range) → Every (is_range_key g) (range_keys g)
+pub every_range_key : (g : Range) → Every (is_range_key g) (range_keys g)
 every_range_key g =
     every_append (is_range_key g) (map gap (numbers_below (gap_count g))) _ (every_map (is_range_key g) gap (numbers_below (gap_count g)) (every_below (gap_count g) 0 (gap_count g) (omega arith)))
     (every_append (is_range_key g) (asked g.before before) _ (every_asked (is_range_key g) g.before before refl)
     (every_append (is_range_key g) (asked g.between between) _ (every_asked (is_range_key g) g.between between refl) (every_asked (is_range_key g) g.after after refl)))
 
+-- what shards offer of a terms facet begins with its prefix
+abbrev pub OfferPrefixed : {B D : Type 0} → Reading B D → Kind → Nodes → D → Type 0
+OfferPrefixed R (terms t) inner Y = (i : ℕ) → Every (has_prefix t.prefix) (R.offered_by t inner Y i)
+OfferPrefixed R _ inner Y = Unit {0}
+
 -- the printed keys are the facet's
-pub every_printed_key : (r : Request) (W : World) (kind : Kind) (inner : Nodes) (H : List ℕ) (Y : List Place) → Every (is_key_of kind) (printed_keys (over_places r W) kind inner H Y)
-every_printed_key r W (terms t) inner H Y =
-    let entries = chosen_entries (over_places r W) t inner H Y in
+pub every_printed_key_of : {B D : Type 0} (R : Reading B D) (kind : Kind) (inner : Nodes) (H : List ℕ) (Y : D) → OfferPrefixed R kind inner Y → Every (is_key_of kind) (printed_keys R kind inner H Y)
+every_printed_key_of R (terms t) inner H Y offers =
+    let entries = chosen_entries R t inner H Y in
     every_append (is_key_of (terms t)) (map (λ e. value e.val) (page t.sort t.offset t.limit (filter (λ e. nat_le t.mincount e.stats.count) entries))) (asked t.missing missing)
     (every_map (is_key_of (terms t)) (λ e. value e.val) (page t.sort t.offset t.limit (filter (λ e. nat_le t.mincount e.stats.count) entries))
     (every_page (λ e. has_prefix t.prefix e.val) t.sort t.offset t.limit (filter (λ e. nat_le t.mincount e.stats.count) entries)
-    (every_filter (λ e. has_prefix t.prefix e.val) (λ e. nat_le t.mincount e.stats.count) entries (prefixed_chosen_entries r W t inner H Y))))
+    (every_filter (λ e. has_prefix t.prefix e.val) (λ e. nat_le t.mincount e.stats.count) entries (prefixed_chosen_entries R t inner H Y offers))))
     (every_asked (is_key_of (terms t)) t.missing missing refl)
-every_printed_key r W (range g) inner H Y = every_range_key g
-every_printed_key r W (query q) inner H Y = (refl, tt)
+every_printed_key_of R (range g) inner H Y offers = every_range_key g
+every_printed_key_of R (query q) inner H Y offers = (refl, tt)
+
+prefixed_over_places : (r : Request) (W : World) (kind : Kind) (inner : Nodes) (Y : List Place) → OfferPrefixed (over_places r W) kind inner Y
+prefixed_over_places r W (terms t) inner Y = prefixed_offered t inner Y
+prefixed_over_places r W (range g) inner Y = tt
+prefixed_over_places r W (query q) inner Y = tt
+
+pub every_printed_key : (r : Request) (W : World) (kind : Kind) (inner : Nodes) (H : List ℕ) (Y : List Place) → Every (is_key_of kind) (printed_keys (over_places r W) kind inner H Y)
+every_printed_key r W kind inner H Y = every_printed_key_of (over_places r W) kind inner H Y (prefixed_over_places r W kind inner Y)

@@ -75,7 +75,7 @@ changes_join change V bases sets h e = go (is_empty change.exclude)
 
 -- ---- documents
 
-documents_from : (s : ℕ) (V : World) → map (λ p. p.document) (places_from s V) ≡ documents_in (joined V)
+pub documents_from : (s : ℕ) (V : World) → map (λ p. p.document) (places_from s V) ≡ documents_in (joined V)
 documents_from s [] = refl
 documents_from s (b ∷ V) =
     map-append (λ p. p.document) (shard_places s 0 0 b) (places_from (s + 1) V)

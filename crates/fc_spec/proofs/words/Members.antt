@@ -1,5 +1,5 @@
 -- Members of lists, tests of them, and filters.
-use Rattle.std.proofs.Common.{◌≡◌, ◌⊎◌, List, [], ◌∷◌, ◌++◌, map, Bool, true, false, cond, ◌||◌, ◌&&◌, refl, sym, ◌∙◌, ap, inl, inr}
+use Rattle.std.proofs.Common.{◌≡◌, ◌⊎◌, List, [], ◌∷◌, ◌++◌, map, Bool, true, false, cond, ◌||◌, ◌&&◌, refl, sym, ◌∙◌, ap, subst, inl, inr}
 use Rattle.std.specs.List.{filter, list_any, flat_map, AllByRecursion}
 use Rattle.std.proofs.lemmas.Bool.{false≢true, or_cases, or_left, or_right}
 use Rattle.std.proofs.lemmas.List.Folds.{list_any-append}
@@ -16,6 +16,17 @@ Every p xs = AllByRecursion (λ x. p x ≡ true) xs
 pub every_from_members : {X : Type 0} (p : X → Bool) (xs : List X) → ((x : X) → Member x xs → p x ≡ true) → Every p xs
 every_from_members p [] h = tt
 every_from_members p (x ∷ xs) h = (h x (inl refl), every_from_members p xs (λ y m. h y (inr m)))
+
+-- the same of a fact about each
+pub all_from_members : {X : Type 0} (P : X → Type 0) (xs : List X) → ((x : X) → Member x xs → P x) → AllByRecursion P xs
+all_from_members P [] h = tt
+all_from_members P (x ∷ xs) h = (h x (inl refl), all_from_members P xs (λ y m. h y (inr m)))
+
+-- and back
+pub each_member : {X : Type 0} (P : X → Type 0) (xs : List X) (x : X) → AllByRecursion P xs → Member x xs → P x
+each_member P [] x all m = absurd m
+each_member P (y ∷ ys) x all (inl e) = subst P (sym e) all.0
+each_member P (y ∷ ys) x all (inr m) = each_member P ys x all.1 m
 
 pub every_member : {X : Type 0} (p : X → Bool) (xs : List X) (x : X) → Every p xs → Member x xs → p x ≡ true
 every_member p [] x e m = absurd m
