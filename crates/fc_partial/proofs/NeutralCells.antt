@@ -1,13 +1,13 @@
 -- Cells of no document.
-use Rattle.std.proofs.Common.{◌≡◌, ℕ, zero, suc, ◌*◌, List, [], ◌∷◌, ◌++◌, length, true, refl, sym, ◌∙◌, ap, arith, length-append}
+use Rattle.std.proofs.Common.{◌≡◌, ℕ, zero, suc, ◌*◌, List, [], ◌∷◌, ◌++◌, length, refl, sym, ◌∙◌, ap, arith, length-append}
 use Rattle.std.specs.List.{AllByRecursion}
 use Rattle.std.specs.Prelude.{replicate}
 use Rattle.std.proofs.Math.Nat.{zero-mul, suc-mul}
 use Rattle.std.proofs.lemmas.List.{take_at, drop_at}
 use Rattle.fc_spec.specs.documents.World.{Place}
-use Rattle.fc_spec.specs.messages.MessageShape.{value_fits}
-use Rattle.fc_spec.specs.requests.Request.{Stat, StatKind, sum, min, max, countvals, missing}
-use Rattle.fc_spec.specs.requests.Statistics.{StatValue, stats_over, statistic_in}
+use Rattle.fc_spec.specs.requests.Request.{Stat}
+use Rattle.fc_spec.specs.requests.Statistics.{StatValue, stats_over}
+use Rattle.fc_spec.proofs.messages.ShapedStatistics.{values_fit-stats_over}
 use Rattle.fc_partial.specs.Adding.{HasShape}
 use Rattle.fc_partial.specs.CellsView.{rows_of}
 
@@ -27,15 +27,7 @@ rows-copies (suc n) w vs e =
 
 -- statistics of places have their shape
 pub shape_over : (ss : List Stat) (X : List Place) → HasShape ss (stats_over ss X)
-shape_over [] X = refl
-shape_over (s ∷ ss) X = rw (go s.of s.field) (shape_over ss X)
-  where
-    go : (k : StatKind) (field : ℕ) → value_fits (record { of = k; field = field }) (statistic_in k field X) ≡ true
-    go sum field = refl
-    go min field = refl
-    go max field = refl
-    go countvals field = refl
-    go missing field = refl
+shape_over ss X = values_fit-stats_over ss X
 
 pub every_replicate : {X : Type 0} (P : X → Type 0) (n : ℕ) (x : X) → P x → AllByRecursion P (replicate n x)
 every_replicate P zero x p = tt
