@@ -8,5 +8,6 @@ pub mod MemberFields
 pub mod MemberValues
 pub mod ReadSoFar
 pub mod Refused
+pub mod ValidBatches
 pub mod ValueCounts
 pub mod WholeDocument
