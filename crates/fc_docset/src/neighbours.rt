@@ -1,6 +1,5 @@
 // The bits that are next to a position, in words of 64 bits: bit j of word i stands for position 64 i + j.
-ghost use Rattle.std.specs.Prelude.{◌≡◌, ◌<◌, ◌≤◌, ◌*◌, ◌^◌, ℕ, true, false, length, MatchOption};
-ghost use Rattle.std.specs.Bool.{OnFalse, OnTrue};
+ghost use Rattle.std.specs.Prelude.{◌≡◌, ◌<◌, ◌≤◌, ◌*◌, ◌^◌, length, MatchOption};
 ghost use Rattle.fc_spec.specs.documents.Bits.{has_bit};
 ghost use Rattle.fc_docset.specs.Neighbours.{
   HasNoneFrom,
@@ -51,21 +50,6 @@ pub fn next_bit(words: &[u64], from: u32) -> Option<u32>
         low = 0;
     }
     None
-}
-
-/// Whether the bit of a position from `first` to `last`, both included, is 1. Only the words of these are read.
-pub fn has_bit_between(words: &[u64], first: u32, last: u32) -> bool
-    requires small { 64 * length words.now ≤ 2 ^ 32 }
-    requires within { last < 64 * length words.now }
-    ensures some { OnTrue result
-        ((k : ℕ) × (first ≤ k) × (k ≤ last) × (has_bit words.now k ≡ true)) }
-    ensures none { OnFalse result
-        ((k : ℕ) → first ≤ k → k ≤ last → has_bit words.now k ≡ false) }
-{
-    match next_bit(&words[..(last / 64 + 1) as usize], first) {
-        Some(at) => at <= last,
-        None => false,
-    }
 }
 
 /// The last position up to one whose bit is 1.

@@ -1,13 +1,12 @@
 // Sets of positions.
 ghost use Rattle.std.specs.Prelude.{◌≡◌, ◌<◌, ◌≤◌, ◌^◌, ◌&&◌, ◌||◌, ℕ, true, false, not, length, count_by, nat_le, nat_lt, replicate, slice_set, vec_len, IfOk, MatchOption};
-ghost use Rattle.std.specs.Bool.{OnFalse, OnTrue};
 ghost use Rattle.fc_spec.specs.documents.Bits.{words_for, first_bits, HasBits};
 ghost use Rattle.fc_spec.specs.documents.Sets.{zip_with};
 ghost use Rattle.fc_docset.specs.Positions.{contains, positions};
 ghost use Rattle.fc_docset.specs.Neighbours.{HasNoneFrom, HasNoneUpTo, IsLastUpTo, IsNextFrom};
 
 use crate::Positions;
-use crate::neighbours::{has_bit_between, last_bit, next_bit};
+use crate::neighbours::{last_bit, next_bit};
 use crate::words::{
     and_not_words, and_words, clear_bit, clear_from, count_bits, has_bit, or_words, set_bit,
     set_bits, word_count,
@@ -169,17 +168,6 @@ impl DocSet {
         ensures small { length self.now < 2 ^ 32 }
     {
         next_bit(&self.words, from)
-    }
-
-    /// Whether a position from `first` to `last`, both included, is in the set. None is where `first` is above `last`.
-    pub fn has_between(&self, first: u32, last: u32) -> bool
-        requires { last < length self.now }
-        ensures some { OnTrue result
-            ((k : ℕ) × (first ≤ k) × (k ≤ last) × (contains self.now k ≡ true)) }
-        ensures none { OnFalse result
-            ((k : ℕ) → first ≤ k → k ≤ last → contains self.now k ≡ false) }
-    {
-        has_bit_between(&self.words, first, last)
     }
 
     /// The greatest position of the set that is at most `to`.
