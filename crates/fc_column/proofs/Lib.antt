@@ -12,7 +12,10 @@ pub mod Marks
 pub mod ValueLists
 pub mod Ascents
 pub mod SortedTerms
+pub mod Prefixes
 pub mod TermLists
+pub mod TermOrder
 pub mod Numberings
 pub mod Grown
 pub mod Ranked
+pub mod Ends

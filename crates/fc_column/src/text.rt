@@ -1,8 +1,10 @@
 // Columns of texts.
-ghost use Rattle.std.specs.Prelude.{◌≡◌, ℕ, ◌<◌, ◌≤◌, [], length, map, not, slice_index_or, All, IfSome, is_some};
-ghost use Rattle.std.specs.List.{list_any};
+ghost use Rattle.std.specs.Prelude.{◌≡◌, ℕ, ◌<◌, ◌≤◌, ◌&&◌, ◌||◌, [], length, map, not, nat_eq, nat_le, nat_lt, slice_index_or, All, IfSome, is_some};
+ghost use Rattle.std.specs.List.{list_any, starts_with};
 ghost use Rattle.std.specs.List.Sorted.{IsStrictlyIncreasing};
+ghost use Rattle.std.specs.Ordering.{is_lt};
 ghost use Rattle.fc_spec.specs.documents.Bits.{words_for, HasBits};
+ghost use Rattle.fc_spec.specs.documents.Val.{text_cmp};
 ghost use Rattle.fc_spec.specs.words.Lists.{is_empty};
 ghost use Rattle.fc_docset.specs.Positions.{positions};
 ghost use Rattle.fc_column.specs.Among.{is_among};
@@ -99,6 +101,24 @@ impl TextColumn {
             .partition_point(|term| term.bytes().cmp(text).is_le()) as u32
     }
 
+    /// The ordinals of the terms that begin with a prefix, by its UTF-8 bytes: from the first number up to but not
+    /// including the second.
+    pub fn with_prefix(&self, prefix: &[u8]) -> (u32, u32)
+        ensures ordered { result.0 ≤ result.1 }
+        ensures within { result.1 ≤ length (terms_of self.now) }
+        ensures prefix { (ord : ℕ) → ord < length (terms_of self.now)
+            → starts_with nat_eq (slice_index_or (terms_of self.now) ord []) prefix.now
+            ≡ (nat_le result.0 ord && nat_lt ord result.1) }
+    {
+        let from = self
+            .terms
+            .partition_point(|term| term.bytes().cmp(prefix).is_lt());
+        let to = self
+            .terms
+            .partition_point(|term| begins_or_is_below(term, prefix));
+        (from as u32, to as u32)
+    }
+
     /// The positions that have a term, by its ordinal, in ascending order.
     pub fn positions_of(&self, ord: u32) -> &[u32]
         requires { ord < length (terms_of self.now) }
@@ -142,4 +162,11 @@ impl TextColumn {
             &[]
         }
     }
+}
+
+// Whether a term is below a prefix or begins with it.
+fn begins_or_is_below(term: &Name, prefix: &[u8]) -> bool
+    ensures { result ≡ (is_lt (text_cmp term.now prefix.now) || starts_with nat_eq term.now prefix.now) }
+{
+    term.bytes().cmp(prefix).is_lt() || term.bytes().starts_with(prefix)
 }
