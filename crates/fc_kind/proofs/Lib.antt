@@ -3,3 +3,5 @@ pub mod JoinedTallies
 pub mod PlaceColumns
 pub mod PickedPlaces
 pub mod BucketPlaces
+pub mod CollectedParts
+pub mod ValidFacets

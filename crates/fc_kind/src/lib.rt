@@ -1,12 +1,14 @@
 //! The interface of a kind of facet: what it collects in a segment, and which documents it selects there.
 #![tactic(auto)]
 
+mod adding;
 mod kind;
 mod kinds;
 mod law;
 mod name;
 mod statistics;
 
+pub use adding::add_documents;
 pub use kind::FacetKind;
 pub use kinds::{covers, the_kind};
 pub use law::collecting_joins;
