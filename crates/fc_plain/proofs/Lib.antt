@@ -1,6 +1,5 @@
 pub mod FacetValues
 pub mod FoundGroup
-pub mod NearGaps
 pub mod Numbered
 pub mod OfferedLists
 pub mod OfferedValues

@@ -1,9 +1,7 @@
 -- The values that a shard offers ascend, and without a limit are those that it finds.
-use Rattle.std.proofs.Common.{◌≡◌, List, [], ◌∷◌, map, Bool, true, false, cond, None, refl, sym, ◌∙◌, ap, subst}
+use Rattle.std.proofs.Common.{◌≡◌, List, [], ◌∷◌, map, None, refl, sym, ◌∙◌, ap, subst}
 use Rattle.std.specs.Prelude.{Option, ℕ}
-use Rattle.std.specs.List.{filter, AllByRecursion}
 use Rattle.std.specs.List.Sorted.{IsStrictlySortedBy}
-use Rattle.std.specs.declared.cmp.Ordering.TheVariants.{Less}
 use Rattle.fc_plain.specs.GroupEntries.{group_entry}
 use Rattle.fc_plain.specs.Groups.{Group, AreValueGroups}
 use Rattle.fc_plain.specs.Offers.{offered_of}
@@ -11,10 +9,10 @@ use Rattle.fc_refine.specs.Entries.{HaveAscendingValues}
 use Rattle.fc_spec.specs.documents.Val.{Val, val_cmp}
 use Rattle.fc_spec.specs.documents.World.{Place}
 use Rattle.fc_spec.specs.replies.Values.{value_places, values_in, entries_in}
-use Rattle.fc_spec.specs.requests.Ranks.{Entry, below_rank, rank, rank_bound}
+use Rattle.fc_spec.specs.requests.Ranks.{Entry, below_rank, rank_bound, offered_bound}
 use Rattle.fc_spec.specs.requests.Request.{Stat, Terms}
 use Rattle.fc_spec.specs.requests.Statistics.{Stats, stats_over}
-use Rattle.fc_spec.specs.words.Lists.{is_below_bound}
+use Rattle.fc_spec.proofs.replies.OfferedValues.{below_rank_ascends}
 use Rattle.fc_spec.proofs.requests.FoundValues.{ascending-values_in}
 use Rattle.fc_spec.proofs.words.Counting.{filter-all}
 
@@ -42,29 +40,8 @@ entries_made ss f (v ∷ vs) = ap (λ es. record { val = v; stats = stats_over s
 pub entries_ascend : (t : Terms) (ss : List Stat) (Y : List Place) (es : List Entry) → es ≡ entries_in t ss Y → HaveAscendingValues es
 entries_ascend t ss Y es is = subst (IsStrictlySortedBy val_cmp) (sym (ap (map val_of) is ∙ vals_in t ss Y)) (ascending-values_in t Y)
 
--- some of ascending entries ascend
-module _ (q : Entry → Bool) where
-  below_some : (v : Val) (es : List Entry) → AllByRecursion (λ w. val_cmp v w ≡ Less) (map val_of es) → AllByRecursion (λ w. val_cmp v w ≡ Less) (map val_of (filter q es))
-  below_some v [] h = h
-  below_some v (e ∷ es) h = go (q e) (below_some v es h.1)
-    where
-      go : (b : Bool) → AllByRecursion (λ w. val_cmp v w ≡ Less) (map val_of (filter q es)) → AllByRecursion (λ w. val_cmp v w ≡ Less) (map val_of (cond b (e ∷ filter q es) (filter q es)))
-      go true rest = (h.0, rest)
-      go false rest = rest
-
-  some_ascend : (es : List Entry) → HaveAscendingValues es → HaveAscendingValues (filter q es)
-  unfolding IsStrictlySortedBy
-  some_ascend [] h = h
-  some_ascend (e ∷ es) h = go (q e) (some_ascend es h.1)
-    where
-      go : (b : Bool) → HaveAscendingValues (filter q es) → HaveAscendingValues (cond b (e ∷ filter q es) (filter q es))
-      go true rest = (below_some e.val es h.0, rest)
-      go false rest = rest
-
 pub offered_ascend : (t : Terms) (ss : List Stat) (Y : List Place) → IsStrictlySortedBy val_cmp (offered_of t ss Y)
-offered_ascend t ss Y =
-    let es = entries_in t ss Y in
-    some_ascend (λ e. is_below_bound (rank_bound t.offset t.limit t.overrequest) (rank t.sort es e)) es (entries_ascend t ss Y es refl)
+offered_ascend t ss Y = below_rank_ascends t.sort (offered_bound t) t ss Y
 
 pub offered_all : (t : Terms) (ss : List Stat) (Y : List Place) → rank_bound t.offset t.limit t.overrequest ≡ None → offered_of t ss Y ≡ values_in t Y
 offered_all t ss Y none =

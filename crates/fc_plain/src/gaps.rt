@@ -12,16 +12,16 @@ ghost use Rattle.fc_partial.specs.View.{key_view};
 ghost use Rattle.fc_plain.specs.GapPlaces.{AreGaps, HaveTaken, gaps_view};
 ghost use Rattle.fc_places.specs.PlaceView.{place_view, places_view};
 
-mod ends;
 mod held;
 mod holding;
 
 use fc_base::{Val, WantMemory};
 use fc_facet::Range;
+use fc_gaps::{gaps_before, is_in_gap};
 use fc_partial::Key;
 use fc_places::{Place, Test, kept};
 use held::Gap;
-use holding::{holds_any, is_in_gap};
+use holding::holds_any;
 use std::alloc::Global;
 
 // In the bucket of a range facet.
@@ -101,16 +101,6 @@ fn take_before<'a>(
     }
     take_at(range, number - 1, x, read, place, gaps)?;
     Ok(())
-}
-
-// How many whole gaps fit between the start and an integer. It lies in no gap but the one of this number
-// and the one before it.
-fn gaps_before(range: &Range, x: i64) -> u64
-    requires few { HasFewGaps (range_view range.now) }
-    requires not_below { range.now.start ≤ℤ x }
-    ensures { (i : _) → definition.in_gap (range_view range.now) i x ≡ true → (i ≡ result) ⊎ (i + 1 ≡ result) }
-{
-    x.abs_diff(range.start) / range.gap.unsigned_abs()
 }
 
 // The gaps that hold an integer take the place.

@@ -4,7 +4,7 @@ use Rattle.fc_spec.specs.requests.Gaps.{in_gap}
 use Rattle.fc_facet.specs.KindView.{range_view}
 use Rattle.fc_plain.specs.GapPlaces.{HaveTaken, gaps_view}
 use Rattle.fc_places.specs.PlaceView.{place_view}
-use Rattle.fc_plain.proofs.NearGaps.{none_below}
+use Rattle.fc_gaps.proofs.NearGaps.{none_below}
 use Rattle.fc_plain.proofs.TakenPlaces.{alike_taken, both_taken, none_taken, two_cover}
 use Rattle.fc_plain.proofs.gaps.take_integer.Goals as goal
 

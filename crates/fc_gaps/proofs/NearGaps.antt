@@ -1,4 +1,4 @@
--- An integer lies in no gap but those next to its distance from the start.
+-- How gaps lie beside each other, and which of them are near an integer.
 use Rattle.std.proofs.Common.{◌≡◌, ℕ, ◌+◌, ◌*◌, ◌/◌, ◌<◌, ◌≤◌, ℤ, pos, ◌+ℤ◌, ◌-ℤ◌, ◌<ℤ◌, ◌≤ℤ◌, ◌⊎◌, inl, inr, Bool, true, false, ◌&&◌, ◌||◌, refl, sym, ap, subst, arith}
 use Rattle.std.specs.Prelude.{unsigned_abs, int_lt, if◌then◌else◌, ◌==◌}
 use Rattle.std.specs.Ordering.{int_eq}
@@ -130,3 +130,14 @@ module _ (g : Range) (few : HasFewGaps g) where
   -- below the start is no gap
   pub none_below : (i : ℕ) (x : ℤ) → x <ℤ g.start → in_gap g i x ≡ false
   none_below i x below = false_from_ne_true (in_gap g i x) (λ h. outside g.start x (i * step) below (held_within i x h).0)
+
+  -- a greater integer lies in no gap before those of a lesser one
+  pub gaps_ascend : (i j : ℕ) (x y : ℤ) → in_gap g j y ≡ true → in_gap g i x ≡ true → y <ℤ x → j ≤ i
+  gaps_ascend i j x y hy hx below = elim (cases_lt i j) [
+    | inl before ↦
+        let most = (held_within i x hx).1 in
+        let least = (held_within j y hy).0 in
+        let steps = mul-le-mul_right {m = i + 1} {n = j} step (omega arith) in
+        absurd (omega (arith, ints))
+    | inr later ↦ omega arith
+  ]

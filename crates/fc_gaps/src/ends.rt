@@ -25,21 +25,23 @@ fn low_end(range: &Range, number: u64) -> i128
 }
 
 // Whether the gap is the last.
-pub(super) fn is_last_gap(range: &Range, number: u32) -> bool
+pub(crate) fn is_last_gap(range: &Range, number: u32) -> bool
     requires { HasFewGaps (range_view range.now) }
     ensures { result ≡ definition.is_last_gap (range_view range.now) number }
 {
     u64::from(range.gaps()) == u64::from(number) + 1
 }
 
-pub(super) fn low_end_of(range: &Range, number: u32) -> i128
+/// The low end of a gap, by its number from 0.
+pub fn low_end_of(range: &Range, number: u32) -> i128
     requires { HasFewGaps (range_view range.now) }
     ensures { result ≡ definition.low_end (range_view range.now) number }
 {
     low_end(range, u64::from(number))
 }
 
-pub(super) fn high_end_of(range: &Range, number: u32) -> i128
+/// The high end of a gap.
+pub fn high_end_of(range: &Range, number: u32) -> i128
     requires { HasFewGaps (range_view range.now) }
     ensures { result ≡ definition.high_end (range_view range.now) number }
 {
