@@ -1,0 +1,12 @@
+pub mod PickedPositions
+pub mod ValueRows
+pub mod TermsKeys
+pub mod TermRows
+pub mod TermBuckets
+pub mod CountedTerms
+pub mod CountedIntegers
+pub mod IntegerBuckets
+pub mod GatheredPlaces
+pub mod RunBuckets
+pub mod LongRuns
+pub mod TermRuns

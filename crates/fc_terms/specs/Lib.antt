@@ -1,0 +1,7 @@
+pub mod Values
+pub mod Selected
+pub mod AddingUp
+pub mod Spans
+pub mod TermSpan
+pub mod LongSpan
+pub mod Gathered
