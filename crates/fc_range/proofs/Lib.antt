@@ -1,1 +1,11 @@
 pub mod Whole
+pub mod Tests
+pub mod HeldEnds
+pub mod Selected
+pub mod BucketRows
+pub mod Reached
+pub mod GapSteps
+pub mod GapRows
+pub mod GapBuckets
+pub mod BesideGaps
+pub mod CountedOnce

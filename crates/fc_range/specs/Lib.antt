@@ -1,1 +1,4 @@
 pub mod EndsView
+pub mod HeldEnds
+pub mod Reached
+pub mod GapKeys

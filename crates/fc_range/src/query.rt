@@ -5,7 +5,7 @@ use fc_base::WantMemory;
 use fc_docset::DocSet;
 use fc_domain::matches;
 use fc_facet::Kind;
-use fc_kind::{FacetKind, KindName, set_stats};
+use fc_kind::{FacetKind, KindName, add_documents};
 use fc_partial::{Key, Tally};
 use fc_request::Node;
 use fc_segment::Segment;
@@ -33,11 +33,7 @@ impl FacetKind for QueryKind {
         let mut matching = DocSet::empty(alloc, docs.len())?;
         self.select(alloc, segment, docs, node, &Key::Whole, &mut matching)?;
         let stats = node.stats(alloc)?;
-        let whole = set_stats(alloc, segment, &stats, &matching)?;
-        if whole.count == 0 {
-            return Ok(());
-        }
-        into.add(Key::Whole, &whole)?;
+        add_documents(alloc, segment, &stats, &matching, Key::Whole, into)?;
         Ok(())
     }
 

@@ -1,0 +1,36 @@
+-- The buckets of the gaps that are there, by their numbers.
+use Rattle.std.proofs.Common.{◌≡◌, ◌<◌, ℕ, true, List, inl, refl, ap, arith}
+use Rattle.std.specs.Prelude.{nat_lt}
+use Rattle.std.proofs.lemmas.Bool.{false_from_ne_true, false≢true}
+use Rattle.fc_spec.specs.documents.Document.{Block}
+use Rattle.fc_spec.specs.messages.KeyOrder.{same_key}
+use Rattle.fc_spec.specs.requests.Buckets.{Key, value, missing, gap, before, between, after, whole}
+use Rattle.fc_spec.specs.requests.Gaps.{gap_count}
+use Rattle.fc_spec.specs.requests.Request.{Range, range}
+use Rattle.fc_spec.proofs.messages.Keys.{same_key_exact}
+use Rattle.fc_count.specs.Added.{AreApart}
+use Rattle.fc_count.proofs.CountedBuckets.{IsCountedOrNone}
+use Rattle.fc_range.proofs.Tests.{below_is, is_below}
+use Rattle.fc_range.specs.GapKeys.{gap_key, is_gap_of}
+
+number_of : Key → ℕ
+number_of (gap i) = i
+number_of k = 0
+
+-- different gaps have different keys
+pub gaps_apart : (bound : ℕ) → AreApart gap_key bound
+unfolding number_of
+gaps_apart bound i j first second other = false_from_ne_true (same_key (gap i) (gap j)) (λ e. other (ap number_of (same_key_exact (gap i) (gap j) e)))
+
+pub gap_there : (g : Range) (bound i : ℕ) → gap_count g ≡ bound → i < bound → nat_lt i (gap_count g) ≡ true
+gap_there g bound i e here = below_is i (gap_count g) (omega (arith, e))
+
+-- each key of a gap is that of a number
+pub gap_found : (g : Range) (blocks : List Block) (bound : ℕ) → gap_count g ≡ bound → (k : Key) → is_gap_of g k ≡ true → IsCountedOrNone blocks (range g) gap_key bound k
+gap_found g blocks bound e (gap i) h = inl (i, (let here = is_below i (gap_count g) h in omega (arith, e), refl))
+gap_found g blocks bound e (value v) h = absurd (false≢true h)
+gap_found g blocks bound e missing h = absurd (false≢true h)
+gap_found g blocks bound e before h = absurd (false≢true h)
+gap_found g blocks bound e between h = absurd (false≢true h)
+gap_found g blocks bound e after h = absurd (false≢true h)
+gap_found g blocks bound e whole h = absurd (false≢true h)

@@ -1,0 +1,30 @@
+use Rattle.std.proofs.Common.{◌∙◌, ◌&&◌, ℤ, [], map, slice_index_or, count_by, sym, ap, ap₂, w64}
+use Rattle.std.proofs.lemmas.Int.{to_z-of_z}
+use Rattle.fc_spec.specs.documents.Sets.{zip_with}
+use Rattle.fc_column.specs.Longs.{has_between, is_between}
+use Rattle.fc_domain.proofs.LongRows.{rows_from_to}
+use Rattle.fc_range.proofs.Selected.{all_picked}
+use Rattle.fc_range.proofs.selecting.select_from_to.Goals as goal
+
+pub returns-then-count-found-clause-set : goal.returns-then-count-found-clause-set
+returns-then-count-found-clause-set c = λ test passes.
+    let docs = c.args.docs.now in
+    let rows = c.args.column.now in
+    let least = to_z-of_z w64 c.args.least c.ranges.least in
+    let greatest = to_z-of_z w64 c.args.greatest c.ranges.greatest in
+    c.keep_from_to.ensures.set
+    ∙ ap₂ (λ (x y : ℤ). zip_with ◌&&◌ docs (map (has_between x y) rows)) least greatest
+    ∙ ap (zip_with ◌&&◌ docs) (rows_from_to c.args.least c.args.greatest test passes rows c.len-count.ensures.long)
+
+pub returns-else-count-found-clause-set : goal.returns-else-count-found-clause-set
+returns-else-count-found-clause-set c = λ test passes.
+    let docs = c.args.docs.now in
+    let rows = c.args.column.now in
+    let positions = c.positions_between-found.result.now in
+    let least = to_z-of_z w64 c.args.least c.ranges.least in
+    let greatest = to_z-of_z w64 c.args.greatest c.ranges.greatest in
+    let size = c.pick.ensures.kept ∙ c.requires.same_length ∙ sym c.requires.length in
+    all_picked docs positions c.pick.new.into rows c.args.least c.args.greatest c.requires.length
+    (λ at. c.positions_between-found.ensures.positions at ∙ (λ i. count_by (is_between (least i) (greatest i)) (slice_index_or rows at [])))
+    (record { size = size; each = c.pick.ensures.set })
+    ∙ ap (zip_with ◌&&◌ docs) (rows_from_to c.args.least c.args.greatest test passes rows c.len-count.ensures.long)
