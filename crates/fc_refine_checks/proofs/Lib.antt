@@ -1,0 +1,2 @@
+pub mod Facets
+pub mod SmallParts

@@ -1,0 +1,6 @@
+// Worked rows, with memory enough.
+mod build;
+mod gather;
+mod lists;
+mod rows;
+mod shards;
