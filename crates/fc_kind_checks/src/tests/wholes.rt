@@ -40,12 +40,18 @@ const STATS: [Stat; 4] = [
     },
 ];
 
-fn segment_of(rt: &impl Abort, alloc: Global, schema: &Schema) -> Result<Segment, Fail>
+// The segment of one block with fewer children than 2,000.
+pub(super) fn segment_of(
+    rt: &impl Abort,
+    alloc: Global,
+    schema: &Schema,
+    text: &str,
+) -> Result<Segment, Fail>
     ensures texts { IfOk result (λ segment. segment.texts ≡ texts_held schema.now.fields) }
     ensures limits { IfOk result (λ segment. IsWithinLimits (segment.blocks ∷ [])) }
 {
-    let block = read_block(alloc, schema, &Value::from_str(alloc, BLOCK)?)?;
-    assert!(rt; block.children.len() < 5);
+    let block = read_block(alloc, schema, &Value::from_str(alloc, text)?)?;
+    assert!(rt; block.children.len() < 2_000);
     let batches = vec![in alloc;
         Batch {
             blocks: vec![in alloc; block]?
@@ -61,7 +67,7 @@ fn statistics_of_sets(rt: HostRuntime) -> Result<(), Fail> {
     let alloc = rt.alloc();
     let schema = Schema::read(alloc, &Value::from_str(alloc, FIELDS)?)?;
     assert_eq!(rt; schema.fields(), 3);
-    let segment = segment_of(&rt, alloc, &schema)?;
+    let segment = segment_of(&rt, alloc, &schema, BLOCK)?;
     let all = DocSet::full(alloc, segment.doc_count())?;
     let stats = set_stats(alloc, &segment, &STATS, &all)?;
     assert_eq!(rt; stats.count, 2);

@@ -1,0 +1,431 @@
+// Range facets, behind a box.
+ghost use Rattle.std.specs.Prelude.{◌≡◌, ◌<◌, [], ◌∷◌, length, slice_index_or, false, true, IfOk};
+ghost use Rattle.fc_spec.specs.documents.Totals.{document_total};
+ghost use Rattle.fc_spec.specs.requests.Buckets.{is_range_key};
+ghost use Rattle.fc_spec.specs.requests.Request as definition;
+ghost use Rattle.fc_spec.specs.scripts.WorldLimits.{IsWithinLimits};
+ghost use Rattle.fc_facet.specs.KindView.{range_view};
+ghost use Rattle.fc_facet.specs.RangeGaps.{HasFewGaps};
+ghost use Rattle.fc_facet.specs.declared.kind.Kind.TheVariants as kinds;
+ghost use Rattle.fc_partial.specs.View.{key_view};
+ghost use Rattle.fc_request.specs.FacetNode.{kind_of};
+ghost use Rattle.fc_request.specs.NodeView.{inner_view};
+ghost use Rattle.fc_kind.specs.Columns.{FitsColumns};
+ghost use Rattle.fc_kind.specs.declared.name.KindName.TheVariants as names;
+
+use super::wholes::segment_of;
+use fc_base::{FieldId, Name, Schema};
+use fc_docset::DocSet;
+use fc_facet::{BlockStep, Domain, Kind, Range};
+use fc_kind::FacetKind;
+use fc_partial::{Key, Tally};
+use fc_range::RangeKind;
+use fc_request::Node;
+use fc_segment::{Column, Segment};
+use serde_json::Value;
+use std::alloc::Global;
+use std::process::Abort;
+use std::test::Fail;
+
+const FIELDS: &str = r#"{"shards":1,"fields":{"n":"plongs"}}"#;
+
+// The integers 0, 4, 8, 10 and 12 at the positions from 0 to 4.
+const FIVE: &str =
+    r#"{"id":"4","n":12,"_childDocuments_":[{"id":"0","n":0},{"id":"1","n":4},{"id":"2","n":8},
+    {"id":"3","n":10}]}"#;
+
+// Documents with several integers, and one without.
+const SEVERAL: &str =
+    r#"{"id":"3","n":[-1,10,11],"_childDocuments_":[{"id":"0","n":[1,2,3,9]},{"id":"1","n":5},
+    {"id":"2"}]}"#;
+
+const LEAST: &str = r#"{"id":"0","n":-9223372036854775807}"#;
+
+const GREATEST: &str = r#"{"id":"0","n":9223372036854775807}"#;
+
+// Gaps from 0, 4 and 8 on, which hold their low ends, and every bucket beside them.
+const FROM_LOWER: Range = Range {
+    field: FieldId(1),
+    start: 0,
+    end: 10,
+    gap: 4,
+    hardend: false,
+    before: true,
+    after: true,
+    between: true,
+    lower: true,
+    upper: false,
+    edge: false,
+    outer: false,
+};
+
+// The last gap ends at the greatest integer.
+const UP_TO_GREATEST: Range = Range {
+    start: 9_223_372_036_854_775_797,
+    end: 9_223_372_036_854_775_807,
+    hardend: true,
+    ..FROM_LOWER
+};
+
+// Four gaps over all integers.
+const OVER_ALL: Range = Range {
+    start: -9_223_372_036_854_775_808,
+    end: 9_223_372_036_854_775_807,
+    gap: 4_611_686_018_427_387_904,
+    hardend: true,
+    ..FROM_LOWER
+};
+
+// A facet, with the positions of a domain and those of each bucket.
+struct Row {
+    block: &'static str,
+    docs: &'static [u32],
+    range: Range,
+    gaps: &'static [&'static [u32]],
+    before: &'static [u32],
+    between: &'static [u32],
+    after: &'static [u32],
+}
+
+const ROWS: [Row; 14] = [
+    Row {
+        block: FIVE,
+        docs: &[0, 1, 2, 3, 4],
+        range: FROM_LOWER,
+        gaps: &[&[0], &[1], &[2, 3]],
+        before: &[],
+        between: &[0, 1, 2, 3],
+        after: &[4],
+    },
+    Row {
+        block: FIVE,
+        docs: &[0, 1, 2, 3, 4],
+        range: Range {
+            hardend: true,
+            ..FROM_LOWER
+        },
+        gaps: &[&[0], &[1], &[2]],
+        before: &[],
+        between: &[0, 1, 2],
+        after: &[3, 4],
+    },
+    Row {
+        block: FIVE,
+        docs: &[0, 1, 2, 3, 4],
+        range: Range {
+            lower: false,
+            upper: true,
+            ..FROM_LOWER
+        },
+        gaps: &[&[1], &[2], &[3, 4]],
+        before: &[0],
+        between: &[1, 2, 3, 4],
+        after: &[],
+    },
+    Row {
+        block: FIVE,
+        docs: &[0, 1, 2, 3, 4],
+        range: Range {
+            lower: false,
+            edge: true,
+            ..FROM_LOWER
+        },
+        gaps: &[&[0], &[], &[3, 4]],
+        before: &[],
+        between: &[0, 1, 2, 3, 4],
+        after: &[],
+    },
+    Row {
+        block: FIVE,
+        docs: &[0, 1, 2, 3, 4],
+        range: Range {
+            lower: false,
+            outer: true,
+            ..FROM_LOWER
+        },
+        gaps: &[&[], &[], &[3]],
+        before: &[0],
+        between: &[1, 2, 3],
+        after: &[4],
+    },
+    // Every bucket holds both of its ends.
+    Row {
+        block: FIVE,
+        docs: &[0, 1, 2, 3, 4],
+        range: Range {
+            upper: true,
+            edge: true,
+            outer: true,
+            ..FROM_LOWER
+        },
+        gaps: &[&[0, 1], &[1, 2], &[2, 3, 4]],
+        before: &[0],
+        between: &[0, 1, 2, 3, 4],
+        after: &[4],
+    },
+    // A domain of two.
+    Row {
+        block: FIVE,
+        docs: &[1, 3],
+        range: Range {
+            upper: true,
+            edge: true,
+            outer: true,
+            ..FROM_LOWER
+        },
+        gaps: &[&[1], &[1], &[3]],
+        before: &[],
+        between: &[1, 3],
+        after: &[],
+    },
+    // No gap.
+    Row {
+        block: FIVE,
+        docs: &[0, 1, 2, 3, 4],
+        range: Range {
+            start: 5,
+            end: 5,
+            gap: 1,
+            ..FROM_LOWER
+        },
+        gaps: &[],
+        before: &[0, 1],
+        between: &[],
+        after: &[2, 3, 4],
+    },
+    // A document is counted once in each gap that holds one of its integers, and an end may lie in two gaps.
+    Row {
+        block: SEVERAL,
+        docs: &[0, 1, 2, 3],
+        range: Range {
+            gap: 5,
+            upper: true,
+            ..FROM_LOWER
+        },
+        gaps: &[&[0, 1], &[0, 1, 3]],
+        before: &[3],
+        between: &[0, 1, 3],
+        after: &[3],
+    },
+    Row {
+        block: LEAST,
+        docs: &[0],
+        range: FROM_LOWER,
+        gaps: &[&[], &[], &[]],
+        before: &[0],
+        between: &[],
+        after: &[],
+    },
+    Row {
+        block: GREATEST,
+        docs: &[0],
+        range: UP_TO_GREATEST,
+        gaps: &[&[], &[], &[]],
+        before: &[],
+        between: &[],
+        after: &[0],
+    },
+    Row {
+        block: GREATEST,
+        docs: &[0],
+        range: Range {
+            edge: true,
+            ..UP_TO_GREATEST
+        },
+        gaps: &[&[], &[], &[0]],
+        before: &[],
+        between: &[0],
+        after: &[],
+    },
+    Row {
+        block: LEAST,
+        docs: &[0],
+        range: OVER_ALL,
+        gaps: &[&[0], &[], &[], &[]],
+        before: &[],
+        between: &[0],
+        after: &[],
+    },
+    Row {
+        block: GREATEST,
+        docs: &[0],
+        range: Range {
+            upper: true,
+            ..OVER_ALL
+        },
+        gaps: &[&[], &[], &[], &[0]],
+        before: &[],
+        between: &[0],
+        after: &[],
+    },
+];
+
+fn holds_integers(segment: &Segment, field: FieldId) -> bool
+    requires { field.0 < length segment.now.texts }
+    ensures { result ≡ true → slice_index_or segment.now.texts field.0 false ≡ false }
+{
+    match segment.column(field) {
+        Column::Text(_) => false,
+        Column::Long(_) => true,
+    }
+}
+
+fn has_few_gaps(range: &Range) -> bool
+    ensures { result ≡ true → HasFewGaps (range_view range.now) }
+{
+    if range.end < range.start || range.gap < 1 {
+        return false;
+    }
+    let width = range.end.abs_diff(range.start);
+    width.div_ceil(range.gap.unsigned_abs()) <= 10_000
+}
+
+fn fits(segment: &Segment, range: &Range) -> bool
+    requires { length segment.now.texts ≡ 2 }
+    ensures { result ≡ true
+        → FitsColumns segment.now.texts (definition.range (range_view range.now)) }
+{
+    range.field.0 < 2 && holds_integers(segment, range.field) && has_few_gaps(range)
+}
+
+fn is_key(range: &Range, key: &Key) -> bool
+    requires { HasFewGaps (range_view range.now) }
+    ensures { result ≡ is_range_key (range_view range.now) (key_view key.now) }
+{
+    match key {
+        Key::Gap(number) => *number < range.gaps(),
+        Key::Before => range.before,
+        Key::Between => range.between,
+        Key::After => range.after,
+        _ => false,
+    }
+}
+
+// A facet of this range with nothing nested.
+fn node_of(alloc: Global, range: Range) -> Result<Node, Fail>
+    ensures kind { IfOk result (λ node. kind_of node ≡ kinds.Range range) }
+    ensures inner { IfOk result (λ node. inner_view node ≡ definition.no_nodes) }
+{
+    Ok(Node {
+        name: Name::new(alloc, "f")?,
+        domain: Domain {
+            exclude: Vec::new(alloc),
+            block: BlockStep::Stay,
+            filters: Vec::new(alloc),
+        },
+        kind: Kind::Range(range),
+        nodes: Vec::new(alloc),
+    })
+}
+
+fn set_of(rt: &impl Abort, alloc: Global, segment: &Segment, docs: &[u32]) -> Result<DocSet, Fail>
+    ensures { IfOk result (λ set. length set ≡ document_total segment.now.blocks) }
+{
+    let mut set = DocSet::empty(alloc, segment.doc_count())?;
+    for at in docs {
+        assert!(rt; *at < set.len());
+        set.add(*at);
+    }
+    Ok(set)
+}
+
+// What is collected of a row.
+fn collected(
+    rt: &impl Abort,
+    alloc: Global,
+    kind: &Box<dyn FacetKind>,
+    segment: &Segment,
+    row: &Row,
+) -> Result<Tally, Fail>
+    requires name { name kind.now ≡ names.Range }
+    requires fits { FitsColumns segment.now.texts (definition.range (range_view row.now.range)) }
+    requires limits { IsWithinLimits (segment.now.blocks ∷ []) }
+{
+    let node = node_of(alloc, row.range)?;
+    let docs = set_of(rt, alloc, segment, row.docs)?;
+    let mut tally = Tally::new(alloc, Vec::new(alloc))?;
+    kind.collect(alloc, segment, &docs, &node, &mut tally)?;
+    Ok(tally)
+}
+
+// The positions of a bucket of a row.
+fn selected(
+    rt: &impl Abort,
+    alloc: Global,
+    kind: &Box<dyn FacetKind>,
+    segment: &Segment,
+    row: &Row,
+    key: &Key,
+) -> Result<Vec<u32>, Fail>
+    requires name { name kind.now ≡ names.Range }
+    requires fits { FitsColumns segment.now.texts (definition.range (range_view row.now.range)) }
+{
+    assert!(rt; is_key(&row.range, key));
+    let node = node_of(alloc, row.range)?;
+    let docs = set_of(rt, alloc, segment, row.docs)?;
+    let mut into = DocSet::full(alloc, segment.doc_count())?;
+    kind.select(alloc, segment, &docs, &node, key, &mut into)?;
+    Ok(into.iter().collect(alloc)?)
+}
+
+// The keys of a row with their positions.
+fn buckets_of(alloc: Global, row: &Row) -> Result<Vec<(Key, &'static [u32])>, Fail> {
+    let mut buckets = vec![in alloc;
+        (Key::Before, row.before),
+        (Key::Between, row.between),
+        (Key::After, row.after),
+    ]?;
+    let mut number = 0;
+    for positions in row.gaps {
+        buckets.push((Key::Gap(number), *positions))?;
+        number = number.wrapping_add(1);
+    }
+    Ok(buckets)
+}
+
+fn count_of(tally: &Tally, key: &Key) -> Option<u64> {
+    Some(tally.get(key)?.count)
+}
+
+// A bucket is in the tally where it has a document.
+fn check_bucket(
+    rt: &impl Abort,
+    found: &[u32],
+    wanted: &[u32],
+    count: Option<u64>,
+) -> Result<(), Fail> {
+    assert_eq!(rt; found, wanted);
+    match count {
+        Some(count) => {
+            assert!(rt; count > 0);
+            assert_eq!(rt; count, wanted.len() as u64);
+        }
+        None => assert_eq!(rt; wanted.len(), 0),
+    }
+    Ok(())
+}
+
+fn check(rt: &impl Abort, alloc: Global, kind: &Box<dyn FacetKind>, row: &Row) -> Result<(), Fail>
+    requires name { name kind.now ≡ names.Range }
+{
+    let schema = Schema::read(alloc, &Value::from_str(alloc, FIELDS)?)?;
+    assert_eq!(rt; schema.fields(), 2);
+    let segment = segment_of(rt, alloc, &schema, row.block)?;
+    assert!(rt; fits(&segment, &row.range));
+    let tally = collected(rt, alloc, kind, &segment, row)?;
+    for (key, wanted) in buckets_of(alloc, row)? {
+        let found = selected(rt, alloc, kind, &segment, row, &key)?;
+        check_bucket(rt, &found, wanted, count_of(&tally, &key))?;
+    }
+    Ok(())
+}
+
+#[test]
+fn buckets_of_ranges(rt: HostRuntime) -> Result<(), Fail> {
+    let alloc = rt.alloc();
+    let kind: Box<dyn FacetKind> = Box::new(alloc, RangeKind)?;
+    for row in &ROWS {
+        check(&rt, alloc, &kind, row)?;
+    }
+    Ok(())
+}
