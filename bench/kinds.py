@@ -1,5 +1,5 @@
 #!/usr/bin/env python3
-"""Measures what terms facets cost in one segment, in ratios of one run, and prints the figures beside the targets."""
+"""Measures what terms facets cost in one segment, and prints times and, beside the targets, ratios of them."""
 import argparse
 import os
 import subprocess
