@@ -6,8 +6,8 @@ ghost use Rattle.fc_facet.specs.RangeGaps.{HasFewGaps};
 
 use fc_facet::Range;
 
-/// How many whole gaps fit between the start and an integer. It lies in no gap but the one of this number
-/// and the one before it.
+/// The number of a gap: the integer lies in no gap but this one and the one before it. (It is how many whole gaps fit
+/// between the start and the integer, which no clause says.)
 pub fn gaps_before(range: &Range, x: i64) -> u64
     requires few { HasFewGaps (range_view range.now) }
     requires not_below { range.now.start ≤ℤ x }

@@ -1,4 +1,4 @@
-//! The kinds of facet that look at no dictionary: range and query facets.
+//! The kinds of facet whose keys no dictionary gives: range and query facets.
 #![tactic(auto)]
 
 mod counting;

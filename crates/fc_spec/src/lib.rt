@@ -147,7 +147,7 @@ pub fn what_lacks_is_there()
     ensures there { LacksAreThere }
 {}
 
-/// Whatever was told, each shard is asked for a bucket once, and for none under another.
+/// Whatever was told, within a round each shard is asked for a bucket once, and for none under another.
 pub fn what_lacks_is_asked_once()
     ensures lacks { LacksStandApart }
     ensures differ { LacksDiffer }
@@ -162,8 +162,8 @@ pub fn order_of_arrival_is_free()
     ensures rounds { RoundsOrderIsFree }
 {}
 
-/// No shard tells a bucket twice, whatever its messages hold, where it first tells of its root and then, one depth after
-/// another, of what lacks there.
+/// No two buckets that a shard tells hold one bucket, whatever its messages hold, where it first tells of its root and
+/// then, one depth after another, of what lacks there. Of whole searches this is said where only outermost facets exclude.
 pub fn buckets_are_told_once()
     ensures depth { LacksAtDepth }
     ensures first { FirstTellOnce }
