@@ -1,16 +1,16 @@
 -- The first and the last of integers in ascending order.
-use Rattle.std.proofs.Common.{◌≡◌, ℕ, ℤ, zero, suc, ◌+◌, ◌-◌, ◌<◌, ◌≤◌, ◌≤ℤ◌, Bool, true, false, not, cond, ◌&&◌, ◌==◌, List, [], ◌∷◌, length, get_or, count_by, All, refl, sym, ap, subst, ◌∙◌, arith, zero-add}
+use Rattle.std.proofs.Common.{◌≡◌, ℕ, ℤ, zero, suc, ◌+◌, ◌-◌, ◌<◌, ◌≤◌, ◌≤ℤ◌, Bool, true, false, not, cond, ◌&&◌, ◌||◌, ◌==◌, List, [], ◌∷◌, length, get_or, count_by, All, refl, sym, ap, ap₂, subst, ◌∙◌, arith, eq-eqb, lt-ltb, zero-add}
 use Rattle.std.proofs.lemmas.Bool.{false≢true}
 use Rattle.std.proofs.lemmas.Int.{ints}
-use Rattle.std.proofs.lemmas.List.{get_or_default, nil_from_length}
+use Rattle.std.proofs.lemmas.List.{get_or_default}
 use Rattle.std.proofs.lemmas.List.Elements.{All-head, All-tail}
 use Rattle.std.proofs.lemmas.List.Sums.{get_or-le-sum_by}
-use Rattle.std.specs.List.{zip}
+use Rattle.std.specs.List.{list_any, zip}
 use Rattle.std.specs.Ordering.{int_cmp, is_lt, is_le}
 use Rattle.fc_spec.proofs.words.Counting.{count_by-cons}
-use Rattle.fc_column.specs.Longs.{is_between}
-use Rattle.fc_column.specs.Ordered.{AreInOrder, Rise, count_beside}
-use Rattle.fc_column.proofs.InOrder.{between_yes}
+use Rattle.fc_column.specs.Longs.{has_between, is_between}
+use Rattle.fc_column.specs.Ordered.{AreInOrder, count_beside}
+use Rattle.fc_column.proofs.InOrder.{any_count, between_yes}
 
 -- integers that fail a test stand beside no position
 none_beside : (passes : ℤ → Bool) (at : ℕ) (values : List ℤ) (positions : List ℕ) → All (λ v. passes v ≡ false) values → count_beside passes at values positions ≡ 0
@@ -71,3 +71,45 @@ none_in_rows positions rows order = λ at e inside.
     no_member : (row : List ℤ) → All (λ v. true ≡ false) row → row ≡ []
     no_member [] h = refl
     no_member (z ∷ zs) h = absurd (false≢true (sym (All-head (λ (v : ℤ). true ≡ false) z zs h)))
+
+-- ---- integers of the list are integers of positions
+some_beside : (passes : ℤ → Bool) (values : List ℤ) (positions : List ℕ) (k : ℕ) (d : ℤ) → length positions ≡ length values → k < length values → passes (get_or values k d) ≡ true
+    → 0 < count_beside passes (get_or positions k 0) values positions
+some_beside passes [] positions k d even inside h = absurd (omega arith)
+some_beside passes (v ∷ values) [] k d even inside h = absurd (omega arith)
+some_beside passes (v ∷ values) (p ∷ positions) zero d even inside h =
+    let split = count_by-cons (λ (pair : ℤ × ℕ). passes pair.0 && (pair.1 == p)) (v, p) (zip values positions) in
+    let one : cond (passes v && (p == p)) 1 0 ≡ 1 = ap₂ (λ a b. cond {A = ℕ} (a && b) 1 0) h (eq-eqb p p refl) in
+    omega (arith, split, one)
+some_beside passes (v ∷ values) (p ∷ positions) (suc k) d even inside h =
+    let at = get_or positions k 0 in
+    let split = count_by-cons (λ (pair : ℤ × ℕ). passes pair.0 && (pair.1 == at)) (v, p) (zip values positions) in
+    let others = some_beside passes values positions k d (omega arith) (omega arith) h in
+    omega (arith, split, others)
+
+any_of_row : {X : Type 0} (p : X → Bool) (rows : List (List X)) (at : ℕ) → list_any p (get_or rows at []) ≡ true → list_any (list_any p) rows ≡ true
+any_of_row p [] at h = h
+any_of_row p (row ∷ rows) zero h = ap (λ b. b || list_any (list_any p) rows) h
+any_of_row p (row ∷ rows) (suc at) h = go (list_any p row) (any_of_row p rows at h)
+  where
+    go : (b : Bool) → list_any (list_any p) rows ≡ true → (b || list_any (list_any p) rows) ≡ true
+    go true rest = refl
+    go false rest = rest
+
+between_itself : (z : ℤ) → is_between z z z ≡ true
+between_itself z = grind (arith, ints)
+
+pub there_in_rows : (values : List ℤ) (positions : List ℕ) (rows : List (List ℤ)) (k : ℕ) (z : ℤ) → AreInOrder values positions rows → k < length values → z ≡ get_or values k z
+    → list_any (has_between z z) rows ≡ true
+there_in_rows values positions rows k z order inside is =
+    let at = get_or positions k 0 in
+    let some = some_beside (is_between z z) values positions k z order.even inside (ap (is_between z z) (sym is) ∙ between_itself z) in
+    let count = order.same (is_between z z) at in
+    any_of_row (is_between z z) rows at
+    (any_count (is_between z z) (get_or rows at []) ∙ lt-ltb 0 (count_by (is_between z z) (get_or rows at [])) (omega (arith, some, count)))
+
+-- none is there where no position has an integer
+pub none_there : (p : ℤ → Bool) (rows : List (List ℤ)) → All (λ values. values ≡ []) rows → list_any (list_any p) rows ≡ false
+none_there p [] none = refl
+none_there p (row ∷ rows) none =
+    ap₂ (λ l b. list_any p l || b) (All-head (λ values. values ≡ []) row rows none) (none_there p rows (All-tail (λ values. values ≡ []) row rows none))

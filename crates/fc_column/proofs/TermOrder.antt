@@ -1,6 +1,6 @@
 -- The terms of a column ascend.
-use Rattle.std.proofs.Common.{◌≡◌, ℕ, zero, suc, ◌<◌, true, All, List, [], ◌∷◌, length, get_or, map, count_by, sym, ap, ◌∙◌, subst, arith}
-use Rattle.std.specs.List.{AllByRecursion, Any, flat_map, list_any}
+use Rattle.std.proofs.Common.{◌≡◌, zero, suc, true, All, List, [], ◌∷◌, get_or, map, count_by, sym, ap, ◌∙◌, arith}
+use Rattle.std.specs.List.{AllByRecursion, flat_map, list_any}
 use Rattle.std.specs.List.Sorted.{IsStrictlySortedBy}
 use Rattle.std.specs.Ordering.{is_lt}
 use Rattle.std.specs.declared.cmp.Ordering.TheVariants.{Less}

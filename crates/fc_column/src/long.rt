@@ -1,5 +1,5 @@
 // Columns of integers.
-ghost use Rattle.std.specs.Prelude.{◌≡◌, ℕ, ◌==◌, ◌<◌, ◌≤◌, [], ◌∷◌, ◌++◌, length, map, not, replicate, count_by, slice_index_or, true, ◌≤ℤ◌, All, IfOk, IfNone, IfSome, OnOk};
+ghost use Rattle.std.specs.Prelude.{◌≡◌, ℕ, ◌==◌, ◌<◌, ◌≤◌, [], ◌∷◌, ◌++◌, length, map, not, replicate, count_by, slice_index_or, true, ◌≤ℤ◌, ◌↔◌, All, IfOk, IsNone, IfSome, OnOk};
 ghost use Rattle.std.specs.Ordering.{int_cmp};
 ghost use Rattle.fc_spec.specs.documents.Bits.{words_for, HasBits};
 ghost use Rattle.fc_spec.specs.documents.Columns.{IsLong, IsAscending, longs_in};
@@ -7,7 +7,7 @@ ghost use Rattle.fc_spec.specs.documents.Val.{val_cmp};
 ghost use Rattle.fc_base.specs.View.{val_view};
 ghost use Rattle.fc_spec.specs.documents.IntegerTexts.{is_long};
 ghost use Rattle.fc_spec.specs.words.Lists.{is_empty};
-ghost use Rattle.fc_column.specs.Longs.{is_between, has_between};
+ghost use Rattle.fc_column.specs.Longs.{AreThere, is_between, has_between};
 
 use crate::bits::mark;
 use crate::entries::Entries;
@@ -47,13 +47,13 @@ impl LongColumn {
         self.rows.len()
     }
 
-    /// Two integers between which all integers of all positions lie. There are none where no position has one. They are the
-    /// least and the greatest, which no clause says: it shows in nothing but the time of what is done with them.
+    /// The least and the greatest integer of all positions. There are none where no position has an integer.
     pub fn ends(&self) -> Option<(i64, i64)>
-        ensures none { IfNone result (All (λ values. values ≡ []) self.now) }
+        ensures none { IsNone result ↔ All (λ values. values ≡ []) self.now }
         ensures order { IfSome result (λ ends. ends.0 ≤ℤ ends.1) }
         ensures between { IfSome result (λ ends.
             All (All (λ value. is_between ends.0 ends.1 value ≡ true)) self.now) }
+        ensures there { IfSome result (λ ends. AreThere ends.0 ends.1 self.now) }
     {
         match (self.values.first(), self.values.last()) {
             (Some(least), Some(greatest)) => Some((*least, *greatest)),
