@@ -25,7 +25,7 @@ use Rattle.fc_count.specs.Added.{CellsAddUp, HaveAdded}
 use Rattle.fc_count.specs.Counted.{AreCounted, held_places}
 
 -- a test of what is made, and a test before
-filter-map : {X Y : Type 0} (p : Y → Bool) (f : X → Y) (xs : List X) → filter p (map f xs) ≡ map f (filter (λ x. p (f x)) xs)
+pub filter-map : {X Y : Type 0} (p : Y → Bool) (f : X → Y) (xs : List X) → filter p (map f xs) ≡ map f (filter (λ x. p (f x)) xs)
 filter-map p f [] = refl
 filter-map p f (x ∷ xs) = go (p (f x)) (filter-map p f xs)
   where

@@ -2,6 +2,9 @@ pub mod CountedSteps
 pub mod CountedPlaces
 pub mod AddedKeys
 pub mod CountedBuckets
+pub mod CountedRows
+pub mod RowPlaces
+pub mod RowValues
 pub mod RunParts
 pub mod SortedRuns
 pub mod RunSteps

@@ -1,8 +1,8 @@
 -- Positions with the numbers that count them.
-use Rattle.std.specs.Prelude.{◌≡◌, ◌<◌, ◌≤◌, ℕ, ℤ, List, map, false, true, Some, length, slice_index_or}
+use Rattle.std.specs.Prelude.{◌≡◌, ℕ, ℤ, List, map, false, true, Some}
 use Rattle.std.specs.List.{filter}
 use Rattle.std.specs.Option.{ForSome}
-use Rattle.std.specs.Ordering.{int_cmp, int_eq, is_lt}
+use Rattle.std.specs.Ordering.{int_eq}
 use Rattle.fc_spec.specs.documents.Document.{Block}
 use Rattle.fc_spec.specs.documents.World.{Place}
 use Rattle.fc_spec.specs.messages.KeyOrder.{same_key}
@@ -15,7 +15,7 @@ use Rattle.fc_partial.specs.Fitting.{StatisticsFit}
 use Rattle.fc_partial.specs.Tallied.{Entry, Tallied}
 use Rattle.fc_partial.specs.Tallying.{entry_at, with_more}
 use Rattle.fc_kind.specs.PlaceAt.{place_at}
-use Rattle.fc_count.specs.declared.runs.Counting.{Counting}
+use Rattle.fc_count.specs.Counting.{Counting}
 
 -- those of a number, in the order in which they stand
 abbrev pub of_number : ℤ → List Counting → List Counting
@@ -25,16 +25,9 @@ of_number n cs = filter (λ c. int_eq c.number n) cs
 abbrev pub positions_of : List Counting → ℤ → List ℕ
 positions_of cs n = map (λ c. c.at) (of_number n cs)
 
--- the places that are counted, and those that a number counts
-abbrev pub places_in : List Block → List Counting → List Place
-places_in blocks cs = map (place_at blocks) (map (λ c. c.at) cs)
-
+-- the places that a number counts
 abbrev pub places_of : List Block → List Counting → ℤ → List Place
 places_of blocks cs n = map (place_at blocks) (positions_of cs n)
-
--- numbers do not fall
-abbrev pub Rise : List Counting → Type 0
-Rise cs = (i j : ℕ) (d : Counting) → i ≤ j → j < length cs → is_lt (int_cmp (slice_index_or cs j d).number (slice_index_or cs i d).number) ≡ false
 
 -- numbers with one key are one
 abbrev pub NumbersApart : (ℤ → Type 0) → (ℤ → Key) → Type 0

@@ -3,12 +3,15 @@
 
 mod adding;
 mod counting;
+mod countings;
 mod keys;
 mod numbering;
+mod rows;
 mod runs;
 
 pub use adding::add_cells;
 pub use counting::counted_cells;
+pub use countings::Countings;
 pub use keys::Keys;
 pub use numbering::Numbering;
-pub use runs::{Counting, add_runs};
+pub use runs::add_runs;

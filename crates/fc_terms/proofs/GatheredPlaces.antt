@@ -15,7 +15,7 @@ use Rattle.fc_spec.specs.requests.Buckets.{Key, bucket_places, in_bucket}
 use Rattle.fc_spec.specs.requests.Request.{Kind}
 use Rattle.fc_docset.specs.Positions.{positions}
 use Rattle.fc_kind.specs.PlaceAt.{place_at}
-use Rattle.fc_count.specs.declared.runs.Counting.{Counting}
+use Rattle.fc_count.specs.Counting.{Counting}
 use Rattle.fc_count.specs.Runs.{of_number, places_of, positions_of}
 use Rattle.fc_count.proofs.CountedBuckets.{held_bucket}
 use Rattle.fc_terms.specs.Gathered.{AreGathered, countings_at}

@@ -20,7 +20,7 @@ use Rattle.fc_partial.specs.Tallying.{entry_at, with_more}
 use Rattle.fc_partial.proofs.Fitting.{filtered_fit, picked_fit}
 use Rattle.fc_kind.specs.Collecting.{BucketsAddUp, CollectsAmong}
 use Rattle.fc_kind.proofs.PlaceColumns.{segment_fits}
-use Rattle.fc_count.specs.declared.runs.Counting.{Counting}
+use Rattle.fc_count.specs.Counting.{Counting}
 use Rattle.fc_count.specs.Runs.{AddsRuns, NumbersAddUp, NumbersFit, places_of}
 use Rattle.fc_count.proofs.RunParts.{holds_of_some}
 

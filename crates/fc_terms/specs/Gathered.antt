@@ -4,7 +4,7 @@ use Rattle.std.specs.List.{filter, list_any}
 use Rattle.std.specs.Ordering.{int_eq}
 use Rattle.fc_spec.specs.documents.Val.{Text}
 use Rattle.fc_column.specs.Terms.{ordinals_in}
-use Rattle.fc_count.specs.declared.runs.Counting.{Counting}
+use Rattle.fc_count.specs.Counting.{Counting}
 use Rattle.fc_count.specs.Runs.{positions_of}
 
 -- a position with each of these numbers

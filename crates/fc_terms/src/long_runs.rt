@@ -17,7 +17,7 @@ ghost use Rattle.fc_terms.specs.Values.{is_value_key};
 use crate::long_keys::LongKeys;
 use fc_base::{Stat, WantMemory};
 use fc_column::LongColumn;
-use fc_count::{Counting, add_runs};
+use fc_count::{Countings, add_runs};
 use fc_docset::DocSet;
 use fc_facet::Terms;
 use fc_partial::Tally;
@@ -25,11 +25,11 @@ use fc_segment::Segment;
 use std::alloc::Global;
 
 // Puts a position behind the others, once for each of its integers.
-fn push_longs(values: &[i64], at: u32, into: &mut Vec<Counting>) -> Result<(), WantMemory>
-    ensures { OnOk result (into.new.items ≡ into.old.items ++ countings_at at values.now) }
+fn push_longs(values: &[i64], at: u32, into: &mut Countings) -> Result<(), WantMemory>
+    ensures { OnOk result (into.new ≡ into.old ++ countings_at at values.now) }
 {
     for value in values {
-        into.push(Counting { number: *value, at })?;
+        into.push(*value, at)?;
     }
     Ok(())
 }
@@ -39,13 +39,13 @@ fn long_countings(
     alloc: Global,
     docs: &DocSet,
     column: &LongColumn,
-) -> Result<Vec<Counting>, WantMemory>
+) -> Result<Countings, WantMemory>
     requires length { length docs.now ≡ length column.now }
     ensures gathered { IfOk result (λ countings.
-        AreGathered (longs_at column.now) (positions docs.now) countings.items) }
-    ensures there { IfOk result (λ countings. All (λ c. c.at < length column.now) countings.items) }
+        AreGathered (longs_at column.now) (positions docs.now) countings) }
+    ensures there { IfOk result (λ countings. All (λ c. c.at < length column.now) countings) }
 {
-    let mut countings = Vec::new(alloc);
+    let mut countings = Countings::new(alloc);
     for at in docs.iter() {
         push_longs(column.values_of(at), at, &mut countings)?;
     }

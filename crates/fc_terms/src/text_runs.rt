@@ -20,7 +20,7 @@ ghost use Rattle.fc_terms.specs.Values.{is_value_key};
 use crate::numbers::TermSpan;
 use fc_base::{Stat, WantMemory};
 use fc_column::TextColumn;
-use fc_count::{Counting, add_runs};
+use fc_count::{Countings, add_runs};
 use fc_docset::DocSet;
 use fc_facet::Terms;
 use fc_partial::Tally;
@@ -32,16 +32,15 @@ fn push_ordinals(
     ordinals: &[u32],
     span: (u32, u32),
     at: u32,
-    into: &mut Vec<Counting>,
+    into: &mut Countings,
 ) -> Result<(), WantMemory>
-    ensures { OnOk result (into.new.items
-        ≡ into.old.items ++ countings_at at (ordinals_above span.0 span.1 ordinals.now)) }
+    ensures { OnOk result (into.new
+        ≡ into.old ++ countings_at at (ordinals_above span.0 span.1 ordinals.now)) }
 {
     let (from, to) = span;
     for ord in ordinals {
         if from <= *ord && *ord < to {
-            let number = i64::from(*ord - from);
-            into.push(Counting { number, at })?;
+            into.push(i64::from(*ord - from), at)?;
         }
     }
     Ok(())
@@ -53,16 +52,16 @@ fn term_countings(
     docs: &DocSet,
     column: &TextColumn,
     span: (u32, u32),
-) -> Result<Vec<Counting>, WantMemory>
+) -> Result<Countings, WantMemory>
     requires length { length docs.now ≡ length column.now }
     requires within { span.1 ≤ length (terms_of column.now) }
     ensures gathered { IfOk result (λ countings.
-        AreGathered (terms_at column.now span.0 span.1) (positions docs.now) countings.items) }
-    ensures there { IfOk result (λ countings. All (λ c. c.at < length column.now) countings.items) }
+        AreGathered (terms_at column.now span.0 span.1) (positions docs.now) countings) }
+    ensures there { IfOk result (λ countings. All (λ c. c.at < length column.now) countings) }
     ensures numbers { IfOk result (λ countings.
-        All (λ c. IsTermNumber column.now span.0 span.1 c.number) countings.items) }
+        All (λ c. IsTermNumber column.now span.0 span.1 c.number) countings) }
 {
-    let mut countings = Vec::new(alloc);
+    let mut countings = Countings::new(alloc);
     for at in docs.iter() {
         push_ordinals(column.ordinals_of(at), span, at, &mut countings)?;
     }

@@ -1,6 +1,5 @@
 use Rattle.std.proofs.Common.{◌≡◌, ◌<◌, length, All}
-use Rattle.fc_spec.specs.documents.Totals.{document_total}
-use Rattle.fc_count.specs.Runs.{Rise}
+use Rattle.fc_count.specs.Rows.{Rise}
 use Rattle.fc_count.proofs.RunParts.{IsAdded}
 use Rattle.fc_count.proofs.runs.add_runs.Given as goal
 
@@ -8,8 +7,8 @@ use Rattle.fc_count.proofs.runs.add_runs.Given as goal
 abbrev pub invariant-loop-first : goal.invariant-loop-first
 invariant-loop-first g l = record {
   rising : Rise l.rest;
-  there : All (λ c. c.at < document_total l.segment.blocks) l.rest;
-  added : IsAdded l.segment.blocks (g.K.Keys.key l.keys) l.initial.rest l.rest l.fn.into l.into;
+  there : All (λ e. e.row < length l.positions.items) l.rest;
+  added : IsAdded l.segment.blocks l.positions.items (g.K.Keys.key l.keys) l.initial.rest l.rest l.fn.into l.into;
   one : l.one.count ≡ 1;
 }
 

@@ -20,7 +20,7 @@ add_runs-requires-clause-fit c =
     let blocks = c.args.segment.now.blocks in
     let set = c.args.docs.now in
     let column = c.args.column.now in
-    let cs = c.in_ok-countings.countings.items in
+    let cs = c.in_ok-countings.countings in
     runs_fit (definition.terms t) blocks set cs (is_value_key t) (λ n. Unit {0}) long_key (λ k d inside. tt) (λ n has. long_is_key t blocks column c.requires.column c.requires.prefix n) (value_keys t)
     (λ n has. gathered_places (definition.terms t) (long_key n) n (longs_at column) blocks set cs c.requires.length (long_bucket t blocks column c.requires.column c.requires.prefix n) c.in_ok-countings.ensures.gathered) c.requires.limits
 
@@ -30,7 +30,7 @@ add_runs-requires-clause-add_up c =
     let blocks = c.args.segment.now.blocks in
     let set = c.args.docs.now in
     let column = c.args.column.now in
-    let cs = c.in_ok-countings.countings.items in
+    let cs = c.in_ok-countings.countings in
     runs_add_up (definition.terms t) blocks set cs (is_value_key t) (λ n. Unit {0}) long_key (λ k d inside. tt) (λ n has. long_is_key t blocks column c.requires.column c.requires.prefix n) (value_keys t)
     (λ n has. gathered_places (definition.terms t) (long_key n) n (longs_at column) blocks set cs c.requires.length (long_bucket t blocks column c.requires.column c.requires.prefix n) c.in_ok-countings.ensures.gathered)
     c.args.into.now.stats c.args.into.now.entries c.requires.add_up
@@ -41,7 +41,7 @@ returns c =
     let blocks = c.args.segment.now.blocks in
     let set = c.args.docs.now in
     let column = c.args.column.now in
-    let cs = c.in_ok-countings.countings.items in
+    let cs = c.in_ok-countings.countings in
     runs_collected (definition.terms t) blocks set cs (is_value_key t) (λ n. Unit {0}) long_key (λ k d inside. tt) (λ n has. long_is_key t blocks column c.requires.column c.requires.prefix n) (value_keys t)
     (λ n has. gathered_places (definition.terms t) (long_key n) n (longs_at column) blocks set cs c.requires.length (long_bucket t blocks column c.requires.column c.requires.prefix n) c.in_ok-countings.ensures.gathered)
     c.args.into.now.stats c.args.into.now c.add_runs.new.into c.in_ok-add_runs.ensures (long_found t blocks column c.requires.column c.requires.prefix set c.requires.length)

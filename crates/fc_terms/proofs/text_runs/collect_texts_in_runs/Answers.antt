@@ -23,7 +23,7 @@ add_runs-requires-clause-fit c =
     let column = c.args.column.now in
     let from = c.args.span.0 in
     let to = c.args.span.1 in
-    let cs = c.in_ok-countings.countings.items in
+    let cs = c.in_ok-countings.countings in
     runs_fit (definition.terms t) blocks set cs (is_value_key t) (IsTermNumber column from to) (term_key column from) c.in_ok-countings.ensures.numbers (number_is_key t blocks column c.requires.column from to c.requires.span) (value_keys t)
     (λ n has. gathered_places (definition.terms t) (term_key column from n) n (terms_at column from to) blocks set cs c.requires.length (number_bucket t blocks column c.requires.column from to c.requires.span n has) c.in_ok-countings.ensures.gathered) c.requires.limits
 
@@ -35,7 +35,7 @@ add_runs-requires-clause-add_up c =
     let column = c.args.column.now in
     let from = c.args.span.0 in
     let to = c.args.span.1 in
-    let cs = c.in_ok-countings.countings.items in
+    let cs = c.in_ok-countings.countings in
     runs_add_up (definition.terms t) blocks set cs (is_value_key t) (IsTermNumber column from to) (term_key column from) c.in_ok-countings.ensures.numbers (number_is_key t blocks column c.requires.column from to c.requires.span) (value_keys t)
     (λ n has. gathered_places (definition.terms t) (term_key column from n) n (terms_at column from to) blocks set cs c.requires.length (number_bucket t blocks column c.requires.column from to c.requires.span n has) c.in_ok-countings.ensures.gathered)
     c.args.into.now.stats c.args.into.now.entries c.requires.add_up
@@ -48,7 +48,7 @@ returns c =
     let column = c.args.column.now in
     let from = c.args.span.0 in
     let to = c.args.span.1 in
-    let cs = c.in_ok-countings.countings.items in
+    let cs = c.in_ok-countings.countings in
     runs_collected (definition.terms t) blocks set cs (is_value_key t) (IsTermNumber column from to) (term_key column from) c.in_ok-countings.ensures.numbers (number_is_key t blocks column c.requires.column from to c.requires.span) (value_keys t)
     (λ n has. gathered_places (definition.terms t) (term_key column from n) n (terms_at column from to) blocks set cs c.requires.length (number_bucket t blocks column c.requires.column from to c.requires.span n has) c.in_ok-countings.ensures.gathered)
     c.args.into.now.stats c.args.into.now c.add_runs.new.into c.in_ok-add_runs.ensures (number_found t blocks column c.requires.column from to c.requires.span set c.requires.length)

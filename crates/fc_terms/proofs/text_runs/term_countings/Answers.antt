@@ -1,7 +1,7 @@
 use Rattle.std.proofs.Common.{◌≡◌, ◌∙◌, ◌++◌, [], ◌∷◌, ◌<◌, All, length, get_or, sym, ap, subst, arith, append_assoc}
 use Rattle.std.specs.List.Sorted.{IsStrictlyIncreasing}
 use Rattle.fc_column.specs.Terms.{ordinals_in}
-use Rattle.fc_count.specs.declared.runs.Counting.{Counting}
+use Rattle.fc_count.specs.Counting.{Counting}
 use Rattle.fc_terms.specs.Gathered.{AreGathered, countings_at, ordinals_above, terms_at}
 use Rattle.fc_terms.specs.TermSpan.{IsTermNumber}
 use Rattle.fc_terms.proofs.GatheredPlaces.{gathered_more, next_within, numbers_more, there_more}
@@ -20,11 +20,11 @@ loop-at-preserved c =
     let column = c.args.column.now in
     let from = c.args.span.0 in
     let to = c.args.span.1 in
-    let before = c.loop-at.countings.items in
+    let before = c.loop-at.countings in
     let row = terms_at column from to at in
     let split = rw c.in-Some.ensures.steps at c.loop-at.invariant.left in
     let here = next_within c.args.docs.now c.loop-at.yielded at c.next.new.self split in
-    let pushed : c.push_ordinals.new.into.items ≡ before ++ countings_at at row = c.in_ok-push_ordinals.ensures ∙ ap (λ l. before ++ countings_at at (ordinals_above from to l)) c.ordinals_of.ensures.ordinals in
+    let pushed : c.push_ordinals.new.into ≡ before ++ countings_at at row = c.in_ok-push_ordinals.ensures ∙ ap (λ l. before ++ countings_at at (ordinals_above from to l)) c.ordinals_of.ensures.ordinals in
     let up = subst IsStrictlyIncreasing c.ordinals_of.ensures.ordinals c.ordinals_of.ensures.ascending in
     let ords = ordinals_in column (get_or column at []) in
     record {
