@@ -80,8 +80,8 @@ fn select_from_to(column: &LongColumn, least: i64, greatest: i64, docs: &DocSet,
     }
 }
 
-/// Makes the set those of the documents in the other set that are in the bucket. It costs as many steps as
-/// there are documents in the set, or integers of the segment in the bucket, whichever are fewer.
+/// Makes the set those of the documents in the other set that are in the bucket. Where the documents are fewer than the
+/// integers of the segment in the bucket, it reads the integers of these documents; else the positions of those integers.
 pub fn select_bucket(segment: &Segment, docs: &DocSet, range: &Range, key: &Key, into: &mut DocSet)
     requires fits { FitsColumns segment.now.texts (kind.range (range_view range.now)) }
     requires length { length docs.now ≡ document_total segment.now.blocks }
