@@ -1,6 +1,6 @@
 -- The places of positions that were gathered.
-use Rattle.std.proofs.Common.{◌≡◌, ◌<◌, ℕ, ℤ, zero, suc, Bool, true, false, cond, ◌||◌, List, [], ◌∷◌, ◌++◌, length, map, get_or, refl, sym, ap, ap₂, subst, ◌∙◌, arith, add-zero, length-append}
-use Rattle.std.specs.List.{All, AllPairs, filter, items_where_true, list_any, range_with_len}
+use Rattle.std.proofs.Common.{◌≡◌, ◌<◌, ℕ, ℤ, suc, Bool, true, false, cond, ◌||◌, List, [], ◌∷◌, ◌++◌, length, map, get_or, refl, sym, ap, ap₂, subst, ◌∙◌, arith, add-zero, length-append}
+use Rattle.std.specs.List.{All, AllPairs, items_where_true, list_any, range_with_len}
 use Rattle.std.specs.Ordering.{int_eq}
 use Rattle.std.proofs.lemmas.Bool.{false≢true}
 use Rattle.std.proofs.lemmas.Bool.Decides.{Decides-int_eq}
@@ -10,7 +10,6 @@ use Rattle.std.proofs.lemmas.List.Elements.{All-append, All-cons, All-head, All-
 use Rattle.fc_spec.specs.documents.Document.{Block}
 use Rattle.fc_spec.specs.documents.Sets.{places_on}
 use Rattle.fc_spec.specs.documents.Totals.{document_total}
-use Rattle.fc_spec.specs.documents.World.{Place}
 use Rattle.fc_spec.specs.requests.Buckets.{Key, bucket_places, in_bucket}
 use Rattle.fc_spec.specs.requests.Request.{Kind}
 use Rattle.fc_docset.specs.Positions.{positions}

@@ -1,5 +1,5 @@
 -- The integers between two ends are the buckets of a terms facet in a field of integers that lie there.
-use Rattle.std.proofs.Common.{◌≡◌, ◌<◌, ◌≢◌, ◌⊎◌, inl, inr, ℕ, ℤ, pos, ◌+ℤ◌, ◌-ℤ◌, ◌≤ℤ◌, nat_abs, Bool, true, false, ◌&&◌, ◌+◌, List, [], ◌∷◌, map, length, get_or, All, None, refl, sym, ap, ◌∙◌, arith}
+use Rattle.std.proofs.Common.{◌≡◌, ◌<◌, inl, inr, ℕ, ℤ, pos, ◌+ℤ◌, ◌-ℤ◌, ◌≤ℤ◌, nat_abs, Bool, true, false, ◌&&◌, ◌+◌, List, [], ◌∷◌, map, length, get_or, All, None, refl, sym, ap, ◌∙◌, arith}
 use Rattle.std.proofs.lemmas.Bool.{false≢true}
 use Rattle.std.proofs.lemmas.Int.{ints}
 use Rattle.std.proofs.lemmas.List.{length-map}
@@ -13,7 +13,6 @@ use Rattle.fc_spec.specs.requests.Request.{Terms, terms}
 use Rattle.fc_column.specs.Longs.{is_between}
 use Rattle.fc_kind.specs.PlaceAt.{place_at}
 use Rattle.fc_kind.proofs.PlaceColumns.{row_at}
-use Rattle.fc_count.specs.Added.{AreApart}
 use Rattle.fc_count.proofs.CountedBuckets.{IsCountedOrNone}
 use Rattle.fc_terms.specs.LongSpan.{has_integer, integer_key}
 use Rattle.fc_terms.specs.Values.{is_value_key}

@@ -1,5 +1,5 @@
 -- The integers of a field are the buckets of a terms facet there.
-use Rattle.std.proofs.Common.{◌≡◌, ◌<◌, ℕ, ℤ, Bool, true, false, ◌&&◌, ◌||◌, List, [], ◌∷◌, map, length, None, get_or, refl, sym, ap, ap₂, ◌∙◌, arith}
+use Rattle.std.proofs.Common.{◌≡◌, ◌<◌, ℕ, ℤ, Bool, true, false, ◌&&◌, ◌||◌, List, [], ◌∷◌, map, length, None, get_or, refl, sym, ap, ◌∙◌}
 use Rattle.std.specs.List.{AllPairs, list_any}
 use Rattle.std.specs.Ordering.{int_cmp, int_eq, is_eq}
 use Rattle.std.proofs.lemmas.Bool.{false≢true}
@@ -9,7 +9,6 @@ use Rattle.fc_spec.specs.documents.Document.{Block, values_of}
 use Rattle.fc_spec.specs.documents.Sets.{places_on}
 use Rattle.fc_spec.specs.documents.Totals.{documents_in, document_total}
 use Rattle.fc_spec.specs.documents.Val.{Text, text, long, has_val}
-use Rattle.fc_spec.specs.messages.KeyOrder.{same_key}
 use Rattle.fc_spec.specs.requests.Buckets.{Key, value, missing, gap, before, between, after, whole, bucket_places, has_prefix, in_bucket, is_key_of}
 use Rattle.fc_spec.specs.requests.Request.{Terms, terms}
 use Rattle.fc_spec.specs.words.Lists.{is_empty}

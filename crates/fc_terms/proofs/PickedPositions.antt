@@ -1,8 +1,6 @@
 -- Sets of the positions that another set and a list have.
-use Rattle.std.proofs.Common.{◌≡◌, ℕ, zero, suc, ◌+◌, ◌<◌, ◌⊎◌, inl, inr, Bool, true, false, ◌&&◌, ◌||◌, ◌==◌, not, List, [], ◌∷◌, length, get_or, map, take, set, replicate, refl, sym, ap, ap₂, ◌∙◌, arith, eq-eqb, ne_eqb}
-use Rattle.std.proofs.lemmas.Bool.{cases_eq}
-use Rattle.std.proofs.lemmas.List.{get_or-set_same, get_or-set_other, get_or_default, length-map, length-set, same_lists}
-use Rattle.std.proofs.lemmas.List.Folds.{list_any_more}
+use Rattle.std.proofs.Common.{◌≡◌, ℕ, zero, suc, Bool, true, false, ◌&&◌, not, List, [], ◌∷◌, length, get_or, map, replicate, refl, sym, ap, ap₂, ◌∙◌, arith}
+use Rattle.std.proofs.lemmas.List.{get_or_default, length-map, same_lists}
 use Rattle.fc_column.specs.Among.{is_among}
 use Rattle.fc_docset.proofs.BitLists.{get_or-zip_with}
 use Rattle.fc_spec.specs.documents.Sets.{zip_with}

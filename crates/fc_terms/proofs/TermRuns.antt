@@ -1,11 +1,11 @@
 -- The terms of a span that positions have, by number.
-use Rattle.std.proofs.Common.{◌≡◌, ◌≤◌, ◌<◌, ◌+◌, ◌-◌, ◌≤ℤ◌, inl, inr, ℕ, ℤ, pos, negsuc, Bool, true, false, cond, ◌&&◌, ◌||◌, ◌==◌, nat_le, nat_lt, List, [], ◌∷◌, map, length, get_or, refl, sym, ap, ap₂, subst, ◌∙◌, arith}
+use Rattle.std.proofs.Common.{◌≡◌, ◌≤◌, ◌<◌, ◌+◌, ◌-◌, ◌≤ℤ◌, inl, inr, ℕ, ℤ, pos, negsuc, Bool, true, false, cond, ◌&&◌, ◌||◌, ◌==◌, nat_le, nat_lt, List, [], ◌∷◌, map, length, get_or, refl, sym, ap, ap₂, ◌∙◌, arith}
 use Rattle.std.specs.Prelude.{nat_abs}
 use Rattle.std.specs.List.{All, AllPairs, filter, list_any}
 use Rattle.std.specs.List.Sorted.{IsStrictlyIncreasing}
 use Rattle.std.specs.Ordering.{int_eq}
-use Rattle.std.proofs.lemmas.Bool.{eqb-true, false≢true, false_from_ne_true}
-use Rattle.std.proofs.lemmas.Bool.Decides.{Decides-int_eq, nat_tests}
+use Rattle.std.proofs.lemmas.Bool.{eqb-true, false≢true}
+use Rattle.std.proofs.lemmas.Bool.Decides.{nat_tests}
 use Rattle.std.proofs.lemmas.Int.{ints}
 use Rattle.std.proofs.lemmas.List.{get_or-map, length-map}
 use Rattle.std.proofs.lemmas.List.Elements.{All-map, All-weaker, filter_passes}
@@ -26,7 +26,7 @@ use Rattle.fc_count.specs.Runs.{NumbersApart}
 use Rattle.fc_count.proofs.CountedBuckets.{IsCountedOrNone, none_in_bucket}
 use Rattle.fc_terms.specs.Gathered.{ordinals_above, terms_at}
 use Rattle.fc_terms.specs.Spans.{IsPrefixSpan}
-use Rattle.fc_terms.specs.TermSpan.{IsTermNumber, has_term, term_key}
+use Rattle.fc_terms.specs.TermSpan.{IsTermNumber, term_key}
 use Rattle.fc_terms.specs.Values.{is_value_key}
 use Rattle.fc_terms.proofs.TermBuckets.{found, term_bucket, term_inside, term_is_key, terms_apart}
 

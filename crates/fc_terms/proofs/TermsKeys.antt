@@ -1,5 +1,5 @@
 -- The keys of a terms facet: values, and missing.
-use Rattle.std.proofs.Common.{◌≡◌, Bool, true, false, ◌&&◌, ◌||◌, List, map, refl, sym, ap, ap₂, subst, ◌∙◌}
+use Rattle.std.proofs.Common.{◌≡◌, Bool, true, false, ◌&&◌, ◌||◌, List, refl, sym, ap, subst, ◌∙◌}
 use Rattle.std.proofs.lemmas.Bool.{false≢true}
 use Rattle.std.proofs.lemmas.Simd.{map-map}
 use Rattle.std.specs.Option.{ForSome}
@@ -12,11 +12,10 @@ use Rattle.fc_spec.specs.documents.World.{Place}
 use Rattle.fc_spec.specs.messages.KeyOrder.{same_key}
 use Rattle.fc_spec.specs.requests.Buckets.{Key, value, missing, gap, before, between, after, whole, bucket_places, in_terms, is_terms_key}
 use Rattle.fc_spec.specs.requests.DomainSets.{bucket_set}
-use Rattle.fc_spec.specs.requests.Request.{Kind, Stat, Terms, terms}
+use Rattle.fc_spec.specs.requests.Request.{Stat, Terms, terms}
 use Rattle.fc_spec.specs.requests.Statistics.{stats_over}
 use Rattle.fc_partial.specs.Adding.{AddUp}
 use Rattle.fc_partial.specs.Tallied.{Tallied}
-use Rattle.fc_partial.specs.Tallying.{entry_at}
 use Rattle.fc_kind.specs.Collecting.{BucketsAddUp, Collects, CollectsAmong}
 use Rattle.fc_kind.proofs.CollectedParts.{among_same, both_parts}
 use Rattle.fc_terms.specs.AddingUp.{AddUpAmong}

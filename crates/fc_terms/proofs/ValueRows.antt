@@ -1,5 +1,5 @@
 -- Rows of texts and of integers against rows of values.
-use Rattle.std.proofs.Common.{◌≡◌, ℤ, false, ◌||◌, List, [], ◌∷◌, length, map, replicate, refl, sym, ap, ap₂}
+use Rattle.std.proofs.Common.{◌≡◌, ℤ, false, List, [], ◌∷◌, length, map, replicate, refl, sym, ap₂}
 use Rattle.fc_spec.specs.documents.Val.{Text, text, long, has_val}
 use Rattle.fc_column.specs.Terms.{has_text}
 use Rattle.fc_column.proofs.TermLists.{has_val-texts}

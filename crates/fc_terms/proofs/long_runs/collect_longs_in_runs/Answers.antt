@@ -1,9 +1,3 @@
-use Rattle.std.proofs.Common.{◌≡◌, ◌∙◌, ◌<◌, ℤ, All, length, map, sym, ap, subst, arith}
-use Rattle.std.proofs.lemmas.List.{length-map}
-use Rattle.fc_spec.specs.documents.Document.{values_of}
-use Rattle.fc_spec.specs.documents.Sets.{places_on}
-use Rattle.fc_spec.specs.documents.Totals.{documents_in, document_total}
-use Rattle.fc_spec.specs.documents.Val.{long}
 use Rattle.fc_spec.specs.requests.Request as definition
 use Rattle.fc_facet.specs.KindView.{terms_view}
 use Rattle.fc_partial.specs.TallyParts.{long_key}

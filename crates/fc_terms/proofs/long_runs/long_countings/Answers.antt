@@ -1,5 +1,4 @@
 use Rattle.std.proofs.Common.{◌≡◌, ◌∙◌, ◌++◌, ◌∷◌, ◌<◌, All, length, sym, ap, subst, arith, append_assoc, []}
-use Rattle.fc_docset.specs.Positions.{positions}
 use Rattle.fc_count.specs.Counting.{Counting}
 use Rattle.fc_terms.specs.Gathered.{AreGathered, countings_at, longs_at}
 use Rattle.fc_terms.proofs.GatheredPlaces.{gathered_more, next_within, there_more}

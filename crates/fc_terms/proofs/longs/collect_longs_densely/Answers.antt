@@ -1,4 +1,4 @@
-use Rattle.std.proofs.Common.{◌≡◌, ◌+◌, ◌∙◌, ◌-ℤ◌, ◌≤ℤ◌, All, true, nat_abs, map, refl, sym, ap, subst, to_z, of_z, w64, rules}
+use Rattle.std.proofs.Common.{◌≡◌, ◌+◌, ◌≤ℤ◌, All, true, map, refl, sym, ap, subst, to_z, of_z, w64, rules}
 use Rattle.fc_base.specs.StatisticView.{stat_view}
 use Rattle.fc_spec.specs.documents.Sets.{places_on}
 use Rattle.fc_spec.specs.requests.Request as definition

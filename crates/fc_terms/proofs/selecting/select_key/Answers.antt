@@ -1,4 +1,4 @@
-use Rattle.std.proofs.Common.{◌≡◌, ◌∙◌, ◌&&◌, length, map, sym, ap}
+use Rattle.std.proofs.Common.{◌∙◌, ◌&&◌, length, map, sym, ap}
 use Rattle.std.proofs.lemmas.List.{length-map}
 use Rattle.fc_base.specs.View.{val_view}
 use Rattle.fc_segment.specs.Columns.{column_values}

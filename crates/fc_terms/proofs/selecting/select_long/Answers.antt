@@ -1,4 +1,4 @@
-use Rattle.std.proofs.Common.{◌≡◌, ◌∙◌, ℤ, [], ◌&&◌, false, int_le, length, map, get_or, w64, to_z, of_z, refl, sym, ap, rules}
+use Rattle.std.proofs.Common.{◌≡◌, ◌∙◌, ℤ, [], false, map, get_or, w64, to_z, of_z, sym, ap, rules}
 use Rattle.std.proofs.lemmas.List.{length-map}
 use Rattle.fc_column.specs.Longs.{is_between, has_between}
 use Rattle.fc_column.proofs.InOrder.{among_if_any, any_at}

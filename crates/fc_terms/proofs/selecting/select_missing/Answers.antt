@@ -2,7 +2,7 @@ use Rattle.std.proofs.Common.{◌≡◌, ◌∙◌, List, ◌&&◌, map, not, le
 use Rattle.std.proofs.lemmas.List.{length-map, with_items_is}
 use Rattle.fc_docset.proofs.BitLists.{first_bits_is, length-first_bits}
 use Rattle.fc_segment.specs.Columns.{column_values}
-use Rattle.fc_spec.specs.documents.Bits.{first_bits, has_bit}
+use Rattle.fc_spec.specs.documents.Bits.{has_bit}
 use Rattle.fc_spec.specs.documents.Sets.{zip_with}
 use Rattle.fc_spec.specs.documents.Val.{Val}
 use Rattle.fc_spec.specs.words.Lists.{is_empty}

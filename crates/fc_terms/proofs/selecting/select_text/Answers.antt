@@ -1,4 +1,4 @@
-use Rattle.std.proofs.Common.{◌≡◌, ◌∙◌, ℕ, [], false, length, map, get_or, replicate, sym, ap, zero-add}
+use Rattle.std.proofs.Common.{◌≡◌, ◌∙◌, [], false, map, get_or, replicate, sym, ap, zero-add}
 use Rattle.std.proofs.lemmas.List.{length-map}
 use Rattle.std.specs.Option.{is_some}
 use Rattle.fc_column.specs.Among.{is_among}

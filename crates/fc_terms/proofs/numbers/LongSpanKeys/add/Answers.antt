@@ -1,4 +1,4 @@
-use Rattle.std.proofs.Common.{◌≡◌, ◌+ℤ◌, FitsSigned, ap, subst, to_z, of_z, w64, arith}
+use Rattle.std.proofs.Common.{◌≡◌, ◌+ℤ◌, ap, subst, to_z, of_z, w64, arith}
 use Rattle.std.proofs.lemmas.Int.{ints}
 use Rattle.std.specs.Option.{ForSome}
 use Rattle.fc_spec.specs.requests.Buckets.{Key}
@@ -6,7 +6,6 @@ use Rattle.fc_partial.specs.Adding.{AddUp}
 use Rattle.fc_partial.specs.StatsView.{stats_view}
 use Rattle.fc_partial.specs.TallyParts.{long_key}
 use Rattle.fc_partial.specs.Tallying.{entry_at}
-use Rattle.fc_terms.specs.LongSpan.{integer_key}
 use Rattle.fc_terms.proofs.numbers.LongSpanKeys.add.Goals as goal
 
 pub add_long-requires-clause-fits : goal.add_long-requires-clause-fits
