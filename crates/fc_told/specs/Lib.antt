@@ -1,0 +1,5 @@
+pub mod Trees
+pub mod Adding
+pub mod Fitting
+pub mod Telling
+pub mod TreeView
