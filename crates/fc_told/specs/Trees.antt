@@ -50,6 +50,11 @@ branches_at n no_forks = no_branches
 branches_at zero (fork bs fs) = bs
 branches_at (suc n) (fork bs fs) = branches_at n fs
 
+-- the keys of branches, in their order
+abbrev pub keys_in : Branches → List Key
+keys_in no_branches = []
+keys_in (branch k T bs) = k ∷ keys_in bs
+
 -- the bucket of a key
 abbrev pub find_branch : Key → Branches → Tree
 find_branch k no_branches = nothing

@@ -1,7 +1,9 @@
 //! What shards told, bucket by bucket: one tree for all shards, with the sums that say whether more can be told.
 #![tactic(auto)]
 
+mod law;
 mod teller;
 mod tree;
 
+pub use law::trees_tell;
 pub use tree::ToldBucket;
