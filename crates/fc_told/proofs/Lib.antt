@@ -3,3 +3,5 @@ pub mod Forks
 pub mod Tellers
 pub mod Rising
 pub mod Putting
+pub mod Listing
+pub mod Changing
