@@ -30,6 +30,10 @@ behind_earlier k l (j ∷ js) h b = (key_cmp_total.trans k l j h b.0, behind_ear
 abbrev pub Ascend : Branches → Type 0
 Ascend bs = IsStrictlySortedBy key_cmp (keys_in bs)
 
+pub none_ascend : Ascend no_branches
+unfolding IsStrictlySortedBy
+none_ascend = tt
+
 find_none : (k : Key) (bs : Branches) → AllBehind k (keys_in bs) → find_branch k bs ≡ nothing
 find_none k no_branches b = refl
 find_none k (branch l T bs) b = ap (λ o. cond (is_eq o) T (find_branch k bs)) b.0 ∙ find_none k bs b.1

@@ -5,3 +5,7 @@ pub mod Rising
 pub mod Putting
 pub mod Listing
 pub mod Changing
+pub mod Capped
+pub mod HeldMore
+pub mod Growing
+pub mod TellingMore

@@ -2,6 +2,7 @@
 use Rattle.std.proofs.Common.{◌≡◌, ℕ, List, [], ◌∷◌, Bool, true, false, cond, ◌&&◌, Option, None, Some, refl, sym, ◌∙◌, ap, subst}
 use Rattle.std.specs.List.{AllByRecursion}
 use Rattle.std.specs.List.Sorted.{IsStrictlySortedBy}
+use Rattle.std.specs.Option.{option_and_then}
 use Rattle.std.specs.Ordering.{is_eq}
 use Rattle.std.specs.declared.cmp.Ordering.TheVariants.{Less}
 use Rattle.std.proofs.lemmas.Bool.{and_parts}
@@ -9,10 +10,10 @@ use Rattle.fc_spec.specs.requests.Buckets.{Key, is_key_of}
 use Rattle.fc_spec.specs.requests.Request.{Stat, Kind, Terms, Facet, Nodes, stats_of}
 use Rattle.fc_spec.specs.requests.Statistics.{Stats}
 use Rattle.fc_spec.specs.messages.KeyOrder.{key_cmp, same_key}
-use Rattle.fc_spec.specs.messages.Message.{Partials, no_partials, partial, Rows}
+use Rattle.fc_spec.specs.messages.Message.{Partials, no_partials, partial, Rows, Way}
 use Rattle.fc_spec.specs.messages.MessageShape.{values_fit, count_fits, key_ascends, bucket_fits, buckets_fit, rows_fit, insides_fit}
 use Rattle.fc_spec.specs.messages.Target.{facet_at, nodes_in}
-use Rattle.fc_spec.specs.messages.Held.{HeldBucket, row_at, find_key, bucket_in}
+use Rattle.fc_spec.specs.messages.Held.{HeldBucket, Told, row_at, find_key, bucket_in, descend, behind, held_in}
 use Rattle.fc_spec.proofs.words.Orderings.{Less-from_is_lt}
 use Rattle.fc_spec.proofs.messages.FittingBuckets.{RowFits, row_fits_at}
 use Rattle.fc_spec.proofs.messages.Ways.{some_exact, none_not_some}
@@ -92,3 +93,19 @@ module _ (most : Terms → Option ℕ) where
       go : (o : Option (Facet × Nodes)) (ps : Partials) → RowFits most o ps → find_key (nodes_in o) k ps ≡ Some c → HasFittingRows c
       go None ps none f = absurd (none_not_some c (ap (find_key (nodes_in None) k) (sym none) ∙ f))
       go (Some g) ps fit f = found_fits g.1 k ps c fit.1 f
+
+  descend_fits : (way : Way) (b c : HeldBucket) → HasFittingRows b → descend way b ≡ Some c → HasFittingRows c
+  descend_fits [] b c h e = subst HasFittingRows (some_exact b c e) h
+  descend_fits (s ∷ way) b c h e = go (bucket_in s.node s.key b) refl e (λ d. descend_fits way d c)
+    where
+      go : (o : Option HeldBucket) → bucket_in s.node s.key b ≡ o → option_and_then (descend way) o ≡ Some c → ((d : HeldBucket) → HasFittingRows d → descend way d ≡ Some c → HasFittingRows c) → HasFittingRows c
+      go None at f ih = absurd (none_not_some c f)
+      go (Some d) at f ih = ih d (nested_fits s.node s.key b d h at) f
+
+  -- what a told bucket holds fits
+  pub held_in_fits : (t : Told) (way : Way) (c : HeldBucket) → HasFittingRows t.bucket → held_in t way ≡ Some c → HasFittingRows c
+  held_in_fits t way c h e = go (behind t.way way) e
+    where
+      go : (o : Option Way) → option_and_then (λ rest. descend rest t.bucket) o ≡ Some c → HasFittingRows c
+      go None f = absurd (none_not_some c f)
+      go (Some rest) f = descend_fits rest t.bucket c h f
