@@ -1,5 +1,5 @@
 -- Sums that stay below the end of 64 bits.
-use Rattle.std.proofs.Common.{◌≡◌, ℕ, zero, suc, ◌+◌, ◌<◌, ◌^◌, pos, List, [], ◌∷◌, refl, sym, ◌∙◌, ap, arith}
+use Rattle.std.proofs.Common.{◌≡◌, ℕ, zero, suc, ◌+◌, ◌<◌, ◌^◌, pos, List, [], ◌∷◌, arith}
 use Rattle.std.specs.Prelude.{slice_index_or}
 use Rattle.fc_spec.specs.requests.Statistics.{StatValue, number}
 use Rattle.fc_spec.specs.laws.SumsLaw.{size_of}

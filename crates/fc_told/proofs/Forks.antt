@@ -1,7 +1,7 @@
 -- What was told of a node, as the branches of a node are changed and rows are added.
 use Rattle.std.proofs.Common.{◌≡◌, ℕ, zero, suc, ◌+◌, ◌<◌, refl, sym, ◌∙◌, ap, arith}
 use Rattle.fc_spec.specs.requests.Request.{Nodes, no_nodes, statistic, facet}
-use Rattle.fc_spec.specs.messages.Message.{Partials, no_partials, Rows, no_rows, row}
+use Rattle.fc_spec.specs.messages.Message.{no_partials, Rows, no_rows, row}
 use Rattle.fc_spec.specs.messages.Target.{facet_at, nodes_in}
 use Rattle.fc_spec.specs.messages.Held.{row_at}
 use Rattle.fc_told.specs.Trees.{Forks, no_forks, fork, Branches, branches_at}

@@ -8,7 +8,7 @@ use Rattle.fc_spec.specs.messages.Message.{Way}
 use Rattle.fc_spec.specs.messages.Held.{HeldBucket, Told, behind, descend, held_in, held}
 use Rattle.fc_spec.specs.laws.LacksLaws.{TellApart}
 use Rattle.fc_spec.proofs.words.Members.{Member}
-use Rattle.fc_told.specs.Trees.{Teller, Tree, tellers_in, forks_in, branches_at, teller_of, at, was_listed, is_listed_by, stats_told}
+use Rattle.fc_told.specs.Trees.{Teller, Tree, tellers_in, forks_in, branches_at, teller_of, at, was_listed, is_listed_by}
 use Rattle.fc_told.specs.Adding.{told_added}
 use Rattle.fc_told.specs.Telling.{Tells}
 use Rattle.fc_told.proofs.Branches.{Ascend}

@@ -32,6 +32,11 @@ differ_across D (z ∷ zs) y ys d x m = go m (differ_across D zs y ys d.1 x)
     go (inl e) ih = subst (λ w. D w y) (sym e) (d.0 y (among zs))
     go (inr n) ih = ih n
 
+-- the later ones have it among themselves
+pub differ_later : {X : Type 0} (D : X → X → Type 0) (xs ys : List X) → Differ D (xs ++ ys) → Differ D ys
+differ_later D [] ys d = d
+differ_later D (x ∷ xs) ys d = differ_later D xs ys d.1
+
 no_more : (a : Option HeldBucket) → or_else a None ≡ a
 no_more None = refl
 no_more (Some b) = refl

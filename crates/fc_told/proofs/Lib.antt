@@ -4,8 +4,14 @@ pub mod Tellers
 pub mod Rising
 pub mod Putting
 pub mod Listing
+pub mod ListingMore
 pub mod Changing
 pub mod Capped
 pub mod HeldMore
 pub mod Growing
+pub mod TellingOne
 pub mod TellingMore
+pub mod Numbers
+pub mod Testing
+pub mod SumsExact
+pub mod TellerSums

@@ -1,5 +1,5 @@
 -- A told bucket put into a tree: at each way stands what is nested there, put into what stood there.
-use Rattle.std.proofs.Common.{◌≡◌, ℕ, List, [], ◌∷◌, Bool, true, false, cond, Option, None, Some, refl, sym, ◌∙◌, ap}
+use Rattle.std.proofs.Common.{◌≡◌, ℕ, [], ◌∷◌, Bool, true, false, cond, Option, None, Some, refl, sym, ◌∙◌, ap}
 use Rattle.std.specs.Option.{option_and_then}
 use Rattle.fc_spec.specs.requests.Buckets.{Key}
 use Rattle.fc_spec.specs.requests.Request.{Terms, Nodes}

@@ -1,17 +1,15 @@
 -- The keys of a row that fits ascend, and what is nested in its buckets fits too.
 use Rattle.std.proofs.Common.{◌≡◌, ℕ, List, [], ◌∷◌, Bool, true, false, cond, ◌&&◌, Option, None, Some, refl, sym, ◌∙◌, ap, subst}
-use Rattle.std.specs.List.{AllByRecursion}
 use Rattle.std.specs.List.Sorted.{IsStrictlySortedBy}
 use Rattle.std.specs.Option.{option_and_then}
 use Rattle.std.specs.Ordering.{is_eq}
-use Rattle.std.specs.declared.cmp.Ordering.TheVariants.{Less}
 use Rattle.std.proofs.lemmas.Bool.{and_parts}
 use Rattle.fc_spec.specs.requests.Buckets.{Key, is_key_of}
-use Rattle.fc_spec.specs.requests.Request.{Stat, Kind, Terms, Facet, Nodes, stats_of}
+use Rattle.fc_spec.specs.requests.Request.{Stat, Kind, Terms, Facet, Nodes, facet, stats_of}
 use Rattle.fc_spec.specs.requests.Statistics.{Stats}
 use Rattle.fc_spec.specs.messages.KeyOrder.{key_cmp, same_key}
-use Rattle.fc_spec.specs.messages.Message.{Partials, no_partials, partial, Rows, Way}
-use Rattle.fc_spec.specs.messages.MessageShape.{values_fit, count_fits, key_ascends, bucket_fits, buckets_fit, rows_fit, insides_fit}
+use Rattle.fc_spec.specs.messages.Message.{Partials, no_partials, partial, Rows, row, Way}
+use Rattle.fc_spec.specs.messages.MessageShape.{values_fit, count_fits, key_ascends, bucket_fits, buckets_fit, is_complete, rows_fit, insides_fit}
 use Rattle.fc_spec.specs.messages.Target.{facet_at, nodes_in}
 use Rattle.fc_spec.specs.messages.Held.{HeldBucket, Told, row_at, find_key, bucket_in, descend, behind, held_in}
 use Rattle.fc_spec.proofs.words.Orderings.{Less-from_is_lt}
@@ -64,6 +62,14 @@ module _ (most : Terms → Option ℕ) where
   -- the rows of a bucket fit its nodes
   abbrev pub HasFittingRows : HeldBucket → Type 0
   HasFittingRows b = rows_fit most b.rows b.nodes ≡ true
+
+  -- the parts of a row that fits
+  pub row_parts : (f : Facet) (inner rest : Nodes) (ps : Partials) (rows : Rows) → rows_fit most (row ps rows) (facet f inner rest) ≡ true → Rise ps × (insides_fit most ps inner ≡ true) × (rows_fit most rows rest ≡ true)
+  row_parts f inner rest ps rows h =
+      let others = and_parts (is_complete most f.kind ps && buckets_fit f.kind (stats_of inner) ps None && insides_fit most ps inner) (rows_fit most rows rest) h in
+      let insides = and_parts (is_complete most f.kind ps && buckets_fit f.kind (stats_of inner) ps None) (insides_fit most ps inner) others.0 in
+      let buckets = and_parts (is_complete most f.kind ps) (buckets_fit f.kind (stats_of inner) ps None) insides.0 in
+      ((rise_behind f.kind (stats_of inner) ps None buckets.1).1, insides.1, others.1)
 
   pub row_rises : (n : ℕ) (b : HeldBucket) → HasFittingRows b → Rise (row_at n b.nodes b.rows)
   unfolding IsStrictlySortedBy

@@ -1,6 +1,6 @@
 -- One more teller of a bucket.
 use Rattle.std.proofs.Common.{◌≡◌, ◌≢◌, ℕ, List, [], ◌∷◌, Bool, true, false, cond, ◌==◌, Option, None, Some, refl, sym, ◌∙◌, ap, inl, inr}
-use Rattle.std.specs.Prelude.{option_map, AllPairs}
+use Rattle.std.specs.Prelude.{AllPairs}
 use Rattle.std.specs.Ordering.{match_ordering, nat_cmp, is_eq}
 use Rattle.std.specs.declared.cmp.Ordering.{Ordering}
 use Rattle.std.specs.declared.cmp.Ordering.TheVariants.{Less, Equal, Greater}
