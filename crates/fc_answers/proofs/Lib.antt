@@ -1,0 +1,2 @@
+pub mod BarePlaces
+pub mod SetAnswers
