@@ -1,2 +1,4 @@
 pub mod BarePlaces
 pub mod SetAnswers
+pub mod AscendingKeys
+pub mod ListedTallies

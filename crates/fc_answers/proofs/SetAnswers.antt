@@ -26,7 +26,7 @@ use Rattle.fc_spec.proofs.messages.ShardSets.{bases_of_shards, changes_of_shards
 use Rattle.fc_spec.proofs.requests.JoinedSets.{bases_join, changes_join, buckets_join}
 use Rattle.fc_spec.proofs.requests.Locality.{filter_twice}
 use Rattle.fc_spec.proofs.requests.SetChanges.{are_sets_again, first_is_set, rest_are_sets}
-use Rattle.fc_answers.specs.SetAnswer.{Sets, domain_sets, bucket_sets, own_keys, set_rows, Spot, root, nowhere, spot_in, spot_from, set_bucket, set_wants, AnswersFromSets}
+use Rattle.fc_answers.specs.SetAnswer.{Sets, domain_sets, bucket_sets, own_keys, set_rows, Spot, root, nowhere, spot_in, spot_from, spot_at, set_bucket, set_wants, AnswersFromSets}
 use Rattle.fc_answers.proofs.BarePlaces.{bare, SameBare, bare_bucket, bare_stats, bare_entries, bare_not_empty, bare_sets}
 
 -- ---- sets, joined
@@ -150,10 +150,10 @@ module _ (r : Request) (W : World) (i : ℕ) (V : World) (at : slice_get W i ≡
   all_steps (step ∷ way) t s is =
       all_steps way (target_in step.key t (facet_at step.node (target_nodes t))) (spot_in r V step.key s.sets (facet_at step.node s.nodes)) (one_step step.key step.node t s is)
 
-  bucket_at : (way : Way) (key : Key) (a b : Partials) → a ≡ b → answer_bucket r W i way key a ≡ set_bucket r V (spot_from r V (root r V) way) key b
+  bucket_at : (way : Way) (key : Key) (a b : Partials) → a ≡ b → answer_bucket r W i way key a ≡ set_bucket r V (spot_at r V way) key b
   bucket_at way key a b e =
       let t = target_of r.nodes way in
-      let s = spot_from r V (root r V) way in
+      let s = spot_at r V way in
       let is : IsSpot t s = all_steps way (leads_to at_root r.nodes) (root r V) is_root in
       let X = on_shards (i ∷ []) (target_places r W t) in
       let stats : stats_over (stats_of (target_nodes t)) X ≡ stats_over (stats_of s.nodes) (places_at V s.sets) =

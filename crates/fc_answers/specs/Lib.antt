@@ -1,1 +1,2 @@
 pub mod SetAnswer
+pub mod Listed

@@ -1,4 +1,4 @@
--- What a shard answers, from a set of positions for each of the segments that its blocks are cut into. V has the blocks of each segment, and sets have a set for each.
+-- What a shard answers, from a set of positions for each of the segments that its blocks are cut into. V is the list of the segments' lists of blocks.
 use Rattle.std.specs.Prelude.{◌≡◌, ℕ, List, [], ◌∷◌, ◌++◌, map, replicate, Bool, false, Option, None, Some, slice_get}
 use Rattle.fc_spec.specs.words.Lists.{joined}
 use Rattle.fc_spec.specs.documents.World.{World, Place}
@@ -66,6 +66,10 @@ abbrev pub spot_from : Request → World → Spot → Way → Spot
 spot_from r V s [] = s
 spot_from r V s (step ∷ way) = spot_from r V (spot_in r V step.key s.sets (facet_at step.node s.nodes)) way
 
+-- from the root on
+abbrev pub spot_at : Request → World → Way → Spot
+spot_at r V way = spot_from r V (root r V) way
+
 -- the shard's bucket of a key, at a spot
 abbrev pub set_bucket : Request → World → Spot → Key → Partials → Partials
 set_bucket r V s key rest = partial key (stats_over (stats_of s.nodes) (places_at V s.sets)) (set_rows r V s.nodes s.sets) rest
@@ -73,11 +77,11 @@ set_bucket r V s key rest = partial key (stats_over (stats_of s.nodes) (places_a
 -- one bucket for each want, in their order
 abbrev pub set_wants : Request → World → List Want → Partials
 set_wants r V [] = no_partials
-set_wants r V (w ∷ ws) = set_bucket r V (spot_from r V (root r V) (way_of w)) w.key (set_wants r V ws)
+set_wants r V (w ∷ ws) = set_bucket r V (spot_at r V (way_of w)) w.key (set_wants r V ws)
 
 -- the message for an ask
 abbrev pub set_answer : Request → World → Ask → Partials
-set_answer r V first = set_bucket r V (root r V) whole no_partials
+set_answer r V first = set_bucket r V (spot_at r V []) whole no_partials
 set_answer r V (more wants) = set_wants r V wants
 
 -- however a shard's blocks are cut into segments, it is the shard's answer

@@ -1,7 +1,13 @@
-// A law of what shards answer.
+// Laws of what shards answer.
+ghost use Rattle.fc_answers.specs.Listed.{TalliesList};
 ghost use Rattle.fc_answers.specs.SetAnswer.{AnswersFromSets};
 
 /// A shard's answer is made from a set of positions for each of the segments that its blocks are cut into.
 pub fn answers_from_sets()
     ensures { AnswersFromSets }
+{}
+
+/// What is listed of the tally of a facet is what the answer lists.
+pub fn tallies_list()
+    ensures { TalliesList }
 {}

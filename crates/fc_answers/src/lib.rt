@@ -3,4 +3,4 @@
 
 mod law;
 
-pub use law::answers_from_sets;
+pub use law::{answers_from_sets, tallies_list};
