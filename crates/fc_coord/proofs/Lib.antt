@@ -1,0 +1,2 @@
+pub mod MappedReading
+pub mod ReadTrees
