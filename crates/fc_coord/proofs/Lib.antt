@@ -1,2 +1,3 @@
 pub mod MappedReading
 pub mod ReadTrees
+pub mod TellerSums
