@@ -9,9 +9,10 @@ use Rattle.std.proofs.lemmas.Map.Keys.{IsDistinct-head, IsDistinct-tail}
 use Rattle.fc_spec.specs.requests.Request.{Stat, StatKind, sum, min, max, countvals, missing}
 use Rattle.fc_spec.specs.requests.Statistics.{StatValue, number, extreme, Stats, amount, value_over, combined_value}
 use Rattle.fc_spec.specs.laws.SumsLaw.{size_of}
+use Rattle.fc_spec.specs.messages.Message.{Step}
 use Rattle.fc_reading.specs.Distinct.{AreDistinct}
 use Rattle.fc_told.specs.Telling.{TellersFit}
-use Rattle.fc_told.specs.Trees.{Teller, Tree, tellers_in, teller_of, stats_told}
+use Rattle.fc_told.specs.Trees.{Teller, Tree, tellers_in, child, teller_of, stats_told}
 use Rattle.fc_coord.specs.TreeReading.{told_count, told_value, count_told, value_told}
 
 -- ---- the sums of a number of each teller
@@ -157,3 +158,9 @@ size_step T m s H k fit d below = let a = here H k below in let b = bounded (siz
     here [] k below = absurd (omega arith)
     here (i ∷ H) zero below = let a = size_told m s (teller_of i (tellers_in T)) in let b = size_over m s H T in omega arith
     here (i ∷ H) (suc k) below = let e = here H k (omega arith) in omega arith
+
+-- ---- places
+
+-- one step further in they fit too
+pub child_fits : (s : Step) (T : Tree) → TellersFit T → TellersFit (child s T)
+child_fits s T fit = record { counts = λ way. fit.counts (s ∷ way); sizes = λ m way. fit.sizes m (s ∷ way) }
