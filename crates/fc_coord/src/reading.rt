@@ -58,7 +58,7 @@ impl<'a> BucketReading for ToldTree<'a> {
         _shards: &[u32],
         bucket: &Spot<'a>,
     ) -> Result<NodeSpot<'a>, WantMemory> {
-        // As many nodes as this want more memory than there is.
+        // So many nodes want more memory than there is.
         let Ok(node) = u32::try_from(number) else {
             return Err(WantMemory);
         };

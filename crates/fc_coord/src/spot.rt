@@ -23,7 +23,7 @@ use std::alloc::Global;
 /// A place of a bucket in the tree, where the sums of what shards told of it, and of the buckets inside, fit their types.
 #[derive(Drop)]
 pub(crate) struct Spot<'a> {
-    /// None where no shard told of it.
+    /// There is none where no shard told of it, or of a bucket inside.
     pub(crate) place: Option<&'a ToldBucket>,
     ghost fit: { TellersFit (tree_at place) },
 }
