@@ -46,9 +46,9 @@ impl<'a> BucketReading for ToldTree<'a> {
 
     ghost reading = { λ tree. over_tree };
 
-    ghost has = { has_told };
-
     ghost is_for = { λ domain kind. Unit {0} };
+
+    ghost has = { has_told };
 
     fn domain_on(
         &self,
@@ -78,6 +78,10 @@ impl<'a> BucketReading for ToldTree<'a> {
         Ok(domain.around.child(domain.node, key))
     }
 
+    fn has_told(&self, shard: u32, bucket: &Spot<'a>) -> bool {
+        bucket.told_by(shard).is_some()
+    }
+
     fn stats_on(
         &self,
         alloc: Global,
@@ -99,10 +103,6 @@ impl<'a> BucketReading for ToldTree<'a> {
     ) -> Result<Vec<Vec<&'d Val>>, WantMemory> {
         let lists = domain.listed(alloc, shards)?;
         Ok(lists)
-    }
-
-    fn has_told(&self, shard: u32, bucket: &Spot<'a>) -> bool {
-        bucket.told_by(shard).is_some()
     }
 }
 
