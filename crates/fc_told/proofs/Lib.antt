@@ -15,3 +15,5 @@ pub mod Numbers
 pub mod Testing
 pub mod SumsExact
 pub mod TellerSums
+pub mod Levels
+pub mod Listed

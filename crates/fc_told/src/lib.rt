@@ -2,6 +2,8 @@
 #![tactic(auto)]
 
 mod law;
+mod listing;
+mod sums;
 mod teller;
 mod tree;
 

@@ -1,10 +1,13 @@
 // Buckets that shards told.
-ghost use Rattle.std.specs.Prelude.{◌≡◌};
-ghost use Rattle.fc_told.specs.Trees.{nothing};
-ghost use Rattle.fc_told.specs.TreeView.{tree_view};
+ghost use Rattle.std.specs.Prelude.{◌≡◌, option_map};
+ghost use Rattle.fc_partial.specs.StatsView.{stats_view};
+ghost use Rattle.fc_partial.specs.View.{key_view};
+ghost use Rattle.fc_told.specs.Trees.{nothing, stats_told};
+ghost use Rattle.fc_told.specs.Trees as trees;
+ghost use Rattle.fc_told.specs.TreeView.{tree_there, tree_view};
 
 use crate::teller::Teller;
-use fc_partial::Key;
+use fc_partial::{Key, Stats};
 use std::alloc::Global;
 use std::collections::BTreeMap;
 
@@ -13,19 +16,19 @@ use std::collections::BTreeMap;
 #[derive(Debug, Drop)]
 pub struct ToldBucket {
     /// By their numbers.
-    tellers: BTreeMap<u32, Teller>,
+    pub(crate) tellers: BTreeMap<u32, Teller>,
     // Their counts added up, and the absolute values of each of their numbers.
-    count: u64,
-    sizes: Vec<u64>,
+    pub(crate) count: u64,
+    pub(crate) sizes: Vec<u64>,
     /// By the numbers of the nodes; those behind the last that was told are left out.
-    nodes: Vec<ToldNode>,
+    pub(crate) nodes: Vec<ToldNode>,
 }
 
 /// What was told of a node.
 #[cycle(told)]
 #[derive(Debug, Drop)]
 pub(crate) struct ToldNode {
-    by_key: BTreeMap<Key, ToldBucket>,
+    pub(crate) by_key: BTreeMap<Key, ToldBucket>,
 }
 
 impl ToldBucket {
@@ -39,5 +42,29 @@ impl ToldBucket {
             sizes: Vec::new(alloc),
             nodes: Vec::new(alloc),
         }
+    }
+
+    // The bucket of a key of the node at a place.
+    pub(crate) fn child_at(&self, node: usize, key: &Key) -> Option<&ToldBucket>
+        ensures { tree_there (option_map (λ bucket. bucket.now) result)
+            ≡ trees.child (record { node = node; key = key_view key.now }) (tree_view self.now) }
+    {
+        self.nodes.get(node)?.by_key.get(key)
+    }
+
+    /// The bucket of a key of the node with a number. There is none where no shard told of one there, or under one.
+    pub fn child(&self, node: u32, key: &Key) -> Option<&ToldBucket>
+        ensures { tree_there (option_map (λ bucket. bucket.now) result)
+            ≡ trees.child (record { node = node; key = key_view key.now }) (tree_view self.now) }
+    {
+        self.child_at(node as usize, key)
+    }
+
+    /// What a shard told of it.
+    pub fn told_by(&self, shard: u32) -> Option<&Stats>
+        ensures { option_map (λ stats. stats_view stats.now) result ≡ stats_told shard (tree_view self.now) }
+    {
+        let teller = self.tellers.get(&shard)?;
+        Some(&teller.stats)
     }
 }
