@@ -17,3 +17,4 @@ pub mod SumsExact
 pub mod TellerSums
 pub mod Levels
 pub mod Listed
+pub mod Fits

@@ -2,10 +2,12 @@
 #![tactic(auto)]
 
 mod law;
+mod fitting;
 mod listing;
 mod sums;
 mod teller;
 mod tree;
+mod ways;
 
 pub use law::trees_tell;
 pub use tree::ToldBucket;
