@@ -18,3 +18,4 @@ pub mod TellerSums
 pub mod Levels
 pub mod Listed
 pub mod Fits
+pub mod Adds

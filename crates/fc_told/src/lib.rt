@@ -2,6 +2,7 @@
 #![tactic(auto)]
 
 mod law;
+mod adding;
 mod fitting;
 mod listing;
 mod sums;
