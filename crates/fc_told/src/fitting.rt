@@ -62,12 +62,7 @@ fn bucket_fits(nodes: &[Node], bucket: &PartialBucket, told: Option<&ToldBucket>
 }
 
 // Whether the buckets of wants can be added.
-fn wants_fit(
-    told: &ToldBucket,
-    nodes: &[Node],
-    wants: &[Want],
-    buckets: &[PartialBucket],
-) -> bool
+fn wants_fit(told: &ToldBucket, nodes: &[Node], wants: &[Want], buckets: &[PartialBucket]) -> bool
     ensures { (shard : ℕ) → result ≡ all_fit (tree_view told.now) (told_wants (nodes_view nodes.now) shard (wants_view wants.now) (buckets_view buckets.now)) }
 {
     for (at, want) in wants.iter().enumerate() {
