@@ -58,13 +58,9 @@ impl<'a> BucketReading for ToldTree<'a> {
         _shards: &[u32],
         bucket: &Spot<'a>,
     ) -> Result<NodeSpot<'a>, WantMemory> {
-        // So many nodes want more memory than there is.
-        let Ok(node) = u32::try_from(number) else {
-            return Err(WantMemory);
-        };
         Ok(NodeSpot {
             around: bucket.copy(),
-            node,
+            node: number,
         })
     }
 

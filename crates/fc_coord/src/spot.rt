@@ -32,7 +32,7 @@ pub(crate) struct Spot<'a> {
 #[derive(Drop)]
 pub(crate) struct NodeSpot<'a> {
     pub(crate) around: Spot<'a>,
-    pub(crate) node: u32,
+    pub(crate) node: usize,
 }
 
 impl<'a> Spot<'a> {
@@ -54,7 +54,7 @@ impl<'a> Spot<'a> {
     }
 
     /// That of a key of the node with a number.
-    pub(crate) fn child(&self, node: u32, key: &Key) -> Spot<'a>
+    pub(crate) fn child(&self, node: usize, key: &Key) -> Spot<'a>
         ensures { tree_at result.place
             ≡ child (record { node = node; key = key_view key.now }) (tree_at self.now.place) }
     {
@@ -135,7 +135,7 @@ impl<'a> Spot<'a> {
 }
 
 // The bucket of a key of the node with a number.
-fn child_of<'a>(place: Option<&'a ToldBucket>, node: u32, key: &Key) -> Option<&'a ToldBucket>
+fn child_of<'a>(place: Option<&'a ToldBucket>, node: usize, key: &Key) -> Option<&'a ToldBucket>
     ensures { tree_at result ≡ child (record { node = node; key = key_view key.now }) (tree_at place.entry) }
 {
     match place {

@@ -10,7 +10,7 @@ use Rattle.fc_told.specs.Trees.{Tree, tree, Branches, tellers_in, count_in, size
 use Rattle.fc_told.specs.Adding.{changed_branch, changed_fork, changed_at}
 use Rattle.fc_told.proofs.Branches.{Ascend, find_changed, find_changed_other, ascend_changed}
 use Rattle.fc_told.proofs.Forks.{fork_changed, fork_changed_other}
-use Rattle.fc_told.proofs.Listing.{listing_kept}
+use Rattle.fc_told.proofs.ListedAt.{listing_kept}
 use Rattle.fc_told.proofs.Putting.{AllAscend}
 
 pub at-append : (w rest : Way) (T : Tree) → at (w ++ rest) T ≡ at rest (at w T)

@@ -15,7 +15,7 @@ use Rattle.fc_told.proofs.Branches.{Ascend}
 use Rattle.fc_told.proofs.Tellers.{teller_itself}
 use Rattle.fc_told.proofs.Rising.{HasFittingRows}
 use Rattle.fc_told.proofs.Putting.{AllAscend, teller_by, put, put_tellers, at_put}
-use Rattle.fc_told.proofs.Listing.{put_lists_other}
+use Rattle.fc_told.proofs.ListedAt.{put_lists_other}
 use Rattle.fc_told.proofs.Changing.{at-append, there, at_behind, Alike, alike_same, ListsKept, elsewhere}
 use Rattle.fc_told.proofs.HeldMore.{own_bucket, none_from_map, untold, held_own, held_other, held_silent}
 

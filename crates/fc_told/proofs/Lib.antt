@@ -3,7 +3,7 @@ pub mod Forks
 pub mod Tellers
 pub mod Rising
 pub mod Putting
-pub mod Listing
+pub mod ListedAt
 pub mod ListingMore
 pub mod Changing
 pub mod Capped

@@ -21,7 +21,7 @@ use Rattle.fc_told.proofs.Branches.{AllBehind, Ascend, behind_earlier, ascend_ch
 use Rattle.fc_told.proofs.Tellers.{teller_itself}
 use Rattle.fc_told.proofs.Rising.{Rise, rise_later, keys_of}
 use Rattle.fc_told.proofs.Putting.{teller_by, put, put_tellers}
-use Rattle.fc_told.proofs.Listing.{unlisted}
+use Rattle.fc_told.proofs.ListedAt.{unlisted}
 
 -- ---- one key
 

@@ -19,7 +19,7 @@ use Rattle.fc_told.proofs.Capped.{sum_within, size_within}
 use Rattle.fc_told.proofs.Tellers.{Apart, teller_itself, teller_other, apart_with}
 use Rattle.fc_told.proofs.Rising.{HasFittingRows, row_rises, held_in_fits}
 use Rattle.fc_told.proofs.Putting.{teller_by, put_tellers, put_count, put_sizes, put_branches, ascend_added}
-use Rattle.fc_told.proofs.Listing.{row_listed_other}
+use Rattle.fc_told.proofs.ListedAt.{row_listed_other}
 use Rattle.fc_told.proofs.ListingMore.{row_listed}
 use Rattle.fc_told.proofs.Growing.{Grown, not_teller, grown_at, by_shard}
 

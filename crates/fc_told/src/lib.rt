@@ -1,9 +1,9 @@
 //! What shards told, bucket by bucket: one tree for all shards, with the sums that say whether more can be told.
 #![tactic(auto)]
 
-mod law;
 mod adding;
 mod fitting;
+mod law;
 mod listing;
 mod sums;
 mod teller;

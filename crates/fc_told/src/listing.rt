@@ -130,14 +130,14 @@ impl ToldBucket {
     pub fn listed(
         &self,
         alloc: Global,
-        node: u32,
+        node: usize,
         shards: &[u32],
     ) -> Result<Vec<Vec<&Val>>, WantMemory>
         ensures listed { IfOk result (λ lists. map (λ list. vals_view list.items) lists.items
             ≡ map (λ i. offered_at node i (tree_view self.now)) shards.now) }
         ensures ascend { IfOk result (λ lists. All (λ list. IsStrictlySortedBy val_cmp (vals_view list.items)) lists.items) }
     {
-        let by_shard = self.values_at(alloc, node as usize)?;
+        let by_shard = self.values_at(alloc, node)?;
         let lists = lists_of(alloc, &by_shard, shards)?;
         Ok(lists)
     }

@@ -44,20 +44,12 @@ impl ToldBucket {
         }
     }
 
-    // The bucket of a key of the node at a place.
-    pub(crate) fn child_at(&self, node: usize, key: &Key) -> Option<&ToldBucket>
+    /// The bucket of a key of the node with a number. There is none where no shard told of one there, or under one.
+    pub fn child(&self, node: usize, key: &Key) -> Option<&ToldBucket>
         ensures { tree_there (option_map (λ bucket. bucket.now) result)
             ≡ trees.child (record { node = node; key = key_view key.now }) (tree_view self.now) }
     {
         self.nodes.get(node)?.by_key.get(key)
-    }
-
-    /// The bucket of a key of the node with a number. There is none where no shard told of one there, or under one.
-    pub fn child(&self, node: u32, key: &Key) -> Option<&ToldBucket>
-        ensures { tree_there (option_map (λ bucket. bucket.now) result)
-            ≡ trees.child (record { node = node; key = key_view key.now }) (tree_view self.now) }
-    {
-        self.child_at(node as usize, key)
     }
 
     /// What a shard told of it.

@@ -55,7 +55,7 @@ pub(crate) fn child_of<'a>(
         ≡ trees.child (record { node = number; key = key_view key.now }) (tree_there (option_map (λ bucket. bucket.now) told.entry)) }
 {
     match told {
-        Some(bucket) => bucket.child_at(number, key),
+        Some(bucket) => bucket.child(number, key),
         None => None,
     }
 }

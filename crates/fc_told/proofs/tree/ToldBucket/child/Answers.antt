@@ -7,7 +7,7 @@ use Rattle.fc_told.specs.Parts.{forks_view}
 use Rattle.std.specs.Prelude.{option_map}
 use Rattle.fc_told.specs.declared.tree.ToldNode.{out-ToldNode}
 use Rattle.fc_told.proofs.Levels.{child_in, node_is, node_there, no_node, branch_found}
-use Rattle.fc_told.proofs.tree.ToldBucket.child_at.Goals as goal
+use Rattle.fc_told.proofs.tree.ToldBucket.child.Goals as goal
 
 pub returns-in_err-get : goal.returns-in_err-get
 returns-in_err-get c =
