@@ -1,5 +1,5 @@
 // What a reply asks of buckets, answered from lists of places.
-ghost use Rattle.std.specs.Prelude.{◌≡◌, IfOk, List, map};
+ghost use Rattle.std.specs.Prelude.{◌≡◌, IfOk, List, map, true};
 ghost use Rattle.fc_spec.specs.documents.World as definition;
 ghost use Rattle.fc_spec.specs.replies.Reading.{over_places, stats_on as stats_of_bucket};
 ghost use Rattle.fc_spec.specs.requests.Domain as domains;
@@ -102,6 +102,8 @@ impl<'a> BucketReading for PlaceReading<'a> {
 
     ghost is_for = { λ domain kind. AreGroupsOf kind (places_view domain.places.items) domain.groups };
 
+    ghost has = { λ _ _. true };
+
     fn domain_on(
         &self,
         alloc: Global,
@@ -135,6 +137,10 @@ impl<'a> BucketReading for PlaceReading<'a> {
     ) -> Result<Stats, WantMemory> {
         let found = part_stats(alloc, stats, shards, &bucket.places)?;
         Ok(found)
+    }
+
+    fn has_told(&self, _shard: u32, _bucket: &BucketPlaces<'a>) -> bool {
+        true
     }
 
     fn offers<'d>(

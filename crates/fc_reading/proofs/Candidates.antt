@@ -75,7 +75,7 @@ module _ {B H D : Type 0} (R : Reading H D) (t : Terms) (inner : Nodes) (K : Lis
   refines : asks_again t ≡ true → t.refine ≡ true
   refines again = both_true t.refine (is_some t.limit) again
 
-  first_offering : asks_again t ≡ true → (cs : List (Candidate B)) → All (IsOn R t inner K Y held (counted_first R t inner K Y)) cs
+  pub first_offering : asks_again t ≡ true → (cs : List (Candidate B)) → All (IsOn R t inner K Y held (counted_first R t inner K Y)) cs
       → All (IsOn R t inner K Y held (chosen.offering R t inner K Y)) cs
   first_offering again cs h = subst (λ f. All (IsOn R t inner K Y held f) cs) (λ i v. cond (again i) (chosen.offering R t inner K Y v) (chosen.known R t inner K Y v)) h
 

@@ -1,4 +1,5 @@
 pub mod Candidates
+pub mod DistinctShards
 pub mod MadeLists
 pub mod Merging
 pub mod OfferedValues
@@ -8,5 +9,6 @@ pub mod Rows
 pub mod RowsMade
 pub mod Sizes
 pub mod Steps
+pub mod Untold
 pub mod ValidRanges
 pub mod ValueParts

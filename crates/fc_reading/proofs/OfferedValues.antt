@@ -9,7 +9,9 @@ use Rattle.fc_spec.specs.replies.Chosen as chosen
 use Rattle.fc_base.specs.View.{val_view}
 use Rattle.fc_reading.specs.declared.candidate.Candidate.{Candidate}
 use Rattle.fc_reading.specs.declared.offered.Offered.{Offered}
+use Rattle.fc_reading.specs.Distinct.{AreDistinct}
 use Rattle.fc_reading.specs.Terms.{counted_first, IsOn, offered_view}
+use Rattle.fc_reading.proofs.DistinctShards.{offering_distinct}
 
 All-unmap : {X Y : Type 0} (P : Y → Type 0) (f : X → Y) (xs : List X) → All P (map f xs) → All (λ x. P (f x)) xs
 All-unmap P f [] all = All-nil (λ x. P (f x))
@@ -47,6 +49,14 @@ module _ {B H D : Type 0} (R : Reading H D) (t : Terms) (inner : Nodes) (K : Lis
     shards_are = h.shards_are ∙ is;
     entry = h.entry ∙ ap (λ s. chosen.entry_on R t inner K Y s (val_view c.val)) is;
   }
+
+  -- counted on shards of which none is named twice
+  pub first_distinct : (val : Val) (offered shards : List ℕ) → offered ≡ chosen.offering R t inner K Y val → shards ≡ cond (t.refine && not (is_some t.limit)) K offered → AreDistinct K → AreDistinct shards
+  first_distinct val offered shards offers is apart = subst AreDistinct (sym is) (go (t.refine && not (is_some t.limit)))
+    where
+      go : (b : Bool) → AreDistinct (cond b K offered)
+      go true = apart
+      go false = subst AreDistinct (sym offers) (offering_distinct R t inner K Y val apart)
 
   pub on_first : (val : Val) (offered shards : List ℕ) (c : Candidate B) → val_view c.val ≡ val → offered ≡ chosen.offering R t inner K Y val
       → shards ≡ cond (t.refine && not (is_some t.limit)) K offered → IsOn R t inner K Y held (λ v. shards) c → IsOn R t inner K Y held (counted_first R t inner K Y) c

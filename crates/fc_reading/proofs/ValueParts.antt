@@ -20,7 +20,9 @@ use Rattle.fc_refine.proofs.AscendingValues.{ascending-filter}
 use Rattle.fc_reading.specs.declared.candidate.Candidate.{Candidate}
 use Rattle.fc_reading.specs.declared.part.Part.{Part}
 use Rattle.fc_reading.specs.Parts.{Seen, part_of, parts_of, part_view, IsCounted}
+use Rattle.fc_reading.specs.Distinct.{AreDistinct}
 use Rattle.fc_reading.proofs.Candidates.{entry_vals}
+use Rattle.fc_reading.proofs.DistinctShards.{known_distinct}
 use Rattle.fc_reading.specs.Terms.{candidate_view, candidate_vals, candidates_view, IsOn, part_from}
 
 one_counted : {B : Type 0} (b : Bool) (c : Candidate B) (cs : List (Candidate B)) (es : List Entry) → candidates_view cs ≡ es
@@ -64,14 +66,17 @@ module _ {B H D : Type 0} (R : Reading H D) (t : Terms) (inner : Nodes) (K : Lis
   parts_are [] h = refl
   parts_are (c ∷ cs) h = ap₂ (λ q qs. q ∷ qs) (part_is c (All-head (IsOn R t inner K Y held (chosen.known R t inner K Y)) c cs h)) (parts_are cs (All-tail (IsOn R t inner K Y held (chosen.known R t inner K Y)) c cs h))
 
-  part_counted : (c : Candidate B) → IsOn R t inner K Y held (chosen.known R t inner K Y) c → IsCounted R held (stats_of inner) (part_from c)
-  part_counted c h = ap (λ (e : Entry). e.stats) h.entry ∙ sym (ap₂ (λ s b. stats_on R (stats_of inner) s b) h.shards_are h.bucket)
+  part_counted : AreDistinct K → (c : Candidate B) → IsOn R t inner K Y held (chosen.known R t inner K Y) c → IsCounted R held (stats_of inner) (part_from c)
+  part_counted apart c h = record {
+    distinct = subst AreDistinct (sym h.shards_are) (known_distinct R t inner K Y (val_view c.val) apart);
+    stats = ap (λ (e : Entry). e.stats) h.entry ∙ sym (ap₂ (λ s b. stats_on R (stats_of inner) s b) h.shards_are h.bucket);
+  }
 
-  pub parts_counted : (cs : List (Candidate B)) → All (IsOn R t inner K Y held (chosen.known R t inner K Y)) cs → All (IsCounted R held (stats_of inner)) (map part_from cs)
-  parts_counted [] h = All-nil (IsCounted R held (stats_of inner))
-  parts_counted (c ∷ cs) h =
-      All-cons (IsCounted R held (stats_of inner)) (part_from c) (map part_from cs) (part_counted c (All-head (IsOn R t inner K Y held (chosen.known R t inner K Y)) c cs h))
-      (parts_counted cs (All-tail (IsOn R t inner K Y held (chosen.known R t inner K Y)) c cs h))
+  pub parts_counted : AreDistinct K → (cs : List (Candidate B)) → All (IsOn R t inner K Y held (chosen.known R t inner K Y)) cs → All (IsCounted R held (stats_of inner)) (map part_from cs)
+  parts_counted apart [] h = All-nil (IsCounted R held (stats_of inner))
+  parts_counted apart (c ∷ cs) h =
+      All-cons (IsCounted R held (stats_of inner)) (part_from c) (map part_from cs) (part_counted apart c (All-head (IsOn R t inner K Y held (chosen.known R t inner K Y)) c cs h))
+      (parts_counted apart cs (All-tail (IsOn R t inner K Y held (chosen.known R t inner K Y)) c cs h))
 
   -- the bucket of the documents without a value, of a kind that is that of the facet
   pub missing_made : (kind : Kind) (wanted : Bool) (found : List (Seen H)) → kind ≡ terms t

@@ -1,3 +1,6 @@
+pub mod Distinct
+pub mod LackView
+pub mod Lacking
 pub mod Parts
 pub mod Terms
 pub mod Tree

@@ -8,6 +8,7 @@ use Rattle.fc_spec.specs.replies.Reading.{Reading, stats_on}
 use Rattle.fc_spec.specs.replies.Distributed.{carried, printed_keys}
 use Rattle.fc_base.specs.View.{val_view}
 use Rattle.fc_partial.specs.StatsView.{stats_view}
+use Rattle.fc_reading.specs.Distinct.{AreDistinct}
 use Rattle.fc_reading.specs.declared.part.Part.{Part}
 use Rattle.fc_reading.specs.declared.part.Parts.{Parts}
 use Rattle.fc_reading.specs.declared.part.Printed.{Printed}
@@ -56,9 +57,10 @@ parts_view held ps =
     map (part_view held listed) ps.list.items
     ++ (beside held as_missing ps.missing ++ (beside held as_before ps.before ++ (beside held as_between ps.between ++ beside held as_after ps.after)))
 
--- its count and statistics are those on its shards
-abbrev pub IsCounted : {B H D : Type 0} → Reading H D → (B → H) → List Stat → Part B → Type 0
-IsCounted R held ss p = stats_view p.stats ≡ stats_on R ss p.shards.items (held p.bucket)
+-- it names no shard twice, and its count and statistics are those on its shards
+pub record IsCounted {B H D : Type 0} (R : Reading H D) (held : B → H) (ss : List Stat) (p : Part B) : Type 0 where
+  pub distinct : AreDistinct p.shards.items
+  pub stats : stats_view p.stats ≡ stats_on R ss p.shards.items (held p.bucket)
 
 pub record AreCounted {B H D : Type 0} (R : Reading H D) (held : B → H) (ss : List Stat) (ps : Parts B) : Type 0 where
   pub list : All (IsCounted R held ss) ps.list.items

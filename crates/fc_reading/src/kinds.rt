@@ -3,6 +3,7 @@ ghost use Rattle.std.specs.Prelude.{◌≡◌, IfOk, IsTrue, map};
 ghost use Rattle.fc_spec.specs.requests.Request as definition;
 ghost use Rattle.fc_request.specs.FacetNode.{has_buckets, kind_of, kind_view};
 ghost use Rattle.fc_refine.specs.CountableRanges.{IsCountable};
+ghost use Rattle.fc_reading.specs.Distinct.{AreDistinct};
 ghost use Rattle.fc_reading.specs.Parts.{IsPrinted};
 ghost use Rattle.fc_request.specs.NodeView.{inner_view};
 
@@ -27,6 +28,7 @@ pub(crate) fn printed<R: BucketReading>(
     requires facet { IsTrue (has_buckets (kind_of node.now)) }
     requires countable { IsCountable (kind_view (kind_of node.now)) }
     requires made { R.is_for domain.now (kind_of node.now) }
+    requires distinct { AreDistinct shards.now }
     ensures { IfOk result (IsPrinted (R.reading reading.now) R.held (kind_view (kind_of node.now)) (inner_view node.now)
         shards.now (R.over domain.now)) }
 {

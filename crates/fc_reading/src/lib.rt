@@ -3,6 +3,7 @@
 
 mod candidate;
 mod kinds;
+mod lacks;
 mod law;
 mod offered;
 mod part;
@@ -12,6 +13,7 @@ mod reply;
 mod terms;
 mod tree;
 
-pub use law::valid_requests_are_countable;
+pub use lacks::Lack;
+pub use law::{lacking_is_untold, valid_requests_are_countable};
 pub use reading::BucketReading;
 pub use reply::reply_over;

@@ -7,6 +7,7 @@ ghost use Rattle.fc_base.specs.View.{val_view};
 ghost use Rattle.fc_partial.specs.View.{key_view};
 ghost use Rattle.fc_request.specs.FacetNode.{has_buckets, kind_view};
 ghost use Rattle.fc_refine.specs.CountableRanges.{IsCountable, IsThere};
+ghost use Rattle.fc_reading.specs.Distinct.{AreDistinct};
 ghost use Rattle.fc_reading.specs.Parts.{beside, IsCounted, part_view};
 
 use crate::BucketReading;
@@ -57,6 +58,7 @@ pub(crate) fn part_at<R: BucketReading>(
     requires countable { IsCountable (kind_view kind.now) }
     requires made { R.is_for domain.now kind.now }
     requires there { IsThere (kind_view kind.now) (key_view key.now) }
+    requires distinct { AreDistinct shards.now }
     ensures part { IfOk result (λ part. part_view R.held listed part ≡ record {
       spot = listed;
       val = option_map val_view val;
@@ -90,6 +92,7 @@ pub(crate) fn part_beside<R: BucketReading>(
     requires countable { IsCountable (kind_view kind.now) }
     requires made { R.is_for domain.now kind.now }
     requires there { IsThere (kind_view kind.now) (key_view key) }
+    requires distinct { AreDistinct shards.now }
     ensures part { IfOk result (λ part. beside R.held (spot_of (key_view key)) part ≡ map (λ k. record {
       spot = spot_of k;
       val = None;

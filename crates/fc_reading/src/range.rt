@@ -9,6 +9,7 @@ ghost use Rattle.fc_base.specs.StatisticView.{stat_view};
 ghost use Rattle.fc_facet.specs.declared.kind.Kind.TheVariants as variant;
 ghost use Rattle.fc_facet.specs.KindView.{range_view};
 ghost use Rattle.fc_facet.specs.RangeGaps.{HasFewGaps};
+ghost use Rattle.fc_reading.specs.Distinct.{AreDistinct};
 ghost use Rattle.fc_reading.specs.Parts.{AreCounted, IsCounted, part_of, part_view, parts_of, parts_view};
 
 use crate::BucketReading;
@@ -31,6 +32,7 @@ fn gap_parts<R: BucketReading>(
     requires kind { kind.now ≡ variant.Range range.now }
     requires few { HasFewGaps (range_view range.now) }
     requires made { R.is_for domain.now kind.now }
+    requires distinct { AreDistinct shards.now }
     ensures parts { IfOk result (λ parts. (inner : definition.Nodes) → map (part_view R.held listed) parts.items
         ≡ map (part_of (R.reading reading.now) (definition.range (range_view range.now)) inner shards.now (R.over domain.now))
         (map gap_key (numbers_below (gap_count (range_view range.now))))) }
@@ -58,6 +60,7 @@ pub(crate) fn range_parts<R: BucketReading>(
     requires kind { kind.now ≡ variant.Range range.now }
     requires few { HasFewGaps (range_view range.now) }
     requires made { R.is_for domain.now kind.now }
+    requires distinct { AreDistinct shards.now }
     ensures parts { IfOk result (λ parts. (inner : definition.Nodes) → parts_view R.held parts
         ≡ parts_of (R.reading reading.now) (definition.range (range_view range.now)) inner shards.now (R.over domain.now)) }
     ensures counted { IfOk result (AreCounted (R.reading reading.now) R.held (map stat_view stats.now)) }

@@ -1,5 +1,5 @@
 // What is asked of buckets.
-ghost use Rattle.std.specs.Prelude.{◌≡◌, IfOk, IsTrue, List, All, map};
+ghost use Rattle.std.specs.Prelude.{◌≡◌, ℕ, Bool, IfOk, IsTrue, List, All, map};
 ghost use Rattle.std.specs.List.Sorted.{IsStrictlySortedBy};
 ghost use Rattle.fc_spec.specs.documents.Val.{val_cmp};
 ghost use Rattle.fc_spec.specs.requests.Request as definition;
@@ -12,6 +12,7 @@ ghost use Rattle.fc_partial.specs.StatsView.{stats_view};
 ghost use Rattle.fc_partial.specs.View.{key_view};
 ghost use Rattle.fc_request.specs.FacetNode.{facet_view, has_buckets, kind_of, kind_view, vals_view};
 ghost use Rattle.fc_refine.specs.CountableRanges.{IsCountable, IsThere};
+ghost use Rattle.fc_reading.specs.Distinct.{AreDistinct};
 
 use fc_base::{Stat, Val, WantMemory};
 use fc_facet::{Kind, Terms};
@@ -38,6 +39,8 @@ pub trait BucketReading {
     ghost reading: { Self → Reading Self.Held Self.Over };
     // That a domain was made for a kind of facet.
     ghost is_for: { Self.Domain → code.Kind → Type 0 };
+    // That a shard has told a bucket.
+    ghost has: { Self.Held → ℕ → Bool };
 
     /// The domain of a facet, by its number among the nodes, in a bucket's part on the shards.
     fn domain_on(
@@ -77,8 +80,13 @@ pub trait BucketReading {
         shards: &[u32],
         bucket: &Self::Bucket,
     ) -> Result<Stats, WantMemory>
+        requires distinct { AreDistinct shards.now }
         ensures { IfOk result (λ found. stats_view found
             ≡ stats_of_bucket (reading self.now) (map stat_view stats.now) shards.now (held bucket.now)) };
+
+    /// Whether the shard has told the bucket.
+    fn has_told(&self, shard: u32, bucket: &Self::Bucket) -> bool
+        ensures { result ≡ has (held bucket.now) shard };
 
     /// The values that each of the shards offers of a terms facet in which these statistics are nested, shard by
     /// shard, each list in index order.

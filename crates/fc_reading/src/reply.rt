@@ -4,6 +4,7 @@ ghost use Rattle.fc_spec.specs.replies.Distributed as definition;
 ghost use Rattle.fc_reply.specs.ReplyView.{reply_view};
 ghost use Rattle.fc_request.specs.NodeView.{inner_view};
 ghost use Rattle.fc_refine.specs.CountableRanges.{AreCountable};
+ghost use Rattle.fc_reading.specs.Distinct.{AreDistinct};
 
 use crate::BucketReading;
 use crate::tree::facets;
@@ -21,7 +22,8 @@ pub fn reply_over<R: BucketReading>(
     shards: &[u32],
     bucket: &R::Bucket,
 ) -> Result<Reply, WantMemory>
-    requires { AreCountable (inner_view node.now) }
+    requires countable { AreCountable (inner_view node.now) }
+    requires distinct { AreDistinct shards.now }
     ensures { IfOk result (λ reply. reply_view reply ≡ definition.reply_over
         (R.reading reading.now) (inner_view node.now) shards.now (R.held bucket.now)) }
 {

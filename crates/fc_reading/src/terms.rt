@@ -1,9 +1,10 @@
 // The printed buckets of a terms facet.
-ghost use Rattle.std.specs.Prelude.{◌≡◌, ℕ, List, All, IfOk, is_some, map, nat_le, not, ◌&&◌, if◌then◌else◌};
+ghost use Rattle.std.specs.Prelude.{◌≡◌, ℕ, List, All, IfOk, IsTrue, is_some, map, nat_le, not, ◌&&◌, if◌then◌else◌};
 ghost use Rattle.std.specs.List.{filter};
 ghost use Rattle.fc_spec.specs.documents.Val as value;
 ghost use Rattle.fc_spec.specs.requests.Request as definition;
 ghost use Rattle.fc_spec.specs.requests.Ranks as ranks;
+ghost use Rattle.fc_spec.specs.requests.Shape.{asks_again as asks_again_of};
 ghost use Rattle.fc_spec.specs.replies.Chosen as chosen;
 ghost use Rattle.fc_base.specs.StatisticView.{stat_view};
 ghost use Rattle.fc_base.specs.View.{val_view};
@@ -12,6 +13,7 @@ ghost use Rattle.fc_facet.specs.KindView.{sort_view, terms_view};
 ghost use Rattle.fc_request.specs.NodeView.{inner_view};
 ghost use Rattle.fc_refine.specs.Entries.{HaveAscendingValues};
 ghost use Rattle.fc_request.specs.FacetNode.{kind_of};
+ghost use Rattle.fc_reading.specs.Distinct.{AreDistinct};
 ghost use Rattle.fc_reading.specs.Parts.{AreCounted, parts_of, parts_view};
 ghost use Rattle.fc_reading.specs.Terms.{AreOn, AreOnFirst, AreOnKnown, candidate_vals, candidates_view, IsOn, part_from};
 
@@ -40,6 +42,7 @@ fn candidate<R: BucketReading>(
     requires made { R.is_for domain.now (kind_of node.now) }
     requires stats { map stat_view stats.now ≡ definition.stats_of (inner_view node.now) }
     requires terms { kind_of node.now ≡ variant.Terms terms.now }
+    requires distinct { AreDistinct shards.items }
     ensures val { IfOk result (λ c. val_view c.val ≡ val_view val.now) }
     ensures on { IfOk result (λ c. (all : List ℕ) → IsOn (R.reading reading.now) (terms_view terms.now) (inner_view node.now) all
         (R.over domain.now) R.held (λ v. shards.items) c) }
@@ -88,6 +91,7 @@ fn candidates_of<R: BucketReading>(
     requires terms { kind_of node.now ≡ variant.Terms terms.now }
     requires offering { All (λ o. o.shards.items ≡ chosen.offering (R.reading reading.now) (terms_view terms.now)
         (inner_view node.now) shards.now (R.over domain.now) (val_view o.val.now)) offered.items }
+    requires distinct { AreDistinct shards.now }
     ensures on { IfOk result (λ list. AreOnFirst (R.reading reading.now) (terms_view terms.now) (inner_view node.now) shards.now
         (R.over domain.now) R.held list.items) }
     ensures vals { IfOk result (λ list. candidate_vals list.items ≡ map (λ o. val_view o.val.now) offered.entry.items) }
@@ -113,6 +117,7 @@ fn candidates<R: BucketReading>(
     requires made { R.is_for domain.now (kind_of node.now) }
     requires stats { map stat_view stats.now ≡ definition.stats_of (inner_view node.now) }
     requires terms { kind_of node.now ≡ variant.Terms terms.now }
+    requires distinct { AreDistinct shards.now }
     ensures on { IfOk result (λ list. AreOnFirst (R.reading reading.now) (terms_view terms.now) (inner_view node.now) shards.now
         (R.over domain.now) R.held list.items) }
     ensures vals { IfOk result (λ list. candidate_vals list.items ≡ chosen.candidates (R.reading reading.now)
@@ -132,6 +137,7 @@ fn counted_on<R: BucketReading>(
     shards: &[u32],
     candidate: Candidate<R::Bucket>,
 ) -> Result<Candidate<R::Bucket>, WantMemory>
+    requires distinct { AreDistinct shards.now }
     ensures val { IfOk result (λ c. c.val ≡ candidate.val) }
     ensures on { IfOk result (λ c. (t : definition.Terms) (inner : definition.Nodes) (Y : R.Over) (counted : value.Val → List ℕ)
         → definition.stats_of inner ≡ map stat_view stats.now
@@ -155,6 +161,7 @@ fn all_counted_on<R: BucketReading>(
     shards: &[u32],
     candidates: Vec<Candidate<R::Bucket>>,
 ) -> Result<Vec<Candidate<R::Bucket>>, WantMemory>
+    requires distinct { AreDistinct shards.now }
     ensures vals { IfOk result (λ list. candidate_vals list.items ≡ candidate_vals candidates.items) }
     ensures on { IfOk result (λ list. (t : definition.Terms) (inner : definition.Nodes) (Y : R.Over) (counted : value.Val → List ℕ)
         → definition.stats_of inner ≡ map stat_view stats.now
@@ -168,27 +175,39 @@ fn all_counted_on<R: BucketReading>(
     Ok(list)
 }
 
-// The candidates whose rank is low enough, each counted over all shards.
-fn refined<R: BucketReading>(
+// Whether a terms facet asks again.
+fn asks_again(terms: &Terms) -> bool
+    ensures { result ≡ asks_again_of (terms_view terms.now) }
+{
+    terms.refine && terms.limit.is_some()
+}
+
+// The chosen values of a facet that asks again, each counted over the shards that offer it.
+fn chosen_again<R: BucketReading>(
     alloc: Global,
     reading: &R,
+    node: &Node,
     terms: &Terms,
     stats: &[Stat],
     shards: &[u32],
-    candidates: Vec<Candidate<R::Bucket>>,
+    domain: &R::Domain,
 ) -> Result<Vec<Candidate<R::Bucket>>, WantMemory>
-    requires ascend { HaveAscendingValues (candidates_view candidates.items) }
-    ensures vals { IfOk result (λ list. candidate_vals list.items ≡ map (λ e. e.val) (ranks.below_rank (sort_view terms.now.sort)
-        (ranks.rank_bound terms.now.offset terms.now.limit terms.now.overrefine) (candidates_view candidates.items))) }
-    ensures on { IfOk result (λ list. (inner : definition.Nodes) (Y : R.Over) (counted : value.Val → List ℕ)
-        → definition.stats_of inner ≡ map stat_view stats.now
-        → AreOn (R.reading reading.now) (terms_view terms.now) inner shards.now Y R.held counted candidates.items
-        → AreOn (R.reading reading.now) (terms_view terms.now) inner shards.now Y R.held (λ v. shards.now) list.items) }
+    requires made { R.is_for domain.now (kind_of node.now) }
+    requires stats { map stat_view stats.now ≡ definition.stats_of (inner_view node.now) }
+    requires terms { kind_of node.now ≡ variant.Terms terms.now }
+    requires distinct { AreDistinct shards.now }
+    requires again { IsTrue (asks_again_of (terms_view terms.now)) }
+    ensures on { IfOk result (λ list. AreOn (R.reading reading.now) (terms_view terms.now) (inner_view node.now) shards.now
+        (R.over domain.now) R.held (chosen.offering (R.reading reading.now) (terms_view terms.now) (inner_view node.now) shards.now
+        (R.over domain.now)) list.items) }
+    ensures vals { IfOk result (λ list. candidate_vals list.items ≡ chosen.chosen (R.reading reading.now)
+        (terms_view terms.now) (inner_view node.now) shards.now (R.over domain.now)) }
+    ensures ascend { IfOk result (λ list. HaveAscendingValues (candidates_view list.items)) }
 {
+    let all = candidates(alloc, reading, node, terms, stats, shards, domain)?;
     let bound = rank_bound(terms.offset, terms.limit, terms.overrefine);
-    let front = below_rank(terms.sort, bound, candidates)?;
-    let list = all_counted_on(alloc, reading, stats, shards, front)?;
-    Ok(list)
+    let front = below_rank(terms.sort, bound, all)?;
+    Ok(front)
 }
 
 // The chosen values, each counted over its known shards.
@@ -204,17 +223,19 @@ fn chosen<R: BucketReading>(
     requires made { R.is_for domain.now (kind_of node.now) }
     requires stats { map stat_view stats.now ≡ definition.stats_of (inner_view node.now) }
     requires terms { kind_of node.now ≡ variant.Terms terms.now }
+    requires distinct { AreDistinct shards.now }
     ensures on { IfOk result (λ list. AreOnKnown (R.reading reading.now) (terms_view terms.now) (inner_view node.now) shards.now
         (R.over domain.now) R.held list.items) }
     ensures entries { IfOk result (λ list. candidates_view list.items ≡ chosen.chosen_entries (R.reading reading.now)
         (terms_view terms.now) (inner_view node.now) shards.now (R.over domain.now)) }
     ensures ascend { IfOk result (λ list. HaveAscendingValues (candidates_view list.items)) }
 {
-    let all = candidates(alloc, reading, node, terms, stats, shards, domain)?;
-    if terms.refine && terms.limit.is_some() {
-        let refined = refined(alloc, reading, terms, stats, shards, all)?;
+    if asks_again(terms) {
+        let front = chosen_again(alloc, reading, node, terms, stats, shards, domain)?;
+        let refined = all_counted_on(alloc, reading, stats, shards, front)?;
         Ok(refined)
     } else {
+        let all = candidates(alloc, reading, node, terms, stats, shards, domain)?;
         Ok(all)
     }
 }
@@ -249,6 +270,7 @@ fn printed<R: BucketReading>(
     requires made { R.is_for domain.now (kind_of node.now) }
     requires stats { map stat_view stats.now ≡ definition.stats_of (inner_view node.now) }
     requires terms { kind_of node.now ≡ variant.Terms terms.now }
+    requires distinct { AreDistinct shards.now }
     ensures on { IfOk result (λ list. AreOnKnown (R.reading reading.now) (terms_view terms.now) (inner_view node.now) shards.now
         (R.over domain.now) R.held list.items) }
     ensures entries { IfOk result (λ list. candidates_view list.items ≡ ranks.page (sort_view terms.now.sort) terms.now.offset terms.now.limit
@@ -293,6 +315,7 @@ pub(crate) fn terms_parts<R: BucketReading>(
     requires made { R.is_for domain.now (kind_of node.now) }
     requires stats { map stat_view stats.now ≡ definition.stats_of (inner_view node.now) }
     requires terms { kind_of node.now ≡ variant.Terms terms.now }
+    requires distinct { AreDistinct shards.now }
     ensures parts { IfOk result (λ parts. parts_view R.held parts
         ≡ parts_of (R.reading reading.now) (definition.terms (terms_view terms.now)) (inner_view node.now) shards.now (R.over domain.now)) }
     ensures counted { IfOk result (AreCounted (R.reading reading.now) R.held (map stat_view stats.now)) }

@@ -15,6 +15,7 @@ ghost use Rattle.fc_request.specs.NodeStatistics.{statistic_of_node};
 ghost use Rattle.fc_request.specs.NodeView.{inner_view, node_view};
 ghost use Rattle.fc_request.specs.FacetNode.{facet_view, has_buckets, kind_of, kind_view};
 ghost use Rattle.fc_refine.specs.CountableRanges.{AreCountable, IsCountable};
+ghost use Rattle.fc_reading.specs.Distinct.{AreDistinct};
 ghost use Rattle.fc_reading.specs.Parts.{AreCounted, bucket_with, IsCounted, part_view, parts_view, row_with};
 ghost use Rattle.fc_reading.specs.Tree.{AreCountedIn, count_in, facet_over, HasValue, inside, node_before, put_printed, statistics_after};
 
@@ -203,6 +204,7 @@ fn buckets_body<R: BucketReading>(
     requires kind { IsCountable (kind_view (kind_of node.now)) }
     requires countable { AreCountable (inner_view node.now) }
     requires count { count ≡ (R.reading reading.now).count_on shards.now (R.held around.now) }
+    requires distinct { AreDistinct shards.now }
     ensures { IfOk result (λ body. (more : reply.Facets) → facet_over (option_map (λ body. body_view body (facet_view node.now).name) body) more
         ≡ print.facet_part (count == 0) (facet_view node.now) (definition.dist_buckets (R.reading reading.now) (facet_view node.now)
         (inner_view node.now) (inside (R.reading reading.now) (inner_view node.now)) shards.now
@@ -233,6 +235,7 @@ fn facet<R: BucketReading>(
     requires countable { AreCountable (node_before (node_view node.now) request.no_nodes) }
     requires count { stats.now.count ≡ (R.reading reading.now).count_on shards.now (R.held around.now) }
     requires value { HasValue (R.reading reading.now) shards.now (R.held around.now) (stats_view stats.now) (node_view node.now) statistic }
+    requires distinct { AreDistinct shards.now }
     ensures { IfOk result (λ facet. (rest : request.Nodes) → facet_over (option_map printed_facet_view facet)
         (definition.dist_facets (R.reading reading.now) rest (suc number) (statistics_after (node_view node.now) statistic) shards.now (R.held around.now))
         ≡ definition.dist_facets (R.reading reading.now) (node_before (node_view node.now) rest) number statistic shards.now (R.held around.now)) }
@@ -262,6 +265,7 @@ pub(crate) fn facets<R: BucketReading>(
 ) -> Result<Vec<ReplyFacet>, WantMemory>
     requires countable { AreCountable (inner_view node.now) }
     requires counted { stats_view stats.now ≡ stats_on (R.reading reading.now) (request.stats_of (inner_view node.now)) shards.now (R.held around.now) }
+    requires distinct { AreDistinct shards.now }
     ensures { IfOk result (λ facets. facets_view facets.items
         ≡ definition.dist_facets (R.reading reading.now) (inner_view node.now) 0 0 shards.now (R.held around.now)) }
 {

@@ -25,7 +25,7 @@ returns-clause-counted g c =
     let R = g.R.BucketReading.reading c.args.reading.now in
     let held = g.R.BucketReading.held in
     let list = c.in_ok-list.list.items in
-    let counted = parts_counted R (terms_view c.args.terms.now) (inner_view c.args.node.now) c.args.shards.now (g.R.BucketReading.over c.args.domain.now) held c.in_ok-printed.printed.items c.in_ok-printed.ensures.on in
+    let counted = parts_counted R (terms_view c.args.terms.now) (inner_view c.args.node.now) c.args.shards.now (g.R.BucketReading.over c.args.domain.now) held c.requires.distinct c.in_ok-printed.printed.items c.in_ok-printed.ensures.on in
     record {
       list = subst (λ ss. All (IsCounted R held ss) list) (sym c.requires.stats) (subst (All (IsCounted R held _)) (sym c.in_ok-list.ensures) counted);
       missing = c.in_ok-missing.ensures.counted;

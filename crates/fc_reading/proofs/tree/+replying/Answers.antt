@@ -124,8 +124,11 @@ facets-facet-requires g t c =
               countable_first (node_view item) rest (subst AreCountable first c.loop-number.invariant.2),
               (
                 ap (λ s. s.count) c.requires.counted,
-                value_first R c.args.shards.now X (stats_view c.args.stats.now) (node_view item) rest c.loop-number.statistics
-                    (c.loop-number.invariant.1 ∙ ap (λ ns. map (λ s. R.statistic_on s.0 s.1 c.args.shards.now X) (enumerate_from c.loop-number.statistics (stats_of ns))) first),
+                (
+                  value_first R c.args.shards.now X (stats_view c.args.stats.now) (node_view item) rest c.loop-number.statistics
+                      (c.loop-number.invariant.1 ∙ ap (λ ns. map (λ s. R.statistic_on s.0 s.1 c.args.shards.now X) (enumerate_from c.loop-number.statistics (stats_of ns))) first),
+                  c.requires.distinct,
+                ),
               ),
             ),
           ),
