@@ -1,2 +1,4 @@
 pub mod Spots
 pub mod TreeReading
+pub mod State
+pub mod Keeps
