@@ -129,10 +129,10 @@ begun_again s A (l ∷ ls) f k is some within none rounds =
     let n = length s.asks in
     let len = sym (length-asks_for n (l ∷ ls)) in
     let asked : (i : ℕ) (ask : Ask) → ask_at (asks_for n (l ∷ ls)) i ≡ Some ask → ask ≡ ask_in r n A (lacking_at f) i = λ i ask e.
-        wants_asked (wants_of i (l ∷ ls)) ask (ap (λ j. ask_for (wants_of j (l ∷ ls))) (omega arith) ∙ made_is (λ j. ask_for (wants_of j (l ∷ ls))) n 0 i ask e) ∙ ap (λ all. more (wants_of i all)) is in
+    wants_asked (wants_of i (l ∷ ls)) ask (ap (λ j. ask_for (wants_of j (l ∷ ls))) (omega arith) ∙ made_is (λ j. ask_for (wants_of j (l ∷ ls))) n 0 i ask e) ∙ ap (λ all. more (wants_of i all)) is in
     let answered : AreAnswered r n A (lacking_at f) (asks_for n (l ∷ ls)) [] =
-        all_from_members (IsAnswered (asks_for n (l ∷ ls)) []) (lacks r n A f)
-        (λ x m. ap (λ b. b || false) (ap (λ all. is_some (ask_at (asks_for n all) x.shard)) is ∙ lack_asked r n A f x m)) in
+    all_from_members (IsAnswered (asks_for n (l ∷ ls)) []) (lacks r n A f)
+    (λ x m. ap (λ b. b || false) (ap (λ all. is_some (ask_at (asks_for n all) x.shard)) is ∙ lack_asked r n A f x m)) in
     record {
       before = A;
       here = [];

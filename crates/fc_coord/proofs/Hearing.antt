@@ -140,7 +140,7 @@ fits_of_ask : (s : State) (A : List Told) (i : ℕ) (m : Partials) → FitsExact
     × (IsTrue (is_shaped s.request ask m) × SumsFit (A ++ told_by s.request.nodes i ask m) → IsTrue (is_shaped s.request ask m && all_fit s.tree (told_by s.request.nodes i ask m)))
 fits_of_ask s A i m exact k ask at = (
   λ h. let both = and_parts (is_shaped s.request ask m) (all_fit s.tree (told_by s.request.nodes i ask m)) h in
-  (both.0, (exact s.request s.tree A i ask m both.0 k.tree k.sums (once_told s A i m k ask at)).0 both.1),
+      (both.0, (exact s.request s.tree A i ask m both.0 k.tree k.sums (once_told s A i m k ask at)).0 both.1),
   λ h. ap (λ b. b && all_fit s.tree (told_by s.request.nodes i ask m)) h.0 ∙ (exact s.request s.tree A i ask m h.0 k.tree k.sums (once_told s A i m k ask at)).1 h.1,
 )
 

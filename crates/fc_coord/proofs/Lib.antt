@@ -5,3 +5,8 @@ pub mod WantedAlike
 pub mod Rising
 pub mod Hearing
 pub mod Beginning
+pub mod Kept
+pub mod StateAfter
+pub mod ShardLists
+pub mod AskLists
+pub mod NextSteps

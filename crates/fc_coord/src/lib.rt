@@ -4,3 +4,15 @@
 mod reading;
 mod spot;
 mod values;
+mod asks;
+mod calls;
+mod coord;
+mod depth;
+mod fitting;
+mod reading;
+mod reply;
+mod rounds;
+mod standing;
+mod taking;
+
+pub use coord::Coord;
