@@ -1,5 +1,7 @@
 pub mod Candidates
 pub mod DistinctShards
+pub mod KeyedBuckets
+pub mod LackedValues
 pub mod MadeLists
 pub mod Merging
 pub mod OfferedValues
@@ -12,3 +14,4 @@ pub mod Steps
 pub mod Untold
 pub mod ValidRanges
 pub mod ValueParts
+pub mod WalkedNodes

@@ -85,9 +85,9 @@ module _ (A : List Told) where
       let wanted_under : ℕ → List Lack = λ d. flat_map (λ k. wanted R d inner 0 (carried R f.kind inner H Y k) (behind k) (behind k)) keys in
       let lacking_under : ℕ → List Lack = λ d. flat_map (λ k. lacking R has d inner 0 (carried R f.kind inner H Y k) (behind k) (behind k)) keys in
       let under : (d : ℕ) → untold A (wanted_under d) ≡ lacking_under d = λ d.
-          filter-flat_map _ (λ k. wanted R d inner 0 (carried R f.kind inner H Y k) (behind k) (behind k)) keys
-          ∙ flat_map_same (λ k. untold A (wanted R d inner 0 (carried R f.kind inner H Y k) (behind k) (behind k))) (λ k. lacking R has d inner 0 (carried R f.kind inner H Y k) (behind k) (behind k))
-          (λ k. nodes_untold inner d 0 (carried R f.kind inner H Y k) (behind k)) keys in
+      filter-flat_map _ (λ k. wanted R d inner 0 (carried R f.kind inner H Y k) (behind k) (behind k)) keys
+      ∙ flat_map_same (λ k. untold A (wanted R d inner 0 (carried R f.kind inner H Y k) (behind k) (behind k))) (λ k. lacking R has d inner 0 (carried R f.kind inner H Y k) (behind k) (behind k))
+      (λ k. nodes_untold inner d 0 (carried R f.kind inner H Y k) (behind k)) keys in
       let at = at_untold f.kind inner e n H way wanted_under lacking_under under in
       let here : List Lack = wanted_at R f.kind inner e n H Y way wanted_under in
       filter-append _ (facet_wanted (R.count_on H way == 0) f here) (wanted R e rest (suc n) H way way)

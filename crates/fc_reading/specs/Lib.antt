@@ -1,4 +1,6 @@
 pub mod Distinct
+pub mod Inside
+pub mod Keys
 pub mod LackView
 pub mod Lacking
 pub mod Parts

@@ -175,15 +175,15 @@ fn all_counted_on<R: BucketReading>(
     Ok(list)
 }
 
-// Whether a terms facet asks again.
-fn asks_again(terms: &Terms) -> bool
+/// Whether a terms facet asks again.
+pub(crate) fn asks_again(terms: &Terms) -> bool
     ensures { result ≡ asks_again_of (terms_view terms.now) }
 {
     terms.refine && terms.limit.is_some()
 }
 
-// The chosen values of a facet that asks again, each counted over the shards that offer it.
-fn chosen_again<R: BucketReading>(
+/// The chosen values of a facet that asks again, each counted over the shards that offer it.
+pub(crate) fn chosen_again<R: BucketReading>(
     alloc: Global,
     reading: &R,
     node: &Node,
@@ -257,8 +257,8 @@ fn with_count<B: Drop>(
     Ok(kept)
 }
 
-// The candidates that are printed, in the order of their ranks.
-fn printed<R: BucketReading>(
+/// The candidates that are printed, in the order of their ranks.
+pub(crate) fn printed<R: BucketReading>(
     alloc: Global,
     reading: &R,
     node: &Node,

@@ -64,7 +64,8 @@ fn is_statistic(node: &Node) -> bool
     matches!(&node.kind, Kind::Stat(_))
 }
 
-fn has_no_tag(tags: &[Name]) -> bool
+/// Whether a facet excludes no tag.
+pub(crate) fn has_no_tag(tags: &[Name]) -> bool
     ensures { result ≡ is_empty tags.now }
 {
     tags.is_empty()

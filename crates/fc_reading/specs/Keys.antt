@@ -1,0 +1,33 @@
+-- Printed buckets by their keys.
+use Rattle.std.specs.Prelude.{ℕ, List}
+use Rattle.fc_spec.specs.requests.Request.{Kind, Nodes}
+use Rattle.fc_spec.specs.requests.Buckets as definition
+use Rattle.fc_spec.specs.replies.Reading.{Reading}
+use Rattle.fc_spec.specs.replies.Distributed.{carried}
+use Rattle.fc_partial.specs.declared.key.Key.TheVariants.{Value}
+use Rattle.fc_partial.specs.View.{key_view}
+use Rattle.fc_reading.specs.declared.candidate.Candidate.{Candidate}
+use Rattle.fc_reading.specs.declared.keyed.Keyed.{Keyed}
+
+-- its key, the shards that it carries, and the bucket
+pub record WithKey (B : Type 0) : Type 0 where
+  pub key : definition.Key
+  pub shards : List ℕ
+  pub bucket : B
+
+-- that of a key in the domain Y, on the shards H
+abbrev pub keyed_on : {B D : Type 0} → Reading B D → Kind → List ℕ → D → definition.Key → WithKey B
+keyed_on R kind H Y key = record { key = key; shards = H; bucket = R.bucket_at kind Y key }
+
+-- that of a key in the domain Y, on the shards that it carries
+abbrev pub keyed_of : {B D : Type 0} → Reading B D → Kind → Nodes → List ℕ → D → definition.Key → WithKey B
+keyed_of R kind inner H Y key = keyed_on R kind (carried R kind inner H Y key) Y key
+
+-- ---- what the code has
+
+abbrev pub keyed_view : {B H : Type 0} → (B → H) → Keyed B → WithKey H
+keyed_view held one = record { key = key_view one.key; shards = one.shards.items; bucket = held one.bucket }
+
+-- that of a candidate
+abbrev pub keyed_from : {B : Type 0} → Candidate B → Keyed B
+keyed_from c = record { key = Value c.val; shards = c.shards; bucket = c.bucket }

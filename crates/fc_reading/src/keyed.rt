@@ -1,0 +1,252 @@
+// Printed buckets by their keys.
+ghost use Rattle.std.specs.Prelude.{◌≡◌, ◌∷◌, ◌++◌, [], All, IfOk, IsTrue, OnOk, map};
+ghost use Rattle.fc_spec.specs.requests.Buckets.{gap as gap_key};
+ghost use Rattle.fc_spec.specs.requests.Gaps.{gap_count};
+ghost use Rattle.fc_spec.specs.requests.Request as definition;
+ghost use Rattle.fc_spec.specs.replies.Distributed.{printed_keys};
+ghost use Rattle.fc_spec.specs.replies.Printed.{asked as asked_of};
+ghost use Rattle.fc_spec.specs.words.Lists.{numbers_below};
+ghost use Rattle.fc_facet.specs.declared.kind.Kind.TheVariants as variant;
+ghost use Rattle.fc_facet.specs.KindView.{range_view, terms_view};
+ghost use Rattle.fc_facet.specs.RangeGaps.{HasFewGaps};
+ghost use Rattle.fc_partial.specs.View.{key_view};
+ghost use Rattle.fc_refine.specs.CountableRanges.{IsCountable, IsThere};
+ghost use Rattle.fc_request.specs.FacetNode.{has_buckets, kind_of, kind_view};
+ghost use Rattle.fc_request.specs.NodeView.{inner_view};
+ghost use Rattle.fc_reading.specs.Distinct.{AreDistinct};
+ghost use Rattle.fc_reading.specs.Keys.{keyed_from, keyed_of, keyed_on, keyed_view};
+
+use crate::BucketReading;
+use crate::candidate::Candidate;
+use crate::terms::printed;
+use fc_base::WantMemory;
+use fc_facet::{Kind, Range, Terms};
+use fc_partial::Key;
+use fc_request::Node;
+use std::alloc::Global;
+
+/// A printed bucket by its key, with the shards that it carries.
+#[derive(Drop)]
+pub(crate) struct Keyed<B> {
+    pub(crate) key: Key,
+    pub(crate) shards: Vec<u32>,
+    pub(crate) bucket: B,
+}
+
+// Puts the bucket of a key that is no value behind others, on the shards of the bucket around it.
+fn push_key<R: BucketReading>(
+    alloc: Global,
+    reading: &R,
+    kind: &Kind,
+    shards: &[u32],
+    domain: &R::Domain,
+    key: Key,
+    list: &mut Vec<Keyed<R::Bucket>>,
+) -> Result<(), WantMemory>
+    requires facet { IsTrue (has_buckets kind.now) }
+    requires countable { IsCountable (kind_view kind.now) }
+    requires made { R.is_for domain.now kind.now }
+    requires there { IsThere (kind_view kind.now) (key_view key) }
+    ensures { OnOk result (map (keyed_view R.held) list.new.items ≡ map (keyed_view R.held) list.old.items
+        ++ keyed_on (R.reading reading.now) (kind_view kind.now) shards.now (R.over domain.now) (key_view key) ∷ []) }
+{
+    let bucket = reading.bucket_at(alloc, kind, domain, &key)?;
+    list.push(Keyed {
+        key,
+        shards: shards.to_vec(alloc)?,
+        bucket,
+    })?;
+    Ok(())
+}
+
+// The same where it is asked for.
+fn push_asked<R: BucketReading>(
+    alloc: Global,
+    reading: &R,
+    kind: &Kind,
+    shards: &[u32],
+    domain: &R::Domain,
+    asked: bool,
+    key: Key,
+    list: &mut Vec<Keyed<R::Bucket>>,
+) -> Result<(), WantMemory>
+    requires facet { IsTrue (has_buckets kind.now) }
+    requires countable { IsCountable (kind_view kind.now) }
+    requires made { R.is_for domain.now kind.now }
+    requires there { IsThere (kind_view kind.now) (key_view key) }
+    ensures { OnOk result (map (keyed_view R.held) list.new.items ≡ map (keyed_view R.held) list.old.items
+        ++ map (keyed_on (R.reading reading.now) (kind_view kind.now) shards.now (R.over domain.now)) (asked_of asked (key_view key))) }
+{
+    if !asked {
+        return Ok(());
+    }
+    push_key(alloc, reading, kind, shards, domain, key, list)?;
+    Ok(())
+}
+
+// The buckets of values.
+fn of_values<B: Drop>(
+    alloc: Global,
+    candidates: Vec<Candidate<B>>,
+) -> Result<Vec<Keyed<B>>, WantMemory>
+    ensures { IfOk result (λ list. list.items ≡ map keyed_from candidates.items) }
+{
+    let mut list = Vec::with_capacity(alloc, candidates.len())?;
+    for candidate in candidates {
+        list.push(Keyed {
+            key: Key::Value(candidate.val),
+            shards: candidate.shards,
+            bucket: candidate.bucket,
+        })?;
+    }
+    Ok(list)
+}
+
+// The buckets of the gaps, in ascending order.
+fn of_gaps<R: BucketReading>(
+    alloc: Global,
+    reading: &R,
+    kind: &Kind,
+    range: &Range,
+    shards: &[u32],
+    domain: &R::Domain,
+) -> Result<Vec<Keyed<R::Bucket>>, WantMemory>
+    requires kind { kind.now ≡ variant.Range range.now }
+    requires few { HasFewGaps (range_view range.now) }
+    requires made { R.is_for domain.now kind.now }
+    ensures { IfOk result (λ list. map (keyed_view R.held) list.items
+        ≡ map (keyed_on (R.reading reading.now) (kind_view kind.now) shards.now (R.over domain.now))
+        (map gap_key (numbers_below (gap_count (range_view range.now))))) }
+{
+    let mut list = Vec::new(alloc);
+    for gap in 0..range.gaps() {
+        push_key(
+            alloc,
+            reading,
+            kind,
+            shards,
+            domain,
+            Key::Gap(gap),
+            &mut list,
+        )?;
+    }
+    Ok(list)
+}
+
+// The printed buckets of a terms facet.
+fn keyed_terms<R: BucketReading>(
+    alloc: Global,
+    reading: &R,
+    node: &Node,
+    terms: &Terms,
+    shards: &[u32],
+    domain: &R::Domain,
+) -> Result<Vec<Keyed<R::Bucket>>, WantMemory>
+    requires made { R.is_for domain.now (kind_of node.now) }
+    requires terms { kind_of node.now ≡ variant.Terms terms.now }
+    requires distinct { AreDistinct shards.now }
+    ensures { IfOk result (λ list. map (keyed_view R.held) list.items
+        ≡ map (keyed_of (R.reading reading.now) (definition.terms (terms_view terms.now)) (inner_view node.now) shards.now (R.over domain.now))
+        (printed_keys (R.reading reading.now) (definition.terms (terms_view terms.now)) (inner_view node.now) shards.now (R.over domain.now))) }
+{
+    let stats = node.stats(alloc)?;
+    let printed = printed(alloc, reading, node, terms, &stats, shards, domain)?;
+    let mut list = of_values(alloc, printed)?;
+    push_asked(
+        alloc,
+        reading,
+        &node.kind,
+        shards,
+        domain,
+        terms.missing,
+        Key::Missing,
+        &mut list,
+    )?;
+    Ok(list)
+}
+
+// The printed buckets of a range facet.
+fn keyed_range<R: BucketReading>(
+    alloc: Global,
+    reading: &R,
+    kind: &Kind,
+    range: &Range,
+    shards: &[u32],
+    domain: &R::Domain,
+) -> Result<Vec<Keyed<R::Bucket>>, WantMemory>
+    requires kind { kind.now ≡ variant.Range range.now }
+    requires few { HasFewGaps (range_view range.now) }
+    requires made { R.is_for domain.now kind.now }
+    ensures { IfOk result (λ list. (inner : definition.Nodes) → map (keyed_view R.held) list.items
+        ≡ map (keyed_of (R.reading reading.now) (definition.range (range_view range.now)) inner shards.now (R.over domain.now))
+        (printed_keys (R.reading reading.now) (definition.range (range_view range.now)) inner shards.now (R.over domain.now))) }
+{
+    let mut list = of_gaps(alloc, reading, kind, range, shards, domain)?;
+    push_asked(
+        alloc,
+        reading,
+        kind,
+        shards,
+        domain,
+        range.before,
+        Key::Before,
+        &mut list,
+    )?;
+    push_asked(
+        alloc,
+        reading,
+        kind,
+        shards,
+        domain,
+        range.between,
+        Key::Between,
+        &mut list,
+    )?;
+    push_asked(
+        alloc,
+        reading,
+        kind,
+        shards,
+        domain,
+        range.after,
+        Key::After,
+        &mut list,
+    )?;
+    Ok(list)
+}
+
+/// The buckets that a facet prints over its domain on the shards.
+pub(crate) fn printed_buckets<R: BucketReading>(
+    alloc: Global,
+    reading: &R,
+    node: &Node,
+    shards: &[u32],
+    domain: &R::Domain,
+) -> Result<Vec<Keyed<R::Bucket>>, WantMemory>
+    requires facet { IsTrue (has_buckets (kind_of node.now)) }
+    requires countable { IsCountable (kind_view (kind_of node.now)) }
+    requires made { R.is_for domain.now (kind_of node.now) }
+    requires distinct { AreDistinct shards.now }
+    ensures buckets { IfOk result (λ list. map (keyed_view R.held) list.items
+        ≡ map (keyed_of (R.reading reading.now) (kind_view (kind_of node.now)) (inner_view node.now) shards.now (R.over domain.now))
+        (printed_keys (R.reading reading.now) (kind_view (kind_of node.now)) (inner_view node.now) shards.now (R.over domain.now))) }
+    ensures distinct { IfOk result (λ list. All (λ one. AreDistinct one.shards.items) list.items) }
+{
+    let kind = &node.kind;
+    match kind {
+        Kind::Terms(terms) => {
+            let list = keyed_terms(alloc, reading, node, terms, shards, domain)?;
+            Ok(list)
+        }
+        Kind::Range(range) => {
+            let list = keyed_range(alloc, reading, kind, range, shards, domain)?;
+            Ok(list)
+        }
+        Kind::Query(_) => {
+            let mut list = Vec::new(alloc);
+            push_key(alloc, reading, kind, shards, domain, Key::Whole, &mut list)?;
+            Ok(list)
+        }
+        Kind::Stat(_) => unreachable!(),
+    }
+}
