@@ -283,7 +283,8 @@ fn tell_root(
 }
 
 impl ToldBucket {
-    /// Puts the buckets of a shard's message where they belong. After want of memory some of them are there.
+    /// Puts the buckets of a shard's message where they belong. Each step of what was asked for names a facet of the
+    /// nodes, and one of its keys. After want of memory some of the buckets are there.
     pub fn tell(
         &mut self,
         alloc: Global,

@@ -7,6 +7,8 @@ mod law;
 mod listing;
 mod sums;
 mod teller;
+#[cfg(test)]
+mod tests;
 mod tree;
 mod ways;
 
