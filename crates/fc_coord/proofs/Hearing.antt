@@ -11,13 +11,14 @@ use Rattle.fc_spec.specs.messages.Target.{target_of, target_nodes}
 use Rattle.fc_spec.specs.messages.Held.{Told, held, told_wants, told_by}
 use Rattle.fc_spec.specs.messages.Lacks.{Lack, lacks}
 use Rattle.fc_spec.specs.messages.Rounds.{wants_of}
-use Rattle.fc_spec.specs.laws.LacksLaws.{TellOnce, way_depth, AreWithinDepth, AreOfOthers}
+use Rattle.fc_spec.specs.laws.LacksLaws.{IsFitting, TellOnce, way_depth, AreWithinDepth, AreOfOthers}
 use Rattle.fc_spec.specs.laws.SumsLaw.{SumsFit}
 use Rattle.fc_told.specs.Adding.{all_added}
 use Rattle.fc_told.specs.Fitting.{all_fit}
 use Rattle.fc_told.specs.Telling.{Tells, TellsMore, FitsExactly}
 use Rattle.fc_spec.proofs.words.Members.{Member, filter_member, member_of_filter, all_from_members, each_member}
 use Rattle.fc_spec.proofs.words.AlikeLists.{member_map}
+use Rattle.fc_spec.proofs.messages.FittingBuckets.{shaped_are_fitting}
 use Rattle.fc_spec.proofs.messages.HeldFurther.{all_append, held_among_more, held_among_later, told_held}
 use Rattle.fc_spec.proofs.messages.LacksDeep.{lack_is_deep}
 use Rattle.fc_spec.proofs.messages.ToldOnce.{told_want, first_tell_once, rounds_tell_once}
@@ -60,7 +61,7 @@ others_more : (j : ℕ) (B T : List Told) (i : ℕ) → AreOfOthers j B → AllB
 others_more j B T i b t apart = all_append (λ u. u.shard ≢ j) B T b (all_from_members (λ u. u.shard ≢ j) T (λ u m e. apart (sym e ∙ each_member (λ x. x.shard ≡ i) T u t m)))
 
 -- what is wanted of a shard lacks there
-lack_of : (i : ℕ) (all : List Lack) (w : Want) → Member w (wants_of i all) → (l : Lack) × Member l all × (w ≡ l.want)
+pub lack_of : (i : ℕ) (all : List Lack) (w : Want) → Member w (wants_of i all) → (l : Lack) × Member l all × (w ≡ l.want)
 lack_of i all w m =
     let r = member_map (λ (l : Lack). l.want) (filter (λ l. l.shard == i) all) w m in
     (r.0, (filter_member (λ (l : Lack). l.shard == i) all r.0 r.1).0, r.2)
@@ -175,6 +176,7 @@ keeps_told s A i m tells exact k ask at shaped sums =
       asking = k.asking;
       told = ap (λ B. B ++ T) k.told ∙ append_assoc k.before k.here T;
       tree = tells r s.tree A i ask m shaped k.tree (once_told s A i m k ask at) sums;
+      fitting = all_append (IsFitting offered_bound r) A T k.fitting (shaped_are_fitting offered_bound r i ask m shaped);
       sums = sums;
       once = once_told s A i m k ask at;
       begins = subst (λ z. Begins r z k.before k.asking) len k.begins;

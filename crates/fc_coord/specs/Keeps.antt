@@ -6,7 +6,8 @@ use Rattle.fc_spec.specs.messages.Message.{way_of, Ask, first, more}
 use Rattle.fc_spec.specs.messages.Held.{Told, held}
 use Rattle.fc_spec.specs.messages.Lacks.{Lack, lacks}
 use Rattle.fc_spec.specs.messages.Rounds.{wants_of}
-use Rattle.fc_spec.specs.laws.LacksLaws.{TellOnce, way_depth, AreWithinDepth, AreOfOthers}
+use Rattle.fc_spec.specs.requests.Ranks.{offered_bound}
+use Rattle.fc_spec.specs.laws.LacksLaws.{IsFitting, TellOnce, way_depth, AreWithinDepth, AreOfOthers}
 use Rattle.fc_spec.specs.laws.SumsLaw.{SumsFit}
 use Rattle.fc_told.specs.Telling.{Tells}
 use Rattle.fc_coord.specs.State.{State, ask_at}
@@ -45,13 +46,14 @@ pub record IsAsked (r : Request) (n : ℕ) (before : List Told) (round : Round) 
   pub own : ask ≡ ask_in r n before round i
   pub untold : AreOfOthers i here
 
--- A lists all that was told, in the order of its arrival: what was told before this round, and in it. The tree tells of that; its sums fit; no shard told a bucket twice
+-- A lists all that was told, in the order of its arrival: what was told before this round, and in it. The tree tells of that; what was told fits the request's nodes, and its sums fit; no shard told a bucket twice
 pub record Keeps (s : State) (A : List Told) : Type 0 where
   pub before : List Told
   pub here : List Told
   pub asking : Round
   pub told : A ≡ before ++ here
   pub tree : Tells s.tree A
+  pub fitting : AllByRecursion (IsFitting offered_bound s.request) A
   pub sums : SumsFit A
   pub once : TellOnce A
   pub begins : Begins s.request (length s.asks) before asking

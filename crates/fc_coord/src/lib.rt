@@ -1,9 +1,6 @@
 //! The coordinator of a search: whom it asks for what, round after round, and the reply that the answers make.
 #![tactic(auto)]
 
-mod reading;
-mod spot;
-mod values;
 mod asks;
 mod calls;
 mod coord;
@@ -12,7 +9,9 @@ mod fitting;
 mod reading;
 mod reply;
 mod rounds;
+mod spot;
 mod standing;
 mod taking;
+mod values;
 
 pub use coord::Coord;

@@ -18,6 +18,8 @@ use Rattle.fc_coord.proofs.AskLists.{member_at, not_ready, positive}
 use Rattle.fc_coord.proofs.Hearing.{length-heard}
 use Rattle.fc_coord.proofs.Beginning.{length-asks_for}
 use Rattle.fc_coord.proofs.Kept.{tellers_fit, heard_kept, state_after, keeps_after, kept_after, lacks_there, round_counts}
+use Rattle.fc_coord.proofs.Named.{asks_name}
+use Rattle.fc_told.specs.Named.{NamesKeys}
 use Rattle.fc_coord.proofs.StateAfter.{open_state, is_heard, next_of, follows_waiting, follows_ready, follows_round}
 use Rattle.fc_coord.proofs.coord.Coord.take.Goals as goal
 
@@ -225,3 +227,9 @@ invariant_of-self-2-clause-shards c =
 
 pub invariant_of-self-then-is_empty-clause-done : goal.invariant_of-self-then-is_empty-clause-done
 invariant_of-self-then-is_empty-clause-done c = λ _. ap (λ xs. list_any is_some (asks_view xs)) (sym c.deref-2.ensures.value) ∙ sym c.are_awaited.ensures ∙ c.if-are_awaited.false
+
+pub tell-requires : goal.tell-requires
+tell-requires c =
+    let s = state_view c.args.self.now in
+    subst (λ ns. NamesKeys ns (ask_view c.heard-ask.result)) (ap nodes_view (sym c.deref.ensures.value))
+    (asks_name s c.args.shard (ask_view c.heard-ask.result) (c.args.self.now.kept c.requires.not_spent) c.heard-ask.ensures.ask)
