@@ -1,18 +1,17 @@
 -- The next round begins, or the reply can be made.
-use Rattle.std.proofs.Common.{◌≡◌, ◌⊎◌, ℕ, zero, suc, ◌+◌, ◌<◌, ◌≤◌, ◌^◌, List, [], ◌∷◌, ◌++◌, append-nil, map, length, Bool, true, false, cond, ◌||◌, ◌==◌, Option, None, Some, is_some, is_none, IsTrue, refl, sym, ◌∙◌, ap, subst, inl, inr, arith}
-use Rattle.std.specs.List.{AllByRecursion, filter, list_any, range_with_len}
+use Rattle.std.proofs.Common.{◌≡◌, ◌⊎◌, ℕ, zero, suc, ◌+◌, ◌<◌, ◌≤◌, List, [], ◌∷◌, ◌++◌, append-nil, map, length, true, false, ◌||◌, Option, None, Some, is_some, is_none, refl, sym, ◌∙◌, ap, subst, inl, inr, arith}
+use Rattle.std.specs.List.{AllByRecursion, list_any, range_with_len}
 use Rattle.std.proofs.lemmas.Bool.{false≢true, cases_lt}
 use Rattle.std.proofs.lemmas.List.{length-map}
 use Rattle.std.proofs.lemmas.List.FromFn.{length-range_with_len}
 use Rattle.fc_spec.specs.words.Lists.{is_empty, numbers_below}
 use Rattle.fc_spec.specs.requests.Request.{Request}
-use Rattle.fc_spec.specs.messages.Message.{Way, Want, way_of, Ask, first, more}
+use Rattle.fc_spec.specs.messages.Message.{Want, way_of, Ask, first, more}
 use Rattle.fc_spec.specs.messages.Held.{Told, held}
 use Rattle.fc_spec.specs.messages.Merged.{over_held}
 use Rattle.fc_spec.specs.messages.Lacks.{Lack, wanted, lacks, untold, terms_depth}
-use Rattle.fc_spec.specs.messages.Rounds.{next_lacks, wants_of}
+use Rattle.fc_spec.specs.messages.Rounds.{wants_of}
 use Rattle.fc_spec.specs.laws.LacksLaws.{way_depth, AreWithinDepth}
-use Rattle.fc_spec.specs.laws.SumsLaw.{SumsFit}
 use Rattle.fc_told.specs.Trees.{nothing}
 use Rattle.fc_told.specs.Telling.{Tells}
 use Rattle.fc_spec.proofs.words.NumbersBelow.{member_below}
@@ -22,7 +21,7 @@ use Rattle.fc_spec.proofs.messages.Beyond.{wanted_beyond, wanted_among}
 use Rattle.fc_spec.proofs.messages.SearchEnds.{IsNext, next_is}
 use Rattle.fc_spec.proofs.messages.Ways.{none_not_some, some_exact}
 use Rattle.fc_coord.specs.State.{State, ask_at, at_start, ask_for, asks_for, begun, lacks_next, goes_on}
-use Rattle.fc_coord.specs.Keeps.{Round, roots, lacking_at, depth_of, ask_in, Begins, IsAnswered, AreAnswered, IsAsked, Keeps}
+use Rattle.fc_coord.specs.Keeps.{Round, roots, lacking_at, depth_of, ask_in, Begins, IsAnswered, AreAnswered, Keeps}
 use Rattle.fc_coord.proofs.Hearing.{want_there}
 use Rattle.fc_coord.proofs.Rising.{nothing_lacks_down_to}
 

@@ -1,8 +1,8 @@
 -- What a message of an awaited shard adds to what is kept.
-use Rattle.std.proofs.Common.{◌≡◌, ◌≢◌, ◌⊎◌, ℕ, zero, suc, ◌+◌, ◌<◌, ◌≤◌, List, [], ◌∷◌, ◌++◌, append_assoc, map, length, Bool, true, false, cond, ◌&&◌, ◌||◌, ◌==◌, Option, None, Some, is_some, IsTrue, refl, sym, ◌∙◌, ap, subst, inl, inr, arith}
+use Rattle.std.proofs.Common.{◌≡◌, ◌≢◌, ◌⊎◌, ℕ, zero, suc, List, [], ◌∷◌, ◌++◌, append_assoc, map, length, Bool, true, false, ◌&&◌, ◌||◌, ◌==◌, Option, None, Some, is_some, IsTrue, refl, sym, ◌∙◌, ap, subst, inl, inr, arith}
 use Rattle.std.specs.Prelude.{slice_set, ◌↔◌}
 use Rattle.std.specs.List.{AllByRecursion, filter}
-use Rattle.std.proofs.lemmas.Bool.{false≢true, and_parts, eq-eqb, eqb-true, cases_eq}
+use Rattle.std.proofs.lemmas.Bool.{false≢true, and_parts, eq-eqb, cases_eq}
 use Rattle.fc_spec.specs.requests.Request.{Nodes, Request}
 use Rattle.fc_spec.specs.requests.Ranks.{offered_bound}
 use Rattle.fc_spec.specs.messages.Message.{Partials, no_partials, partial, Want, way_of, Ask, first, more}
@@ -11,20 +11,22 @@ use Rattle.fc_spec.specs.messages.Target.{target_of, target_nodes}
 use Rattle.fc_spec.specs.messages.Held.{Told, held, told_wants, told_by}
 use Rattle.fc_spec.specs.messages.Lacks.{Lack, lacks}
 use Rattle.fc_spec.specs.messages.Rounds.{wants_of}
-use Rattle.fc_spec.specs.laws.LacksLaws.{IsFitting, TellOnce, way_depth, AreWithinDepth, AreOfOthers}
+use Rattle.fc_spec.specs.laws.LacksLaws.{names_keys, IsThere, IsFitting, TellOnce, way_depth, AreOfOthers}
 use Rattle.fc_spec.specs.laws.SumsLaw.{SumsFit}
 use Rattle.fc_told.specs.Adding.{all_added}
 use Rattle.fc_told.specs.Fitting.{all_fit}
-use Rattle.fc_told.specs.Telling.{Tells, TellsMore, FitsExactly}
+use Rattle.fc_told.specs.Named.{NamesKeys}
+use Rattle.fc_told.specs.Telling.{TellsMore, FitsExactly}
 use Rattle.fc_spec.proofs.words.Members.{Member, filter_member, member_of_filter, all_from_members, each_member}
 use Rattle.fc_spec.proofs.words.AlikeLists.{member_map}
-use Rattle.fc_spec.proofs.messages.FittingBuckets.{shaped_are_fitting}
 use Rattle.fc_spec.proofs.messages.HeldFurther.{all_append, held_among_more, held_among_later, told_held}
+use Rattle.fc_spec.proofs.messages.FittingBuckets.{shaped_are_fitting}
+use Rattle.fc_spec.proofs.messages.LacksThere.{lacks_are_there}
 use Rattle.fc_spec.proofs.messages.LacksDeep.{lack_is_deep}
 use Rattle.fc_spec.proofs.messages.ToldOnce.{told_want, first_tell_once, rounds_tell_once}
-use Rattle.fc_spec.proofs.messages.Ways.{none_not_some, some_exact}
+use Rattle.fc_spec.proofs.messages.Ways.{none_not_some}
 use Rattle.fc_coord.specs.State.{State, ask_at, is_awaited, told_for, told_of, is_shaped_for, is_fitting, Fits, heard}
-use Rattle.fc_coord.specs.Keeps.{Round, roots, lacking_at, depth_of, ask_in, Begins, IsAnswered, AreAnswered, IsAsked, Keeps}
+use Rattle.fc_coord.specs.Keeps.{Round, roots, lacking_at, depth_of, ask_in, Begins, IsAnswered, AreAnswered, Keeps}
 
 -- ---- the asks, once a shard is heard
 
@@ -61,7 +63,7 @@ others_more : (j : ℕ) (B T : List Told) (i : ℕ) → AreOfOthers j B → AllB
 others_more j B T i b t apart = all_append (λ u. u.shard ≢ j) B T b (all_from_members (λ u. u.shard ≢ j) T (λ u m e. apart (sym e ∙ each_member (λ x. x.shard ≡ i) T u t m)))
 
 -- what is wanted of a shard lacks there
-pub lack_of : (i : ℕ) (all : List Lack) (w : Want) → Member w (wants_of i all) → (l : Lack) × Member l all × (w ≡ l.want)
+lack_of : (i : ℕ) (all : List Lack) (w : Want) → Member w (wants_of i all) → (l : Lack) × Member l all × (w ≡ l.want)
 lack_of i all w m =
     let r = member_map (λ (l : Lack). l.want) (filter (λ l. l.shard == i) all) w m in
     (r.0, (filter_member (λ (l : Lack). l.shard == i) all r.0 r.1).0, r.2)
@@ -195,3 +197,23 @@ heard_keeps s A i m tells exact k awaited fits =
     let f : IsTrue (is_shaped s.request a.0 m && all_fit s.tree (told_by s.request.nodes i a.0 m)) = ap (λ o. is_shaped_for s.request o m && all_fit s.tree (told_for s.request.nodes i o m)) (sym a.1) ∙ fits in
     let both = (fits_of_ask s A i m exact k a.0 a.1).0 f in
     subst (λ o. Keeps (heard_by s i (told_for s.request.nodes i o m)) (A ++ told_for s.request.nodes i o m)) (sym a.1) (keeps_told s A i m tells exact k a.0 a.1 both.0 both.1)
+
+-- ---- what is asked is there
+
+left_all : {X : Type 0} (P : X → Type 0) (xs ys : List X) → AllByRecursion P (xs ++ ys) → AllByRecursion P xs
+left_all P [] ys all = tt
+left_all P (x ∷ xs) ys all = (all.0, left_all P xs ys all.1)
+
+ask_names : (r : Request) (n : ℕ) (before : List Told) (round : Round) (i : ℕ) → AllByRecursion (IsFitting offered_bound r) before → NamesKeys r.nodes (ask_in r n before round i)
+ask_names r n before roots i fitting = tt
+ask_names r n before (lacking_at e) i fitting =
+    all_from_members (λ w. IsTrue (names_keys r.nodes (way_of w))) (wants_of i (lacks r n before e))
+    (λ w there.
+    let l = lack_of i (lacks r n before e) w there in
+    let own = each_member (IsThere r n) (lacks r n before e) l.0 (lacks_are_there offered_bound r n before e fitting) l.1 in
+    ap (λ v. names_keys r.nodes (way_of v)) l.2 ∙ own.keys)
+
+pub asks_name_keys : (s : State) (A : List Told) (i : ℕ) (ask : Ask) → Keeps s A → ask_at s.asks i ≡ Some ask → NamesKeys s.request.nodes ask
+asks_name_keys s A i ask k at =
+    subst (NamesKeys s.request.nodes) (sym (k.asked i ask at).own)
+    (ask_names s.request (length s.asks) k.before k.asking i (left_all (IsFitting offered_bound s.request) k.before k.here (subst (AllByRecursion (IsFitting offered_bound s.request)) k.told k.fitting)))

@@ -1,28 +1,30 @@
 -- What is kept behind a message.
-use Rattle.std.proofs.Common.{◌≡◌, ℕ, zero, suc, ◌+◌, ◌<◌, ◌≤◌, List, [], ◌∷◌, ◌++◌, length, Bool, true, false, cond, ◌==◌, Option, is_some, is_none, IsTrue, refl, sym, ◌∙◌, ap, subst, arith}
+use Rattle.std.proofs.Common.{◌≡◌, ℕ, zero, suc, ◌<◌, ◌≤◌, List, [], ◌∷◌, ◌++◌, length, Bool, true, false, cond, Some, is_some, is_none, IsTrue, refl, sym, ◌∙◌, ap, subst, arith}
 use Rattle.std.proofs.Math.Logic.{∥∥₁_elim, ∥∥₁_map}
 use Rattle.std.proofs.Props.{props}
-use Rattle.std.specs.Coded.{le_prop}
-use Rattle.std.specs.List.{list_any, filter}
+use Rattle.std.specs.Coded.{le_prop, Unit-prop}
+use Rattle.std.specs.List.{list_any, AllByRecursion-prop}
 use Rattle.std.proofs.lemmas.Bool.{false≢true, ne_eqb}
 use Rattle.fc_spec.specs.words.Lists.{is_empty, numbers_below}
-use Rattle.fc_spec.specs.requests.Request.{Request}
-use Rattle.fc_spec.specs.messages.Message.{Partials, way_of}
+use Rattle.fc_spec.specs.requests.Request.{Nodes, Request}
+use Rattle.fc_spec.specs.messages.Message.{Partials, way_of, Ask, first, more}
+use Rattle.fc_spec.specs.laws.LacksLaws.{names_keys}
 use Rattle.fc_spec.specs.messages.Held.{Told, held}
 use Rattle.fc_spec.specs.messages.Merged.{over_held}
 use Rattle.fc_spec.specs.messages.Lacks.{Lack, wanted, lacks, terms_depth}
 use Rattle.fc_spec.specs.messages.Rounds.{next_lacks}
 use Rattle.fc_told.specs.Trees.{Tree}
+use Rattle.fc_told.specs.Named.{NamesKeys}
 use Rattle.fc_told.specs.Telling.{Tells, TellsMore, FitsExactly, SumsOfTellers, TellersFit}
 use Rattle.fc_spec.proofs.words.NumbersBelow.{member_below}
 use Rattle.fc_spec.proofs.words.Members.{Member, filter_member}
 use Rattle.fc_spec.proofs.messages.Beyond.{wanted_among}
-use Rattle.fc_coord.specs.State.{State, asks_for, begun, lacks_next, goes_on, heard, told_of, is_awaited, is_fitting, taken}
+use Rattle.fc_coord.specs.State.{State, ask_at, asks_for, begun, lacks_next, goes_on, heard, told_of, is_awaited, is_fitting, taken}
 use Rattle.fc_coord.specs.Keeps.{Keeps}
 use Rattle.fc_coord.specs.View.{IsKept, is_ready, is_spent}
 use Rattle.fc_coord.specs.declared.standing.Standing.{Standing}
 use Rattle.fc_coord.specs.declared.standing.Standing.TheVariants.{Open, Ready, Spent}
-use Rattle.fc_coord.proofs.Hearing.{heard_keeps}
+use Rattle.fc_coord.proofs.Hearing.{heard_keeps, asks_name_keys}
 use Rattle.fc_coord.proofs.Beginning.{has_begun}
 
 pub ready_not_spent : (s : Standing) → is_ready s ≡ true → is_spent s ≡ false
@@ -110,3 +112,12 @@ lacks_there s all kept next l m = ∥∥₁_elim kept le_prop (λ k. next_below 
 -- and its round can be counted
 pub round_counts : (s : State) (all : List Lack) → ∥ IsKept s ∥₁ → list_any is_some s.asks ≡ false → IsNextOf s all → 0 < length all → s.round ≤ terms_depth s.request.nodes
 round_counts s all kept none next some = ∥∥₁_elim kept le_prop (λ k. (has_begun s k.0 k.1 none).counted (ap is_empty (sym (next k.0 k.1.tree)) ∙ some_length all some))
+
+-- ---- what is asked
+
+names_one : (nodes : Nodes) (ask : Ask) → IsProp (NamesKeys nodes ask)
+names_one nodes first = Unit-prop
+names_one nodes (more wants) = AllByRecursion-prop (λ w. IsTrue (names_keys nodes (way_of w))) (λ w. hlevel props) wants
+
+pub kept_names : (s : State) (i : ℕ) (ask : Ask) (nodes : Nodes) → ∥ IsKept s ∥₁ → ask_at s.asks i ≡ Some ask → nodes ≡ s.request.nodes → NamesKeys nodes ask
+kept_names s i ask nodes kept at same = subst (λ ns. NamesKeys ns ask) (sym same) (∥∥₁_elim kept (names_one s.request.nodes ask) (λ k. asks_name_keys s k.0 i ask k.1 at))

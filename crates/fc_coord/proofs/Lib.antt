@@ -5,7 +5,6 @@ pub mod WantedAlike
 pub mod Rising
 pub mod Hearing
 pub mod Beginning
-pub mod Named
 pub mod Kept
 pub mod StateAfter
 pub mod ShardLists

@@ -1,5 +1,5 @@
 -- Once what lacked at a depth is told, nothing lacks down to that depth, whatever was told of it.
-use Rattle.std.proofs.Common.{◌≡◌, ◌⊎◌, ℕ, suc, ◌+◌, ◌<◌, ◌≤◌, List, [], ◌∷◌, ◌++◌, Bool, true, false, cond, ◌==◌, Option, None, Some, is_some, is_none, refl, sym, ◌∙◌, ap, subst, inl, inr, arith}
+use Rattle.std.proofs.Common.{◌≡◌, ◌⊎◌, ℕ, suc, ◌<◌, ◌≤◌, List, [], ◌∷◌, ◌++◌, Bool, true, false, cond, ◌==◌, Option, None, Some, is_some, is_none, refl, sym, ◌∙◌, ap, subst, inl, inr, arith}
 use Rattle.std.specs.List.{AllByRecursion}
 use Rattle.std.specs.Option.{option_and_then}
 use Rattle.std.proofs.lemmas.Bool.{false≢true, cases_lt}
@@ -8,7 +8,7 @@ use Rattle.fc_spec.specs.requests.Request.{Request}
 use Rattle.fc_spec.specs.requests.Paths.{at_root}
 use Rattle.fc_spec.specs.messages.Message.{Way, way_of}
 use Rattle.fc_spec.specs.messages.Target.{leads_to}
-use Rattle.fc_spec.specs.messages.Held.{HeldBucket, Told, descend, behind, held_in, held, or_else}
+use Rattle.fc_spec.specs.messages.Held.{HeldBucket, Told, descend, behind, held, or_else}
 use Rattle.fc_spec.specs.messages.Merged.{over_held}
 use Rattle.fc_spec.specs.messages.Lacks.{Lack, wanted, lacks, untold}
 use Rattle.fc_spec.specs.laws.LacksLaws.{way_depth}

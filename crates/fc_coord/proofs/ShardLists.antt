@@ -1,7 +1,7 @@
 -- Lists of something for each shard.
 use Rattle.std.proofs.Common.{◌≡◌, ℕ, zero, suc, ◌+◌, ◌<◌, List, [], ◌∷◌, ◌++◌, append_assoc, append-nil, map, length, Bool, true, false, cond, ◌==◌, refl, sym, ◌∙◌, ap, arith}
 use Rattle.std.specs.List.{range_with_len, filter}
-use Rattle.std.proofs.lemmas.Bool.{eqb-true, eq-eqb, ne_eqb}
+use Rattle.std.proofs.lemmas.Bool.{eq-eqb, ne_eqb}
 use Rattle.fc_spec.specs.messages.Message.{Want}
 use Rattle.fc_spec.specs.messages.Lacks.{Lack}
 use Rattle.fc_spec.specs.messages.Rounds.{wants_of}

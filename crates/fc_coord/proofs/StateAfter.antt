@@ -1,8 +1,8 @@
 -- The state behind a message, part by part.
-use Rattle.std.proofs.Common.{◌≡◌, ℕ, suc, ◌+◌, ◌<◌, List, [], length, map, Bool, true, false, Option, Some, None, is_some, refl, sym, ◌∙◌, ap, subst, arith}
+use Rattle.std.proofs.Common.{◌≡◌, ℕ, suc, ◌+◌, ◌<◌, List, [], length, true, false, Option, Some, None, is_some, sym, ◌∙◌, ap, subst, arith}
 use Rattle.std.specs.Prelude.{slice_set}
 use Rattle.std.specs.List.{list_any}
-use Rattle.fc_spec.specs.requests.Request.{Nodes, Request}
+use Rattle.fc_spec.specs.requests.Request.{Nodes}
 use Rattle.fc_spec.specs.messages.Message.{Partials, Ask}
 use Rattle.fc_spec.specs.messages.Held.{Told, told_by}
 use Rattle.fc_spec.specs.messages.Lacks.{Lack, terms_depth}

@@ -10,15 +10,15 @@ use Rattle.fc_spec.specs.requests.Ranks.{Entry, below_rank}
 use Rattle.fc_spec.specs.requests.Statistics.{Stats, combined_value}
 use Rattle.fc_spec.specs.requests.Shape.{asks_again}
 use Rattle.fc_spec.specs.replies.Reading.{stats_on}
-use Rattle.fc_spec.specs.replies.Chosen.{candidates, offering, entry_on, chosen, chosen_bound, known, chosen_entries}
+use Rattle.fc_spec.specs.replies.Chosen.{candidates, offering, entry_on, chosen, chosen_bound, known}
 use Rattle.fc_spec.specs.replies.Printed.{terms_keys}
 use Rattle.fc_spec.specs.replies.Distributed.{printed_keys, carried}
 use Rattle.fc_spec.specs.messages.KeyOrder.{same_key}
 use Rattle.fc_spec.specs.messages.Message.{Partials, no_partials, partial, Way}
-use Rattle.fc_spec.specs.messages.Target.{leads_to, target_nodes, target_from, facet_at, nodes_in}
+use Rattle.fc_spec.specs.messages.Target.{leads_to, facet_at, nodes_in}
 use Rattle.fc_spec.specs.messages.Held.{HeldBucket, Told, held, find_key, row_at, listed_value, listed_values}
 use Rattle.fc_spec.specs.messages.Merged.{held_count, held_value, count_held, value_held, values_held, over_held}
-use Rattle.fc_spec.specs.messages.Lacks.{Lack, want_of, each_of, facet_wanted, wanted, own_depth}
+use Rattle.fc_spec.specs.messages.Lacks.{want_of, each_of, facet_wanted, wanted, own_depth}
 use Rattle.fc_spec.specs.laws.LacksLaws.{step_depth, way_depth}
 use Rattle.fc_spec.proofs.documents.ValOrder.{same_val_exact}
 use Rattle.fc_spec.proofs.words.Members.{Member, filter_member}

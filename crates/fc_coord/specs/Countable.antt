@@ -1,5 +1,5 @@
 -- That the gaps of ranges can be counted is shown in one way alone.
-use Rattle.std.specs.Coded.{×_prop, Unit-prop}
+use Rattle.std.specs.Coded.{Unit-prop}
 use Rattle.std.proofs.Props.{props}
 use Rattle.fc_spec.specs.requests.Request.{Kind, terms, range, query, Nodes, no_nodes, statistic, facet}
 use Rattle.fc_refine.specs.CountableRanges.{IsCountable, AreCountable}

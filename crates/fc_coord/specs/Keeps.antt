@@ -1,12 +1,12 @@
 -- What the state of a coordinator keeps of all that was told.
 use Rattle.std.specs.Prelude.{◌≡◌, ℕ, suc, ◌+◌, ◌<◌, ◌≤◌, List, [], ◌++◌, length, ◌||◌, IsTrue, is_some, Option, Some}
 use Rattle.std.specs.List.{AllByRecursion}
-use Rattle.fc_spec.specs.requests.Request.{Nodes, Request}
+use Rattle.fc_spec.specs.requests.Request.{Request}
+use Rattle.fc_spec.specs.requests.Ranks.{offered_bound}
 use Rattle.fc_spec.specs.messages.Message.{way_of, Ask, first, more}
 use Rattle.fc_spec.specs.messages.Held.{Told, held}
 use Rattle.fc_spec.specs.messages.Lacks.{Lack, lacks}
 use Rattle.fc_spec.specs.messages.Rounds.{wants_of}
-use Rattle.fc_spec.specs.requests.Ranks.{offered_bound}
 use Rattle.fc_spec.specs.laws.LacksLaws.{IsFitting, TellOnce, way_depth, AreWithinDepth, AreOfOthers}
 use Rattle.fc_spec.specs.laws.SumsLaw.{SumsFit}
 use Rattle.fc_told.specs.Telling.{Tells}
@@ -46,7 +46,7 @@ pub record IsAsked (r : Request) (n : ℕ) (before : List Told) (round : Round) 
   pub own : ask ≡ ask_in r n before round i
   pub untold : AreOfOthers i here
 
--- A lists all that was told, in the order of its arrival: what was told before this round, and in it. The tree tells of that; what was told fits the request's nodes, and its sums fit; no shard told a bucket twice
+-- A lists all that was told, in the order of its arrival: what was told before this round, and in it. The tree tells of that; each bucket has the nodes where its way leads, and their shape; its sums fit; no shard told a bucket twice
 pub record Keeps (s : State) (A : List Told) : Type 0 where
   pub before : List Told
   pub here : List Told

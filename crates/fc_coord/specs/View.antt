@@ -15,7 +15,7 @@ use Rattle.fc_told.specs.declared.tree.ToldBucket.{ToldBucket}
 use Rattle.fc_coord.specs.State.{State}
 use Rattle.fc_coord.specs.Keeps.{Keeps}
 use Rattle.fc_coord.specs.declared.standing.Standing.{Standing}
-use Rattle.fc_coord.specs.declared.standing.Standing.TheVariants.{Open, Ready, Spent}
+use Rattle.fc_coord.specs.declared.standing.Standing.TheVariants.{Ready, Spent}
 
 abbrev pub is_ready : Standing → Bool
 is_ready Ready = true

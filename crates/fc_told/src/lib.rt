@@ -7,8 +7,6 @@ mod law;
 mod listing;
 mod sums;
 mod teller;
-#[cfg(test)]
-mod tests;
 mod tree;
 mod ways;
 

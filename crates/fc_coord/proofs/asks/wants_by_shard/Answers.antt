@@ -1,4 +1,4 @@
-use Rattle.std.proofs.Common.{◌≡◌, ◌<◌, [], ◌∷◌, map, length, get_or, sym, ◌∙◌, ap, subst, All, arith}
+use Rattle.std.proofs.Common.{◌≡◌, ◌<◌, [], map, length, sym, ◌∙◌, ap, subst, All, arith}
 use Rattle.std.proofs.lemmas.List.{length-map, nil_from_length}
 use Rattle.std.proofs.lemmas.List.FromFn.{length-range_with_len}
 use Rattle.std.proofs.lemmas.List.Elements.{All-rest}

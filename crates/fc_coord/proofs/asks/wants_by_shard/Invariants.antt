@@ -1,5 +1,4 @@
 use Rattle.std.proofs.Common.{◌≡◌, ◌<◌, All, map, length}
-use Rattle.std.specs.Prelude.{vec_len}
 use Rattle.fc_spec.specs.messages.Rounds.{wants_of}
 use Rattle.fc_spec.specs.words.Lists.{numbers_below}
 use Rattle.fc_reading.specs.LackView.{lack_view}

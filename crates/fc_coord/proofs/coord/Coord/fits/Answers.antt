@@ -1,6 +1,5 @@
-use Rattle.std.proofs.Common.{◌≡◌, ◌&&◌, ◌∙◌, sym, ap, subst, IsTrue, true}
+use Rattle.std.proofs.Common.{◌≡◌, ◌&&◌, ◌∙◌, sym, ap, subst, IsTrue}
 use Rattle.std.specs.Prelude.{◌↔◌}
-use Rattle.fc_spec.specs.messages.MessageShape.{is_shaped}
 use Rattle.fc_spec.specs.messages.Held.{told_by}
 use Rattle.fc_partial.specs.BucketView.{message_view}
 use Rattle.fc_request.specs.NodeView.{nodes_view}

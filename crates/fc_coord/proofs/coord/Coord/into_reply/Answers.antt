@@ -1,4 +1,3 @@
-use Rattle.fc_coord.specs.View.{state_of}
 use Rattle.fc_coord.specs.CoordView.{state_view}
 use Rattle.fc_coord.proofs.Kept.{ready_not_spent, tellers_fit}
 use Rattle.fc_coord.proofs.coord.Coord.into_reply.Goals as goal

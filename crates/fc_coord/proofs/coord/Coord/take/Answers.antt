@@ -1,4 +1,4 @@
-use Rattle.std.proofs.Common.{◌≡◌, ℕ, ◌+◌, ◌<◌, ◌≤◌, ◌^◌, ◌==◌, List, [], map, length, get_or, true, false, is_some, Option, refl, sym, ◌∙◌, ap, subst, arith}
+use Rattle.std.proofs.Common.{◌≡◌, ◌+◌, ◌<◌, ◌≤◌, ◌==◌, [], map, length, get_or, true, false, is_some, refl, sym, ◌∙◌, ap, subst, arith}
 use Rattle.std.specs.Prelude.{option_map}
 use Rattle.std.specs.List.{list_any}
 use Rattle.std.proofs.lemmas.Bool.{eqb-true}
@@ -8,7 +8,6 @@ use Rattle.fc_partial.specs.BucketView.{message_view}
 use Rattle.fc_request.specs.NodeView.{nodes_view}
 use Rattle.fc_refine.specs.AskView.{ask_view}
 use Rattle.fc_reading.specs.LackView.{lack_view}
-use Rattle.fc_reading.specs.declared.lacks.Lack.{Lack}
 use Rattle.fc_told.specs.Telling.{TellersFit}
 use Rattle.fc_told.specs.TreeView.{tree_view}
 use Rattle.fc_coord.specs.State.{State, heard}
@@ -17,9 +16,7 @@ use Rattle.fc_coord.specs.CoordView.{state_view}
 use Rattle.fc_coord.proofs.AskLists.{member_at, not_ready, positive}
 use Rattle.fc_coord.proofs.Hearing.{length-heard}
 use Rattle.fc_coord.proofs.Beginning.{length-asks_for}
-use Rattle.fc_coord.proofs.Kept.{tellers_fit, heard_kept, state_after, keeps_after, kept_after, lacks_there, round_counts}
-use Rattle.fc_coord.proofs.Named.{asks_name}
-use Rattle.fc_told.specs.Named.{NamesKeys}
+use Rattle.fc_coord.proofs.Kept.{tellers_fit, heard_kept, kept_names, state_after, keeps_after, kept_after, lacks_there, round_counts}
 use Rattle.fc_coord.proofs.StateAfter.{open_state, is_heard, next_of, follows_waiting, follows_ready, follows_round}
 use Rattle.fc_coord.proofs.coord.Coord.take.Goals as goal
 
@@ -231,5 +228,4 @@ invariant_of-self-then-is_empty-clause-done c = λ _. ap (λ xs. list_any is_som
 pub tell-requires : goal.tell-requires
 tell-requires c =
     let s = state_view c.args.self.now in
-    subst (λ ns. NamesKeys ns (ask_view c.heard-ask.result)) (ap nodes_view (sym c.deref.ensures.value))
-    (asks_name s c.args.shard (ask_view c.heard-ask.result) (c.args.self.now.kept c.requires.not_spent) c.heard-ask.ensures.ask)
+    kept_names s c.args.shard (ask_view c.heard-ask.result) (nodes_view c.deref.result.now) (c.args.self.now.kept c.requires.not_spent) c.heard-ask.ensures.ask (ap nodes_view c.deref.ensures.value)
