@@ -260,7 +260,7 @@ const ROWS: [Row; 14] = [
     },
 ];
 
-fn holds_integers(segment: &Segment, field: FieldId) -> bool
+pub(super) fn holds_integers(segment: &Segment, field: FieldId) -> bool
     requires { field.0 < length segment.now.texts }
     ensures { result ≡ true → slice_index_or segment.now.texts field.0 false ≡ false }
 {
@@ -270,7 +270,7 @@ fn holds_integers(segment: &Segment, field: FieldId) -> bool
     }
 }
 
-fn has_few_gaps(range: &Range) -> bool
+pub(super) fn has_few_gaps(range: &Range) -> bool
     ensures { result ≡ true → HasFewGaps (range_view range.now) }
 {
     if range.end < range.start || range.gap < 1 {
@@ -288,7 +288,7 @@ fn fits(segment: &Segment, range: &Range) -> bool
     range.field.0 < 2 && holds_integers(segment, range.field) && has_few_gaps(range)
 }
 
-fn is_key(range: &Range, key: &Key) -> bool
+pub(super) fn is_key(range: &Range, key: &Key) -> bool
     requires { HasFewGaps (range_view range.now) }
     ensures { result ≡ is_range_key (range_view range.now) (key_view key.now) }
 {
@@ -383,12 +383,12 @@ fn buckets_of(alloc: Global, row: &Row) -> Result<Vec<(Key, &'static [u32])>, Fa
     Ok(buckets)
 }
 
-fn count_of(tally: &Tally, key: &Key) -> Option<u64> {
+pub(super) fn count_of(tally: &Tally, key: &Key) -> Option<u64> {
     Some(tally.get(key)?.count)
 }
 
 // A bucket is in the tally where it has a document.
-fn check_bucket(
+pub(super) fn check_bucket(
     rt: &impl Abort,
     found: &[u32],
     wanted: &[u32],

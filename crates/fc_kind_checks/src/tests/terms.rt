@@ -114,7 +114,7 @@ const ROWS: [Row; 9] = [
     },
 ];
 
-fn holds_texts(segment: &Segment, field: FieldId) -> bool
+pub(super) fn holds_texts(segment: &Segment, field: FieldId) -> bool
     requires { field.0 < length segment.now.texts }
     ensures { result ≡ slice_index_or segment.now.texts field.0 false }
 {
@@ -275,7 +275,7 @@ fn key_of(alloc: Global, bucket: Bucket) -> Result<Key, Fail> {
 }
 
 // Whether it is a key of the facet, which has no prefix.
-fn is_key(terms: &Terms, key: &Key) -> bool
+pub(super) fn is_key(terms: &Terms, key: &Key) -> bool
     requires { terms.now.prefix ≡ None }
     ensures { result ≡ is_terms_key (terms_view terms.now) (key_view key.now) }
 {

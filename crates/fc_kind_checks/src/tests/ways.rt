@@ -1,0 +1,343 @@
+// Facets with statistics, of the same documents beside few values and beside many, which are counted in other ways.
+use super::asking::{collected, node_of, segment_from, terms_of};
+use super::terms::{CAT, N};
+use fc_base::{FieldId, Stat, StatKind, Val};
+use fc_facet::{Kind, Range};
+use fc_kind::FacetKind;
+use fc_partial::{Key, PartialBucket, StatValue};
+use fc_range::RangeKind;
+use fc_terms::TermsKind;
+use std::alloc::Global;
+use std::fmt::Write;
+use std::process::Abort;
+use std::test::Fail;
+
+// What is asked of each bucket.
+const STATS: [Stat; 5] = [
+    Stat {
+        of: StatKind::Sum,
+        field: FieldId(N),
+    },
+    Stat {
+        of: StatKind::Min,
+        field: FieldId(N),
+    },
+    Stat {
+        of: StatKind::Max,
+        field: FieldId(N),
+    },
+    Stat {
+        of: StatKind::CountVals,
+        field: FieldId(CAT),
+    },
+    Stat {
+        of: StatKind::Missing,
+        field: FieldId(N),
+    },
+];
+
+// Gaps from 0 and 3 on, and every bucket beside them.
+const GAPS: Range = Range {
+    field: FieldId(N),
+    start: 0,
+    end: 6,
+    gap: 3,
+    hardend: false,
+    before: true,
+    after: true,
+    between: true,
+    lower: true,
+    upper: false,
+    edge: false,
+    outer: false,
+};
+
+// The children at the positions 0 to 4.
+const FIVE: &str = r#"{"id":"0","cat":["a","b"],"n":[1,3]},{"id":"1","cat":"b"},
+    {"id":"2","cat":["ba","c"],"n":[-2,3]},{"id":"3","n":5},{"id":"4","cat":"b","n":[3,7]}"#;
+
+// Children at the positions 0 and 1, with integers 72 apart, and 73.
+const NEAR: &str = r#"{"id":"0","n":-36},{"id":"1","n":[0,36]}"#;
+
+const NEXT: &str = r#"{"id":"0","n":-36},{"id":"1","n":[0,37]}"#;
+
+// The ends of 64 bits, alone and beside another integer.
+const LEAST: &str = r#"{"id":"0","n":-9223372036854775807},{"id":"1"}"#;
+
+const GREATEST: &str = r#"{"id":"0","n":9223372036854775807},{"id":"1"}"#;
+
+const LEAST_AND_ZERO: &str = r#"{"id":"0","n":[-9223372036854775807,0]},{"id":"1","n":0}"#;
+
+const GREATEST_AND_ZERO: &str = r#"{"id":"0","n":[0,9223372036854775807]},{"id":"1","n":0}"#;
+
+// A terms facet, or the range facet over the gaps.
+#[derive(Clone, Copy)]
+enum Facet {
+    Terms {
+        field: u16,
+        prefix: Option<&'static str>,
+        missing: bool,
+    },
+    Gaps,
+}
+
+// A facet of all documents but the parent, and what is collected of those at these positions.
+struct Row {
+    children: &'static str,
+    facet: Facet,
+    docs: &'static [u32],
+    wanted: &'static str,
+}
+
+const CATS: Facet = Facet::Terms {
+    field: CAT,
+    prefix: None,
+    missing: true,
+};
+
+const LONGS: Facet = Facet::Terms {
+    field: N,
+    prefix: None,
+    missing: true,
+};
+
+// Each bucket with its count, and with the sum, the least and the greatest of its integers, with how many texts it has
+// and with how many documents have no integer.
+const BOTH: [Row; 7] = [
+    Row {
+        children: FIVE,
+        facet: CATS,
+        docs: &[0, 1, 2, 3, 4],
+        wanted: "a 1: 4 1 3 2 0; b 3: 14 1 7 4 1; ba 1: 1 -2 3 2 0; c 1: 1 -2 3 2 0; \
+            missing 1: 5 5 5 0 0; ",
+    },
+    Row {
+        children: FIVE,
+        facet: Facet::Terms {
+            field: CAT,
+            prefix: Some("b"),
+            missing: false,
+        },
+        docs: &[1, 2, 3, 4],
+        wanted: "b 2: 10 3 7 2 1; ba 1: 1 -2 3 2 0; ",
+    },
+    Row {
+        children: FIVE,
+        facet: CATS,
+        docs: &[1],
+        wanted: "b 1: 0 - - 1 1; ",
+    },
+    Row {
+        children: FIVE,
+        facet: CATS,
+        docs: &[],
+        wanted: "",
+    },
+    Row {
+        children: FIVE,
+        facet: LONGS,
+        docs: &[0, 1, 2, 3, 4],
+        wanted: "-2 1: 1 -2 3 2 0; 1 1: 4 1 3 2 0; 3 3: 15 -2 7 5 0; 5 1: 5 5 5 0 0; \
+            7 1: 10 3 7 1 0; missing 1: 0 - - 1 1; ",
+    },
+    Row {
+        children: FIVE,
+        facet: LONGS,
+        docs: &[1],
+        wanted: "missing 1: 0 - - 1 1; ",
+    },
+    Row {
+        children: FIVE,
+        facet: LONGS,
+        docs: &[],
+        wanted: "",
+    },
+];
+
+// Integers beside each other and far apart.
+const APART: [Row; 7] = [
+    Row {
+        children: NEAR,
+        facet: LONGS,
+        docs: &[0, 1],
+        wanted: "-36 1: -36 -36 -36 0 0; 0 1: 36 0 36 0 0; 36 1: 36 0 36 0 0; ",
+    },
+    Row {
+        children: NEXT,
+        facet: LONGS,
+        docs: &[0, 1],
+        wanted: "-36 1: -36 -36 -36 0 0; 0 1: 37 0 37 0 0; 37 1: 37 0 37 0 0; ",
+    },
+    Row {
+        children: LEAST,
+        facet: LONGS,
+        docs: &[0],
+        wanted: "-9223372036854775807 1: -9223372036854775807 -9223372036854775807 -9223372036854775807 0 0; ",
+    },
+    Row {
+        children: GREATEST,
+        facet: LONGS,
+        docs: &[0, 1],
+        wanted: "9223372036854775807 1: 9223372036854775807 9223372036854775807 9223372036854775807 0 0; \
+            missing 1: 0 - - 0 1; ",
+    },
+    Row {
+        children: LEAST_AND_ZERO,
+        facet: LONGS,
+        docs: &[0, 1],
+        wanted: "-9223372036854775807 1: -9223372036854775807 -9223372036854775807 0 0 0; \
+            0 2: -9223372036854775807 -9223372036854775807 0 0 0; ",
+    },
+    Row {
+        children: GREATEST_AND_ZERO,
+        facet: LONGS,
+        docs: &[0, 1],
+        wanted: "0 2: 9223372036854775807 0 9223372036854775807 0 0; \
+            9223372036854775807 1: 9223372036854775807 0 9223372036854775807 0 0; ",
+    },
+    Row {
+        children: GREATEST_AND_ZERO,
+        facet: LONGS,
+        docs: &[1],
+        wanted: "0 1: 0 0 0 0 0; ",
+    },
+];
+
+const IN_GAPS: [Row; 2] = [
+    Row {
+        children: FIVE,
+        facet: Facet::Gaps,
+        docs: &[0, 1, 2, 3, 4],
+        wanted: "gap 0 1: 4 1 3 2 0; gap 1 4: 20 -2 7 5 0; before 1: 1 -2 3 2 0; \
+            between 4: 20 -2 7 5 0; after 1: 10 3 7 1 0; ",
+    },
+    Row {
+        children: GREATEST,
+        facet: Facet::Gaps,
+        docs: &[0, 1],
+        wanted: "after 1: 9223372036854775807 9223372036854775807 9223372036854775807 0 0; ",
+    },
+];
+
+// So many texts that begin with b, with one more, and two integers far from all others.
+fn many_values(alloc: Global, count: u32) -> Result<String, Fail> {
+    let mut text = String::from_str(alloc, r#""n":[-1000000000000,1000000000000],"cat":["bb""#)?;
+    for number in 0..count {
+        write!(text, r#","b{number}""#)?;
+    }
+    text.push_str("],")?;
+    Ok(text)
+}
+
+// The block with these children, and with these members of its parent.
+fn block_of(alloc: Global, children: &str, members: &str) -> Result<String, Fail> {
+    let mut text = String::new(alloc);
+    write!(
+        text,
+        r#"{{"id":"parent",{members}"_childDocuments_":[{children}]}}"#
+    )?;
+    Ok(text)
+}
+
+fn kind_of(alloc: Global, facet: Facet) -> Result<Kind, Fail> {
+    Ok(match facet {
+        Facet::Terms {
+            field,
+            prefix,
+            missing,
+        } => terms_of(alloc, field, prefix, missing)?,
+        Facet::Gaps => Kind::Range(GAPS),
+    })
+}
+
+fn write_key(text: &mut String, key: &Key) -> Result<(), Fail> {
+    match key {
+        Key::Value(Val::Text(name)) => write!(text, "{}", name.text())?,
+        Key::Value(Val::Long(number)) => write!(text, "{number}")?,
+        Key::Missing => text.push_str("missing")?,
+        Key::Gap(number) => write!(text, "gap {number}")?,
+        Key::Before => text.push_str("before")?,
+        Key::Between => text.push_str("between")?,
+        Key::After => text.push_str("after")?,
+        Key::Whole => text.push_str("whole")?,
+    }
+    Ok(())
+}
+
+fn write_value(text: &mut String, value: StatValue) -> Result<(), Fail> {
+    match value {
+        StatValue::Number(number) | StatValue::Extreme(Some(number)) => write!(text, " {number}")?,
+        StatValue::Extreme(None) => text.push_str(" -")?,
+    }
+    Ok(())
+}
+
+// The keys with their counts and statistics, in order.
+fn shown(alloc: Global, buckets: &[PartialBucket]) -> Result<String, Fail> {
+    let mut text = String::new(alloc);
+    for bucket in buckets {
+        write_key(&mut text, &bucket.key)?;
+        write!(text, " {}:", bucket.stats.count)?;
+        for value in &bucket.stats.values {
+            write_value(&mut text, *value)?;
+        }
+        text.push_str("; ")?;
+    }
+    Ok(text)
+}
+
+// Whether what is collected beside a parent with these members is what the row says.
+fn check(
+    rt: &impl Abort,
+    alloc: Global,
+    kind: &Box<dyn FacetKind>,
+    row: &Row,
+    members: &str,
+) -> Result<(), Fail> {
+    let segment = segment_from(rt, alloc, &block_of(alloc, row.children, members)?)?;
+    let node = node_of(alloc, kind_of(alloc, row.facet)?, &STATS)?;
+    let tally = collected(rt, alloc, kind, &segment, row.docs, &node)?;
+    let found = shown(alloc, &tally.into_buckets()?)?;
+    assert_eq!(rt; found.as_str(), row.wanted);
+    Ok(())
+}
+
+fn check_all(
+    rt: &impl Abort,
+    alloc: Global,
+    kind: &Box<dyn FacetKind>,
+    rows: &[Row],
+    members: &str,
+) -> Result<(), Fail> {
+    for row in rows {
+        check(rt, alloc, kind, row, members)?;
+    }
+    Ok(())
+}
+
+// One document is counted side by side with 68 texts, and in runs with 69.
+#[test]
+fn terms_beside_few_and_many(rt: HostRuntime) -> Result<(), Fail> {
+    let alloc = rt.alloc();
+    let kind: Box<dyn FacetKind> = Box::new(alloc, TermsKind)?;
+    check_all(&rt, alloc, &kind, &BOTH, "")?;
+    for count in [63, 64, 100] {
+        check_all(&rt, alloc, &kind, &BOTH, &many_values(alloc, count)?)?;
+    }
+    Ok(())
+}
+
+// Two documents are counted side by side with integers 72 apart, and in runs with integers 73 apart.
+#[test]
+fn integers_near_and_apart(rt: HostRuntime) -> Result<(), Fail> {
+    let alloc = rt.alloc();
+    let kind: Box<dyn FacetKind> = Box::new(alloc, TermsKind)?;
+    check_all(&rt, alloc, &kind, &APART, "")
+}
+
+#[test]
+fn statistics_of_gaps(rt: HostRuntime) -> Result<(), Fail> {
+    let alloc = rt.alloc();
+    let kind: Box<dyn FacetKind> = Box::new(alloc, RangeKind)?;
+    check_all(&rt, alloc, &kind, &IN_GAPS, "")
+}

@@ -1,0 +1,239 @@
+// Sets of about as many positions as the bits of words, which are counted one document after another here.
+ghost use Rattle.std.specs.Prelude.{◌≡◌, [], ◌∷◌, length};
+ghost use Rattle.fc_spec.specs.scripts.WorldLimits.{IsWithinLimits};
+
+use super::asking::{collected, node_of, segment_from, selected, terms_of};
+use super::ranges::{check_bucket, count_of};
+use super::terms::{CAT, N};
+use fc_base::{FieldId, Name, Val};
+use fc_facet::{Kind, Range};
+use fc_kind::FacetKind;
+use fc_partial::{Key, Tally};
+use fc_range::RangeKind;
+use fc_segment::Segment;
+use fc_terms::TermsKind;
+use std::alloc::Global;
+use std::fmt::Write;
+use std::process::Abort;
+use std::test::Fail;
+
+// The last positions of segments of 63, 64, 65, 128 and 129 documents.
+const LAST: [u32; 5] = [62, 63, 64, 127, 128];
+
+// Positions, of which those in a segment are a domain.
+const SETS: [&[u32]; 11] = [
+    &[],
+    &[0],
+    &[1],
+    &[62],
+    &[63],
+    &[64],
+    &[126],
+    &[127],
+    &[128],
+    &[62, 63, 64, 65],
+    &[0, 63, 64, 127, 128],
+];
+
+const TEXTS: [&str; 3] = ["a", "b", "c"];
+
+#[derive(Clone, Copy)]
+enum Facet {
+    /// Of four positions one after another the first three have a text of their own, and the fourth has none.
+    Texts,
+    /// Each position has its own number.
+    Longs,
+    /// Gaps of 64, two of them, and the bucket behind them.
+    Gaps,
+}
+
+// Which of its buckets a document at a position is in.
+fn bucket_of(facet: Facet, at: u32) -> u32 {
+    match facet {
+        Facet::Texts => at % 4,
+        Facet::Longs => at,
+        Facet::Gaps => at / 64,
+    }
+}
+
+// How many buckets it may have in a segment of so many documents.
+fn bucket_count(facet: Facet, documents: u32) -> u32 {
+    match facet {
+        Facet::Texts => 4,
+        Facet::Longs => documents,
+        Facet::Gaps => 3,
+    }
+}
+
+fn key_of(alloc: Global, facet: Facet, bucket: u32) -> Result<Key, Fail> {
+    Ok(match facet {
+        Facet::Texts => match TEXTS.get(bucket as usize) {
+            Some(text) => Key::Value(Val::Text(Name::new(alloc, text)?)),
+            None => Key::Missing,
+        },
+        Facet::Longs => Key::Value(Val::Long(i64::from(bucket))),
+        Facet::Gaps if bucket < 2 => Key::Gap(bucket),
+        Facet::Gaps => Key::After,
+    })
+}
+
+fn kind_of(alloc: Global, facet: Facet) -> Result<Kind, Fail> {
+    Ok(match facet {
+        Facet::Texts => terms_of(alloc, CAT, None, true)?,
+        Facet::Longs => terms_of(alloc, N, None, false)?,
+        Facet::Gaps => Kind::Range(Range {
+            field: FieldId(N),
+            start: 0,
+            end: 128,
+            gap: 64,
+            hardend: false,
+            before: false,
+            after: true,
+            between: false,
+            lower: true,
+            upper: false,
+            edge: false,
+            outer: false,
+        }),
+    })
+}
+
+// The members of the document at a position.
+fn write_members(text: &mut String, at: u32) -> Result<(), Fail> {
+    write!(text, r#""id":"{at}","n":{at}"#)?;
+    if let Some(cat) = TEXTS.get(at as usize % 4) {
+        write!(text, r#","cat":"{cat}""#)?;
+    }
+    Ok(())
+}
+
+// A block whose parent stands at a position, behind its children.
+fn block_of(alloc: Global, parent: u32) -> Result<String, Fail> {
+    let mut text = String::from_str(alloc, "{")?;
+    write_members(&mut text, parent)?;
+    text.push_str(r#","_childDocuments_":["#)?;
+    for at in 0..parent {
+        text.push_str(if at == 0 { "{" } else { ",{" })?;
+        write_members(&mut text, at)?;
+        text.push_str("}")?;
+    }
+    text.push_str("]}")?;
+    Ok(text)
+}
+
+// Those of the positions whose documents are in a bucket.
+fn plainly(alloc: Global, facet: Facet, docs: &[u32], bucket: u32) -> Result<Vec<u32>, Fail> {
+    let mut found = Vec::new(alloc);
+    for at in docs {
+        if bucket_of(facet, *at) == bucket {
+            found.push(*at)?;
+        }
+    }
+    Ok(found)
+}
+
+fn all_below(alloc: Global, documents: u32) -> Result<Vec<u32>, Fail> {
+    let mut docs = Vec::new(alloc);
+    for at in 0..documents {
+        docs.push(at)?;
+    }
+    Ok(docs)
+}
+
+fn below(alloc: Global, positions: &[u32], documents: u32) -> Result<Vec<u32>, Fail> {
+    let mut docs = Vec::new(alloc);
+    for at in positions {
+        if *at < documents {
+            docs.push(*at)?;
+        }
+    }
+    Ok(docs)
+}
+
+// Looks at a bucket of what was collected, and at which documents are selected. Gives whether it has a document.
+fn check_one(
+    rt: &impl Abort,
+    alloc: Global,
+    kind: &Box<dyn FacetKind>,
+    segment: &Segment,
+    facet: Facet,
+    docs: &[u32],
+    bucket: u32,
+    tally: &Tally,
+) -> Result<bool, Fail>
+    requires { length segment.now.texts ≡ 3 }
+{
+    let node = node_of(alloc, kind_of(alloc, facet)?, &[])?;
+    let key = key_of(alloc, facet, bucket)?;
+    let found = selected(rt, alloc, kind, segment, docs, &node, &key)?;
+    let wanted = plainly(alloc, facet, docs, bucket)?;
+    check_bucket(rt, &found, &wanted, count_of(tally, &key))?;
+    Ok(!wanted.is_empty())
+}
+
+// Whether a domain is counted, and its documents are selected, as they are one after another.
+fn check(
+    rt: &impl Abort,
+    alloc: Global,
+    kind: &Box<dyn FacetKind>,
+    segment: &Segment,
+    facet: Facet,
+    docs: &[u32],
+) -> Result<(), Fail>
+    requires texts { length segment.now.texts ≡ 3 }
+    requires limits { IsWithinLimits (segment.now.blocks ∷ []) }
+{
+    let node = node_of(alloc, kind_of(alloc, facet)?, &[])?;
+    let tally = collected(rt, alloc, kind, segment, docs, &node)?;
+    let mut buckets: usize = 0;
+    for bucket in 0..bucket_count(facet, segment.doc_count()) {
+        if check_one(rt, alloc, kind, segment, facet, docs, bucket, &tally)? {
+            buckets = buckets.saturating_add(1);
+        }
+    }
+    assert_eq!(rt; tally.into_buckets()?.len(), buckets);
+    Ok(())
+}
+
+// The same of all documents, and of each of the sets.
+fn check_sets(
+    rt: &impl Abort,
+    alloc: Global,
+    kind: &Box<dyn FacetKind>,
+    segment: &Segment,
+    facet: Facet,
+) -> Result<(), Fail>
+    requires texts { length segment.now.texts ≡ 3 }
+    requires limits { IsWithinLimits (segment.now.blocks ∷ []) }
+{
+    let all = all_below(alloc, segment.doc_count())?;
+    check(rt, alloc, kind, segment, facet, &all)?;
+    for positions in SETS {
+        let docs = below(alloc, positions, segment.doc_count())?;
+        check(rt, alloc, kind, segment, facet, &docs)?;
+    }
+    Ok(())
+}
+
+#[test]
+fn terms_about_words(rt: HostRuntime) -> Result<(), Fail> {
+    let alloc = rt.alloc();
+    let kind: Box<dyn FacetKind> = Box::new(alloc, TermsKind)?;
+    for last in LAST {
+        let segment = segment_from(&rt, alloc, &block_of(alloc, last)?)?;
+        check_sets(&rt, alloc, &kind, &segment, Facet::Texts)?;
+        check_sets(&rt, alloc, &kind, &segment, Facet::Longs)?;
+    }
+    Ok(())
+}
+
+#[test]
+fn gaps_about_words(rt: HostRuntime) -> Result<(), Fail> {
+    let alloc = rt.alloc();
+    let kind: Box<dyn FacetKind> = Box::new(alloc, RangeKind)?;
+    for last in LAST {
+        let segment = segment_from(&rt, alloc, &block_of(alloc, last)?)?;
+        check_sets(&rt, alloc, &kind, &segment, Facet::Gaps)?;
+    }
+    Ok(())
+}
