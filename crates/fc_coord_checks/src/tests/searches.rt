@@ -107,7 +107,8 @@ fn run_round(
     Ok(taken)
 }
 
-fn line_of(alloc: Global, coord: Coord) -> Result<String, Fail> {
+fn line_of(rt: &impl Abort, alloc: Global, coord: Coord, name: &str) -> Result<String, Fail> {
+    assert!(rt; coord.ready(), "{name}");
     let reply = coord.into_reply()?;
     let session = Name::new(alloc, "a")?;
     let line = reply_line(alloc, &reply, &[1], &session)?;
@@ -127,8 +128,7 @@ fn run_turned(rt: &impl Abort, alloc: Global, search: &Search, turn: usize) -> R
         check_awaited(rt, &coord, search.shards, sent, search.name);
         let _taken = run_round(rt, alloc, &mut coord, sent, turn, search.name)?;
     }
-    assert!(rt; coord.ready(), "{}", search.name);
-    let line = line_of(alloc, coord)?;
+    let line = line_of(rt, alloc, coord, search.name)?;
     let wanted = format!(in alloc;
         "{{\"facets\":{},\"generations\":[1],\"session\":\"a\"}}\n",
         search.facets
