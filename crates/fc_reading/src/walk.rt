@@ -246,7 +246,7 @@ fn push_in_bucket<R: BucketReading>(
 
 /// What lacks at the terms facets that have so many terms facets around them: of the facets that refine and have
 /// a limit, in printed buckets, the chosen values of which a shard that the bucket around them carries has told
-/// nothing; shard by shard and in the order of the definition. (Guide: JSON Facet API, "Terms Facet", `refine`)
+/// nothing; value by value, and for each its shards, in the order of the definition. (Guide: JSON Facet API, "Terms Facet", `refine`)
 pub fn lacking<R: BucketReading>(
     alloc: Global,
     reading: &R,

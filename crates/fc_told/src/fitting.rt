@@ -78,7 +78,7 @@ fn wants_fit(told: &ToldBucket, nodes: &[Node], wants: &[Want], buckets: &[Parti
 
 impl ToldBucket {
     /// Whether a message can be told: with it no sum of counts passes 2^64 - 1, and none of absolute values 2^63 - 1.
-    /// Each of its buckets is looked up from the one around it.
+    /// A bucket that was asked for is looked up from the root, and each inside another from the one around it.
     pub fn fits(&self, nodes: &[Node], ask: &Ask, message: &Message) -> bool
         ensures { (shard : ℕ) → result ≡ all_fit (tree_view self.now) (told_by (nodes_view nodes.now) shard (ask_view ask.now) (message_view message.now)) }
     {
