@@ -1,6 +1,7 @@
 -- Printed buckets by their keys.
 use Rattle.std.proofs.Common.{◌≡◌, ℕ, suc, ◌+◌, ◌-◌, ◌<◌, List, [], ◌∷◌, ◌++◌, map, Bool, true, false, refl, ap, ap₂, sym, ◌∙◌, subst, append_assoc, arith}
 use Rattle.std.specs.Prelude.{All}
+use Rattle.std.specs.Cow.{cow_slice_items}
 use Rattle.std.specs.List.{range_with_len}
 use Rattle.std.proofs.lemmas.List.{map-append}
 use Rattle.std.proofs.lemmas.List.Elements.{All-head, All-tail, All-nil, All-cons}
@@ -91,16 +92,16 @@ module _ {H D : Type 0} (R : Reading H D) (inner : Nodes) (K : List ℕ) (Y : D)
   carried_distinct (query q) key apart = apart
 
   pub all_distinct : {B : Type 0} (held : B → H) (kind : Kind) (list : List (Keyed B)) (keys : List Key) → AreDistinct K → map (keyed_view held) list ≡ map (keyed_of R kind inner K Y) keys
-      → All (λ (one : Keyed B). AreDistinct one.shards.items) list
+      → All (λ (one : Keyed B). AreDistinct (cow_slice_items one.shards)) list
   all_distinct {B = B} held kind list keys apart is = unmap list (subst (All (λ (one : WithKey H). AreDistinct one.shards)) (sym is) (each keys))
     where
       each : (keys : List Key) → All (λ (one : WithKey H). AreDistinct one.shards) (map (keyed_of R kind inner K Y) keys)
       each [] = All-nil (λ (one : WithKey H). AreDistinct one.shards)
       each (k ∷ ks) = All-cons (λ (one : WithKey H). AreDistinct one.shards) (keyed_of R kind inner K Y k) (map (keyed_of R kind inner K Y) ks) (carried_distinct kind k apart) (each ks)
 
-      unmap : (list : List (Keyed B)) → All (λ (one : WithKey H). AreDistinct one.shards) (map (keyed_view held) list) → All (λ (one : Keyed B). AreDistinct one.shards.items) list
-      unmap [] all = All-nil (λ (one : Keyed B). AreDistinct one.shards.items)
+      unmap : (list : List (Keyed B)) → All (λ (one : WithKey H). AreDistinct one.shards) (map (keyed_view held) list) → All (λ (one : Keyed B). AreDistinct (cow_slice_items one.shards)) list
+      unmap [] all = All-nil (λ (one : Keyed B). AreDistinct (cow_slice_items one.shards))
       unmap (x ∷ xs) all =
-          All-cons (λ (one : Keyed B). AreDistinct one.shards.items) x xs
+          All-cons (λ (one : Keyed B). AreDistinct (cow_slice_items one.shards)) x xs
           (All-head (λ (one : WithKey H). AreDistinct one.shards) (keyed_view held x) (map (keyed_view held) xs) all)
           (unmap xs (All-tail (λ (one : WithKey H). AreDistinct one.shards) (keyed_view held x) (map (keyed_view held) xs) all))

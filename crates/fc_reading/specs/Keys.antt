@@ -1,5 +1,6 @@
 -- Printed buckets by their keys.
 use Rattle.std.specs.Prelude.{ℕ, List}
+use Rattle.std.specs.Cow.{cow_slice_items}
 use Rattle.fc_spec.specs.requests.Request.{Kind, Nodes}
 use Rattle.fc_spec.specs.requests.Buckets as definition
 use Rattle.fc_spec.specs.replies.Reading.{Reading}
@@ -26,7 +27,7 @@ keyed_of R kind inner H Y key = keyed_on R kind (carried R kind inner H Y key) Y
 -- ---- what the code has
 
 abbrev pub keyed_view : {B H : Type 0} → (B → H) → Keyed B → WithKey H
-keyed_view held one = record { key = key_view one.key; shards = one.shards.items; bucket = held one.bucket }
+keyed_view held one = record { key = key_view one.key; shards = cow_slice_items one.shards; bucket = held one.bucket }
 
 -- that of a candidate
 abbrev pub keyed_from : {B : Type 0} → Candidate B → Keyed B

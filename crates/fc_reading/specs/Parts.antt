@@ -1,5 +1,6 @@
 -- Printed buckets without the facets in them.
 use Rattle.std.specs.Prelude.{◌≡◌, ℕ, List, [], ◌∷◌, ◌++◌, map, Option, None, Some, option_map, All, IfSome}
+use Rattle.std.specs.Cow.{cow_slice_items}
 use Rattle.fc_spec.specs.documents.Val.{Val}
 use Rattle.fc_spec.specs.requests.Request.{Kind, query, Nodes, Stat, stats_of}
 use Rattle.fc_spec.specs.requests.Buckets.{Key, whole}
@@ -45,7 +46,7 @@ row_with count inside (p ∷ ps) = part p.spot (bucket_with count inside p) (row
 -- ---- what the code has
 
 abbrev pub part_view : {B H : Type 0} → (B → H) → Spot → Part B → Seen H
-part_view held spot p = record { spot = spot; val = option_map val_view p.val; shards = p.shards.items; bucket = held p.bucket }
+part_view held spot p = record { spot = spot; val = option_map val_view p.val; shards = cow_slice_items p.shards; bucket = held p.bucket }
 
 -- at a spot, where it is there
 abbrev pub beside : {B H : Type 0} → (B → H) → Spot → Option (Part B) → List (Seen H)
@@ -59,8 +60,8 @@ parts_view held ps =
 
 -- it names no shard twice, and its count and statistics are those on its shards
 pub record IsCounted {B H D : Type 0} (R : Reading H D) (held : B → H) (ss : List Stat) (p : Part B) : Type 0 where
-  pub distinct : AreDistinct p.shards.items
-  pub stats : stats_view p.stats ≡ stats_on R ss p.shards.items (held p.bucket)
+  pub distinct : AreDistinct (cow_slice_items p.shards)
+  pub stats : stats_view p.stats ≡ stats_on R ss (cow_slice_items p.shards) (held p.bucket)
 
 pub record AreCounted {B H D : Type 0} (R : Reading H D) (held : B → H) (ss : List Stat) (ps : Parts B) : Type 0 where
   pub list : All (IsCounted R held ss) ps.list.items

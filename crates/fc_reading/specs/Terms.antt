@@ -1,5 +1,6 @@
 -- Candidates of a terms facet.
 use Rattle.std.specs.Prelude.{◌≡◌, ℕ, All, List, map, Some, if◌then◌else◌}
+use Rattle.std.specs.Cow.{cow_slice_items}
 use Rattle.std.specs.List.{filter, flat_map}
 use Rattle.fc_spec.specs.documents.Val.{Val, has_val, distinct}
 use Rattle.fc_spec.specs.requests.Request.{Terms, terms, Nodes}
@@ -43,7 +44,7 @@ module _ {H D : Type 0} (R : Reading H D) (t : Terms) (inner : Nodes) (shards : 
   -- it is the bucket of its value, and is counted over those shards
   pub record IsOn {B : Type 0} (held : B → H) (counted : Val → List ℕ) (c : Candidate B) : Type 0 where
     pub bucket : held c.bucket ≡ R.bucket_at (terms t) Y (value_key (val_view c.val))
-    pub shards_are : c.shards.items ≡ counted (val_view c.val)
+    pub shards_are : cow_slice_items c.shards ≡ counted (val_view c.val)
     pub entry : candidate_view c ≡ entry_on R t inner shards Y (counted (val_view c.val)) (val_view c.val)
 
   -- each is counted over those shards

@@ -6,17 +6,18 @@ ghost use Rattle.fc_reading.specs.Terms.{candidate_view};
 use fc_base::Val;
 use fc_partial::Stats;
 use fc_refine::Ranked;
+use std::borrow::CowSlice;
 
 /// A value with the shards that it is counted on, its bucket, and its count and statistics there.
 #[derive(Drop)]
-pub(crate) struct Candidate<B> {
+pub(crate) struct Candidate<'s, B> {
     pub(crate) val: Val,
-    pub(crate) shards: Vec<u32>,
+    pub(crate) shards: CowSlice<'s, u32>,
     pub(crate) bucket: B,
     pub(crate) stats: Stats,
 }
 
-impl<B> Ranked for Candidate<B> {
+impl<B> Ranked for Candidate<'_, B> {
     ghost entry = { candidate_view };
 
     fn val(&self) -> &Val {

@@ -1,5 +1,6 @@
 // Printed buckets by their keys.
 ghost use Rattle.std.specs.Prelude.{◌≡◌, ◌∷◌, ◌++◌, [], All, IfOk, IsTrue, OnOk, map};
+ghost use Rattle.std.specs.Cow.{cow_slice_items};
 ghost use Rattle.fc_spec.specs.requests.Buckets.{gap as gap_key};
 ghost use Rattle.fc_spec.specs.requests.Gaps.{gap_count};
 ghost use Rattle.fc_spec.specs.requests.Request as definition;
@@ -24,24 +25,25 @@ use fc_facet::{Kind, Range, Terms};
 use fc_partial::Key;
 use fc_request::Node;
 use std::alloc::Global;
+use std::borrow::CowSlice;
 
 /// A printed bucket by its key, with the shards that it carries.
 #[derive(Drop)]
-pub(crate) struct Keyed<B> {
+pub(crate) struct Keyed<'s, B> {
     pub(crate) key: Key,
-    pub(crate) shards: Vec<u32>,
+    pub(crate) shards: CowSlice<'s, u32>,
     pub(crate) bucket: B,
 }
 
 // Puts the bucket of a key that is no value behind others, on the shards of the bucket around it.
-fn push_key<R: BucketReading>(
+fn push_key<'s, R: BucketReading>(
     alloc: Global,
     reading: &R,
     kind: &Kind,
-    shards: &[u32],
+    shards: &'s [u32],
     domain: &R::Domain,
     key: Key,
-    list: &mut Vec<Keyed<R::Bucket>>,
+    list: &mut Vec<Keyed<'s, R::Bucket>>,
 ) -> Result<(), WantMemory>
     requires facet { IsTrue (has_buckets kind.now) }
     requires countable { IsCountable (kind_view kind.now) }
@@ -53,22 +55,22 @@ fn push_key<R: BucketReading>(
     let bucket = reading.bucket_at(alloc, kind, domain, &key)?;
     list.push(Keyed {
         key,
-        shards: shards.to_vec(alloc)?,
+        shards: CowSlice::Borrowed(shards),
         bucket,
     })?;
     Ok(())
 }
 
 // The same where it is asked for.
-fn push_asked<R: BucketReading>(
+fn push_asked<'s, R: BucketReading>(
     alloc: Global,
     reading: &R,
     kind: &Kind,
-    shards: &[u32],
+    shards: &'s [u32],
     domain: &R::Domain,
     asked: bool,
     key: Key,
-    list: &mut Vec<Keyed<R::Bucket>>,
+    list: &mut Vec<Keyed<'s, R::Bucket>>,
 ) -> Result<(), WantMemory>
     requires facet { IsTrue (has_buckets kind.now) }
     requires countable { IsCountable (kind_view kind.now) }
@@ -85,11 +87,11 @@ fn push_asked<R: BucketReading>(
 }
 
 // The buckets of values.
-fn of_values<B: Drop>(
+fn of_values<'s, B: Drop>(
     alloc: Global,
-    candidates: Vec<Candidate<B>>,
-) -> Result<Vec<Keyed<B>>, WantMemory>
-    ensures { IfOk result (λ list. list.items ≡ map keyed_from candidates.items) }
+    candidates: Vec<Candidate<'s, B>>,
+) -> Result<Vec<Keyed<'s, B>>, WantMemory>
+    ensures { IfOk result (λ list. list.items ≡ map keyed_from candidates.entry.items) }
 {
     let mut list = Vec::with_capacity(alloc, candidates.len())?;
     for candidate in candidates {
@@ -103,14 +105,14 @@ fn of_values<B: Drop>(
 }
 
 // The buckets of the gaps, in ascending order.
-fn of_gaps<R: BucketReading>(
+fn of_gaps<'s, R: BucketReading>(
     alloc: Global,
     reading: &R,
     kind: &Kind,
     range: &Range,
-    shards: &[u32],
+    shards: &'s [u32],
     domain: &R::Domain,
-) -> Result<Vec<Keyed<R::Bucket>>, WantMemory>
+) -> Result<Vec<Keyed<'s, R::Bucket>>, WantMemory>
     requires kind { kind.now ≡ variant.Range range.now }
     requires few { HasFewGaps (range_view range.now) }
     requires made { R.is_for domain.now kind.now }
@@ -134,14 +136,14 @@ fn of_gaps<R: BucketReading>(
 }
 
 // The printed buckets of a terms facet.
-fn keyed_terms<R: BucketReading>(
+fn keyed_terms<'s, R: BucketReading>(
     alloc: Global,
     reading: &R,
     node: &Node,
     terms: &Terms,
-    shards: &[u32],
+    shards: &'s [u32],
     domain: &R::Domain,
-) -> Result<Vec<Keyed<R::Bucket>>, WantMemory>
+) -> Result<Vec<Keyed<'s, R::Bucket>>, WantMemory>
     requires made { R.is_for domain.now (kind_of node.now) }
     requires terms { kind_of node.now ≡ variant.Terms terms.now }
     requires distinct { AreDistinct shards.now }
@@ -166,14 +168,14 @@ fn keyed_terms<R: BucketReading>(
 }
 
 // The printed buckets of a range facet.
-fn keyed_range<R: BucketReading>(
+fn keyed_range<'s, R: BucketReading>(
     alloc: Global,
     reading: &R,
     kind: &Kind,
     range: &Range,
-    shards: &[u32],
+    shards: &'s [u32],
     domain: &R::Domain,
-) -> Result<Vec<Keyed<R::Bucket>>, WantMemory>
+) -> Result<Vec<Keyed<'s, R::Bucket>>, WantMemory>
     requires kind { kind.now ≡ variant.Range range.now }
     requires few { HasFewGaps (range_view range.now) }
     requires made { R.is_for domain.now kind.now }
@@ -216,13 +218,13 @@ fn keyed_range<R: BucketReading>(
 }
 
 /// The buckets that a facet prints over its domain on the shards.
-pub(crate) fn printed_buckets<R: BucketReading>(
+pub(crate) fn printed_buckets<'s, R: BucketReading>(
     alloc: Global,
     reading: &R,
     node: &Node,
-    shards: &[u32],
+    shards: &'s [u32],
     domain: &R::Domain,
-) -> Result<Vec<Keyed<R::Bucket>>, WantMemory>
+) -> Result<Vec<Keyed<'s, R::Bucket>>, WantMemory>
     requires facet { IsTrue (has_buckets (kind_of node.now)) }
     requires countable { IsCountable (kind_view (kind_of node.now)) }
     requires made { R.is_for domain.now (kind_of node.now) }
@@ -230,7 +232,7 @@ pub(crate) fn printed_buckets<R: BucketReading>(
     ensures buckets { IfOk result (λ list. map (keyed_view R.held) list.items
         ≡ map (keyed_of (R.reading reading.now) (kind_view (kind_of node.now)) (inner_view node.now) shards.now (R.over domain.now))
         (printed_keys (R.reading reading.now) (kind_view (kind_of node.now)) (inner_view node.now) shards.now (R.over domain.now))) }
-    ensures distinct { IfOk result (λ list. All (λ one. AreDistinct one.shards.items) list.items) }
+    ensures distinct { IfOk result (λ list. All (λ one. AreDistinct (cow_slice_items one.shards)) list.items) }
 {
     let kind = &node.kind;
     match kind {

@@ -18,13 +18,13 @@ use fc_request::Node;
 use std::alloc::Global;
 
 /// What a facet prints over its domain on the shards.
-pub(crate) fn printed<R: BucketReading>(
+pub(crate) fn printed<'s, R: BucketReading>(
     alloc: Global,
     reading: &R,
     node: &Node,
-    shards: &[u32],
+    shards: &'s [u32],
     domain: &R::Domain,
-) -> Result<Printed<R::Bucket>, WantMemory>
+) -> Result<Printed<'s, R::Bucket>, WantMemory>
     requires facet { IsTrue (has_buckets (kind_of node.now)) }
     requires countable { IsCountable (kind_view (kind_of node.now)) }
     requires made { R.is_for domain.now (kind_of node.now) }

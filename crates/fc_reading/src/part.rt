@@ -15,45 +15,46 @@ use fc_base::{Stat, Val, WantMemory};
 use fc_facet::Kind;
 use fc_partial::{Key, Stats};
 use std::alloc::Global;
+use std::borrow::CowSlice;
 
 /// A printed bucket: its value, where it has one, the shards that it carries, and its count and statistics
 /// there.
 #[derive(Drop)]
-pub(crate) struct Part<B> {
+pub(crate) struct Part<'s, B> {
     pub(crate) val: Option<Val>,
-    pub(crate) shards: Vec<u32>,
+    pub(crate) shards: CowSlice<'s, u32>,
     pub(crate) bucket: B,
     pub(crate) stats: Stats,
 }
 
 /// The buckets of a terms or range facet in their order, and those beside them.
 #[derive(Drop)]
-pub(crate) struct Parts<B> {
-    pub(crate) list: Vec<Part<B>>,
-    pub(crate) missing: Option<Part<B>>,
-    pub(crate) before: Option<Part<B>>,
-    pub(crate) between: Option<Part<B>>,
-    pub(crate) after: Option<Part<B>>,
+pub(crate) struct Parts<'s, B> {
+    pub(crate) list: Vec<Part<'s, B>>,
+    pub(crate) missing: Option<Part<'s, B>>,
+    pub(crate) before: Option<Part<'s, B>>,
+    pub(crate) between: Option<Part<'s, B>>,
+    pub(crate) after: Option<Part<'s, B>>,
 }
 
 /// What a facet prints: a row of buckets, or the one bucket of a query facet.
 #[derive(Drop)]
-pub(crate) enum Printed<B> {
-    Many(Parts<B>),
-    One(Part<B>),
+pub(crate) enum Printed<'s, B> {
+    Many(Parts<'s, B>),
+    One(Part<'s, B>),
 }
 
 /// The bucket of a key that is no value, on the shards of the bucket around it.
-pub(crate) fn part_at<R: BucketReading>(
+pub(crate) fn part_at<'s, R: BucketReading>(
     alloc: Global,
     reading: &R,
     kind: &Kind,
     stats: &[Stat],
-    shards: &[u32],
+    shards: &'s [u32],
     domain: &R::Domain,
     key: &Key,
     val: Option<Val>,
-) -> Result<Part<R::Bucket>, WantMemory>
+) -> Result<Part<'s, R::Bucket>, WantMemory>
     requires facet { IsTrue (has_buckets kind.now) }
     requires countable { IsCountable (kind_view kind.now) }
     requires made { R.is_for domain.now kind.now }
@@ -71,23 +72,23 @@ pub(crate) fn part_at<R: BucketReading>(
     let stats = reading.stats_on(alloc, stats, shards, &bucket)?;
     Ok(Part {
         val,
-        shards: shards.to_vec(alloc)?,
+        shards: CowSlice::Borrowed(shards),
         bucket,
         stats,
     })
 }
 
 /// The bucket of a key that is no value, on the shards of the bucket around it, where it is asked for.
-pub(crate) fn part_beside<R: BucketReading>(
+pub(crate) fn part_beside<'s, R: BucketReading>(
     alloc: Global,
     reading: &R,
     kind: &Kind,
     stats: &[Stat],
-    shards: &[u32],
+    shards: &'s [u32],
     domain: &R::Domain,
     asked: bool,
     key: Key,
-) -> Result<Option<Part<R::Bucket>>, WantMemory>
+) -> Result<Option<Part<'s, R::Bucket>>, WantMemory>
     requires facet { IsTrue (has_buckets kind.now) }
     requires countable { IsCountable (kind_view kind.now) }
     requires made { R.is_for domain.now kind.now }

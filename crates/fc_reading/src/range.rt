@@ -20,15 +20,15 @@ use fc_partial::Key;
 use std::alloc::Global;
 
 // The buckets of the gaps, in ascending order.
-fn gap_parts<R: BucketReading>(
+fn gap_parts<'s, R: BucketReading>(
     alloc: Global,
     reading: &R,
     kind: &Kind,
     range: &Range,
     stats: &[Stat],
-    shards: &[u32],
+    shards: &'s [u32],
     domain: &R::Domain,
-) -> Result<Vec<Part<R::Bucket>>, WantMemory>
+) -> Result<Vec<Part<'s, R::Bucket>>, WantMemory>
     requires kind { kind.now ≡ variant.Range range.now }
     requires few { HasFewGaps (range_view range.now) }
     requires made { R.is_for domain.now kind.now }
@@ -48,15 +48,15 @@ fn gap_parts<R: BucketReading>(
 }
 
 /// The buckets of the gaps, and those beside them that are asked for.
-pub(crate) fn range_parts<R: BucketReading>(
+pub(crate) fn range_parts<'s, R: BucketReading>(
     alloc: Global,
     reading: &R,
     kind: &Kind,
     range: &Range,
     stats: &[Stat],
-    shards: &[u32],
+    shards: &'s [u32],
     domain: &R::Domain,
-) -> Result<Parts<R::Bucket>, WantMemory>
+) -> Result<Parts<'s, R::Bucket>, WantMemory>
     requires kind { kind.now ≡ variant.Range range.now }
     requires few { HasFewGaps (range_view range.now) }
     requires made { R.is_for domain.now kind.now }

@@ -1,5 +1,6 @@
 // The printed buckets of a terms facet.
 ghost use Rattle.std.specs.Prelude.{◌≡◌, ℕ, List, All, IfOk, IsTrue, is_some, map, nat_le, not, ◌&&◌, if◌then◌else◌};
+ghost use Rattle.std.specs.Cow.{cow_slice_items};
 ghost use Rattle.std.specs.List.{filter};
 ghost use Rattle.fc_spec.specs.documents.Val as value;
 ghost use Rattle.fc_spec.specs.requests.Request as definition;
@@ -27,9 +28,10 @@ use fc_partial::Key;
 use fc_refine::{below_rank, page, rank_bound};
 use fc_request::Node;
 use std::alloc::Global;
+use std::borrow::CowSlice;
 
 // The bucket of a value, counted over these shards.
-fn candidate<R: BucketReading>(
+fn candidate<'s, R: BucketReading>(
     alloc: Global,
     reading: &R,
     node: &Node,
@@ -37,21 +39,22 @@ fn candidate<R: BucketReading>(
     stats: &[Stat],
     domain: &R::Domain,
     val: &Val,
-    shards: Vec<u32>,
-) -> Result<Candidate<R::Bucket>, WantMemory>
+    shards: CowSlice<'s, u32>,
+) -> Result<Candidate<'s, R::Bucket>, WantMemory>
     requires made { R.is_for domain.now (kind_of node.now) }
     requires stats { map stat_view stats.now ≡ definition.stats_of (inner_view node.now) }
     requires terms { kind_of node.now ≡ variant.Terms terms.now }
-    requires distinct { AreDistinct shards.items }
+    requires distinct { AreDistinct (cow_slice_items shards) }
     ensures val { IfOk result (λ c. val_view c.val ≡ val_view val.now) }
     ensures on { IfOk result (λ c. (all : List ℕ) → IsOn (R.reading reading.now) (terms_view terms.now) (inner_view node.now) all
-        (R.over domain.now) R.held (λ v. shards.items) c) }
+        (R.over domain.now) R.held (λ v. cow_slice_items shards.entry) c) }
 {
     let key = Key::Value(val.copy(alloc)?);
     let bucket = reading.bucket_at(alloc, &node.kind, domain, &key)?;
     let stats = reading.stats_on(alloc, stats, &shards, &bucket)?;
+    let Key::Value(val) = key else { unreachable!() };
     Ok(Candidate {
-        val: val.copy(alloc)?,
+        val,
         shards,
         bucket,
         stats,
@@ -59,33 +62,28 @@ fn candidate<R: BucketReading>(
 }
 
 // Over which shards an offered value is counted first.
-fn shards_first(
-    alloc: Global,
-    terms: &Terms,
-    shards: &[u32],
-    offering: Vec<u32>,
-) -> Result<Vec<u32>, WantMemory>
-    ensures { IfOk result (λ first. first.items
-        ≡ (if terms.now.refine && not (is_some terms.now.limit) then shards.now else offering.items)) }
+fn shards_first<'s>(terms: &Terms, shards: &'s [u32], offering: Vec<u32>) -> CowSlice<'s, u32>
+    ensures { cow_slice_items result
+        ≡ (if terms.now.refine && not (is_some terms.now.limit) then shards.now else offering.items) }
 {
     if terms.refine && terms.limit.is_none() {
-        Ok(shards.to_vec(alloc)?)
+        CowSlice::Borrowed(shards)
     } else {
-        Ok(offering)
+        CowSlice::Owned(offering)
     }
 }
 
 // The candidate of each offered value.
-fn candidates_of<R: BucketReading>(
+fn candidates_of<'s, R: BucketReading>(
     alloc: Global,
     reading: &R,
     node: &Node,
     terms: &Terms,
     stats: &[Stat],
-    shards: &[u32],
+    shards: &'s [u32],
     domain: &R::Domain,
     offered: Vec<Offered>,
-) -> Result<Vec<Candidate<R::Bucket>>, WantMemory>
+) -> Result<Vec<Candidate<'s, R::Bucket>>, WantMemory>
     requires made { R.is_for domain.now (kind_of node.now) }
     requires stats { map stat_view stats.now ≡ definition.stats_of (inner_view node.now) }
     requires terms { kind_of node.now ≡ variant.Terms terms.now }
@@ -98,22 +96,22 @@ fn candidates_of<R: BucketReading>(
 {
     let mut list = Vec::with_capacity(alloc, offered.len())?;
     for one in offered {
-        let counted = shards_first(alloc, terms, shards, one.shards)?;
+        let counted = shards_first(terms, shards, one.shards);
         list.push(candidate(alloc, reading, node, terms, stats, domain, one.val, counted)?)?;
     }
     Ok(list)
 }
 
 // The candidates, in index order.
-fn candidates<R: BucketReading>(
+fn candidates<'s, R: BucketReading>(
     alloc: Global,
     reading: &R,
     node: &Node,
     terms: &Terms,
     stats: &[Stat],
-    shards: &[u32],
+    shards: &'s [u32],
     domain: &R::Domain,
-) -> Result<Vec<Candidate<R::Bucket>>, WantMemory>
+) -> Result<Vec<Candidate<'s, R::Bucket>>, WantMemory>
     requires made { R.is_for domain.now (kind_of node.now) }
     requires stats { map stat_view stats.now ≡ definition.stats_of (inner_view node.now) }
     requires terms { kind_of node.now ≡ variant.Terms terms.now }
@@ -130,42 +128,42 @@ fn candidates<R: BucketReading>(
 }
 
 // A candidate, counted over these shards instead.
-fn counted_on<R: BucketReading>(
+fn counted_on<'s, R: BucketReading>(
     alloc: Global,
     reading: &R,
     stats: &[Stat],
-    shards: &[u32],
+    shards: &'s [u32],
     candidate: Candidate<R::Bucket>,
-) -> Result<Candidate<R::Bucket>, WantMemory>
+) -> Result<Candidate<'s, R::Bucket>, WantMemory>
     requires distinct { AreDistinct shards.now }
-    ensures val { IfOk result (λ c. c.val ≡ candidate.val) }
+    ensures val { IfOk result (λ c. c.val ≡ candidate.entry.val) }
     ensures on { IfOk result (λ c. (t : definition.Terms) (inner : definition.Nodes) (Y : R.Over) (counted : value.Val → List ℕ)
         → definition.stats_of inner ≡ map stat_view stats.now
-        → IsOn (R.reading reading.now) t inner shards.now Y R.held counted candidate
+        → IsOn (R.reading reading.now) t inner shards.now Y R.held counted candidate.entry
         → IsOn (R.reading reading.now) t inner shards.now Y R.held (λ v. shards.now) c) }
 {
     let stats = reading.stats_on(alloc, stats, shards, &candidate.bucket)?;
     Ok(Candidate {
         val: candidate.val,
-        shards: shards.to_vec(alloc)?,
+        shards: CowSlice::Borrowed(shards),
         bucket: candidate.bucket,
         stats,
     })
 }
 
 // Candidates, each counted over these shards instead.
-fn all_counted_on<R: BucketReading>(
+fn all_counted_on<'s, R: BucketReading>(
     alloc: Global,
     reading: &R,
     stats: &[Stat],
-    shards: &[u32],
+    shards: &'s [u32],
     candidates: Vec<Candidate<R::Bucket>>,
-) -> Result<Vec<Candidate<R::Bucket>>, WantMemory>
+) -> Result<Vec<Candidate<'s, R::Bucket>>, WantMemory>
     requires distinct { AreDistinct shards.now }
-    ensures vals { IfOk result (λ list. candidate_vals list.items ≡ candidate_vals candidates.items) }
+    ensures vals { IfOk result (λ list. candidate_vals list.items ≡ candidate_vals candidates.entry.items) }
     ensures on { IfOk result (λ list. (t : definition.Terms) (inner : definition.Nodes) (Y : R.Over) (counted : value.Val → List ℕ)
         → definition.stats_of inner ≡ map stat_view stats.now
-        → AreOn (R.reading reading.now) t inner shards.now Y R.held counted candidates.items
+        → AreOn (R.reading reading.now) t inner shards.now Y R.held counted candidates.entry.items
         → AreOn (R.reading reading.now) t inner shards.now Y R.held (λ v. shards.now) list.items) }
 {
     let mut list = Vec::with_capacity(alloc, candidates.len())?;
@@ -183,15 +181,15 @@ pub(crate) fn asks_again(terms: &Terms) -> bool
 }
 
 /// The chosen values of a facet that asks again, each counted over the shards that offer it.
-pub(crate) fn chosen_again<R: BucketReading>(
+pub(crate) fn chosen_again<'s, R: BucketReading>(
     alloc: Global,
     reading: &R,
     node: &Node,
     terms: &Terms,
     stats: &[Stat],
-    shards: &[u32],
+    shards: &'s [u32],
     domain: &R::Domain,
-) -> Result<Vec<Candidate<R::Bucket>>, WantMemory>
+) -> Result<Vec<Candidate<'s, R::Bucket>>, WantMemory>
     requires made { R.is_for domain.now (kind_of node.now) }
     requires stats { map stat_view stats.now ≡ definition.stats_of (inner_view node.now) }
     requires terms { kind_of node.now ≡ variant.Terms terms.now }
@@ -211,15 +209,15 @@ pub(crate) fn chosen_again<R: BucketReading>(
 }
 
 // The chosen values, each counted over its known shards.
-fn chosen<R: BucketReading>(
+fn chosen<'s, R: BucketReading>(
     alloc: Global,
     reading: &R,
     node: &Node,
     terms: &Terms,
     stats: &[Stat],
-    shards: &[u32],
+    shards: &'s [u32],
     domain: &R::Domain,
-) -> Result<Vec<Candidate<R::Bucket>>, WantMemory>
+) -> Result<Vec<Candidate<'s, R::Bucket>>, WantMemory>
     requires made { R.is_for domain.now (kind_of node.now) }
     requires stats { map stat_view stats.now ≡ definition.stats_of (inner_view node.now) }
     requires terms { kind_of node.now ≡ variant.Terms terms.now }
@@ -241,12 +239,12 @@ fn chosen<R: BucketReading>(
 }
 
 // The candidates whose count is at least so much.
-fn with_count<B: Drop>(
+fn with_count<'s, B: Drop>(
     alloc: Global,
     least: u32,
-    candidates: Vec<Candidate<B>>,
-) -> Result<Vec<Candidate<B>>, WantMemory>
-    ensures { IfOk result (λ kept. kept.items ≡ filter (λ c. nat_le least c.stats.count) candidates.items) }
+    candidates: Vec<Candidate<'s, B>>,
+) -> Result<Vec<Candidate<'s, B>>, WantMemory>
+    ensures { IfOk result (λ kept. kept.items ≡ filter (λ c. nat_le least c.stats.count) candidates.entry.items) }
 {
     let mut kept = Vec::new(alloc);
     for candidate in candidates {
@@ -258,15 +256,15 @@ fn with_count<B: Drop>(
 }
 
 /// The candidates that are printed, in the order of their ranks.
-pub(crate) fn printed<R: BucketReading>(
+pub(crate) fn printed<'s, R: BucketReading>(
     alloc: Global,
     reading: &R,
     node: &Node,
     terms: &Terms,
     stats: &[Stat],
-    shards: &[u32],
+    shards: &'s [u32],
     domain: &R::Domain,
-) -> Result<Vec<Candidate<R::Bucket>>, WantMemory>
+) -> Result<Vec<Candidate<'s, R::Bucket>>, WantMemory>
     requires made { R.is_for domain.now (kind_of node.now) }
     requires stats { map stat_view stats.now ≡ definition.stats_of (inner_view node.now) }
     requires terms { kind_of node.now ≡ variant.Terms terms.now }
@@ -284,11 +282,11 @@ pub(crate) fn printed<R: BucketReading>(
 }
 
 // The buckets of candidates.
-fn value_parts<B: Drop>(
+fn value_parts<'s, B: Drop>(
     alloc: Global,
-    candidates: Vec<Candidate<B>>,
-) -> Result<Vec<Part<B>>, WantMemory>
-    ensures { IfOk result (λ parts. parts.items ≡ map part_from candidates.items) }
+    candidates: Vec<Candidate<'s, B>>,
+) -> Result<Vec<Part<'s, B>>, WantMemory>
+    ensures { IfOk result (λ parts. parts.items ≡ map part_from candidates.entry.items) }
 {
     let mut parts = Vec::with_capacity(alloc, candidates.len())?;
     for candidate in candidates {
@@ -303,15 +301,15 @@ fn value_parts<B: Drop>(
 }
 
 /// The buckets of the values, and that of the documents without one where it is asked for.
-pub(crate) fn terms_parts<R: BucketReading>(
+pub(crate) fn terms_parts<'s, R: BucketReading>(
     alloc: Global,
     reading: &R,
     node: &Node,
     terms: &Terms,
     stats: &[Stat],
-    shards: &[u32],
+    shards: &'s [u32],
     domain: &R::Domain,
-) -> Result<Parts<R::Bucket>, WantMemory>
+) -> Result<Parts<'s, R::Bucket>, WantMemory>
     requires made { R.is_for domain.now (kind_of node.now) }
     requires stats { map stat_view stats.now ≡ definition.stats_of (inner_view node.now) }
     requires terms { kind_of node.now ≡ variant.Terms terms.now }

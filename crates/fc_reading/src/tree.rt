@@ -82,7 +82,7 @@ fn bucket<R: BucketReading>(
     requires countable { AreCountable (inner_view node.now) }
     requires counted { IsCounted (R.reading reading.now) R.held (request.stats_of (inner_view node.now)) part }
     ensures { IfOk result (λ bucket. bucket_view bucket ≡ bucket_with (count_in (R.reading reading.now))
-        (inside (R.reading reading.now) (inner_view node.now)) (part_view R.held reply.listed part)) }
+        (inside (R.reading reading.now) (inner_view node.now)) (part_view R.held reply.listed part.entry)) }
 {
     let facets = facets(
         alloc,
@@ -110,7 +110,7 @@ fn buckets<R: BucketReading>(
     requires countable { AreCountable (inner_view node.now) }
     requires counted { All (IsCounted (R.reading reading.now) R.held (request.stats_of (inner_view node.now))) parts.items }
     ensures { IfOk result (λ buckets. map bucket_view buckets.items ≡ map (λ part. bucket_with (count_in (R.reading reading.now))
-        (inside (R.reading reading.now) (inner_view node.now)) (part_view R.held reply.listed part)) parts.items) }
+        (inside (R.reading reading.now) (inner_view node.now)) (part_view R.held reply.listed part)) parts.entry.items) }
 {
     let mut list = Vec::with_capacity(alloc, parts.len())?;
     for part in parts {
@@ -130,7 +130,7 @@ fn bucket_beside<R: BucketReading>(
     requires countable { AreCountable (inner_view node.now) }
     requires counted { IfSome part (IsCounted (R.reading reading.now) R.held (request.stats_of (inner_view node.now))) }
     ensures { IfOk result (λ bucket. option_map bucket_view bucket ≡ option_map (λ part. bucket_with (count_in (R.reading reading.now))
-        (inside (R.reading reading.now) (inner_view node.now)) (part_view R.held reply.listed part)) part) }
+        (inside (R.reading reading.now) (inner_view node.now)) (part_view R.held reply.listed part)) part.entry) }
 {
     match part {
         Some(part) => Ok(Some(bucket(alloc, reading, node, part)?)),
@@ -149,7 +149,7 @@ fn row<R: BucketReading>(
     requires countable { AreCountable (inner_view node.now) }
     requires counted { AreCounted (R.reading reading.now) R.held (request.stats_of (inner_view node.now)) parts }
     ensures { IfOk result (λ row. buckets_view row ≡ row_with (count_in (R.reading reading.now))
-        (inside (R.reading reading.now) (inner_view node.now)) (parts_view R.held parts)) }
+        (inside (R.reading reading.now) (inner_view node.now)) (parts_view R.held parts.entry)) }
 {
     let list = buckets(alloc, reading, node, parts.list)?;
     let missing = bucket_beside(alloc, reading, node, parts.missing)?;
@@ -176,7 +176,7 @@ fn body<R: BucketReading>(
     requires countable { AreCountable (inner_view node.now) }
     requires counted { AreCountedIn (R.reading reading.now) R.held (request.stats_of (inner_view node.now)) printed }
     ensures { IfOk result (λ body. (name : Text) (more : reply.Facets) → body_view body name more
-        ≡ put_printed (count_in (R.reading reading.now)) (inside (R.reading reading.now) (inner_view node.now)) R.held name printed more) }
+        ≡ put_printed (count_in (R.reading reading.now)) (inside (R.reading reading.now) (inner_view node.now)) R.held name printed.entry more) }
 {
     match printed {
         Printed::Many(parts) => {

@@ -1,5 +1,6 @@
 // What lacks at the terms facets of a depth.
 ghost use Rattle.std.specs.Prelude.{◌≡◌, ◌++◌, [], All, IfOk, IsTrue, OnOk, map, if◌then◌else◌};
+ghost use Rattle.std.specs.Cow.{cow_slice_items};
 ghost use Rattle.std.specs.List.{flat_map};
 ghost use Rattle.fc_spec.specs.requests.Request.{no_nodes};
 ghost use Rattle.fc_spec.specs.requests.Shape.{asks_again as asks_again_of};
@@ -79,10 +80,10 @@ fn push_in_key<R: BucketReading>(
     lacks: &mut Vec<Lack>,
 ) -> Result<(), WantMemory>
     requires countable { AreCountable (inner_view node.now) }
-    requires distinct { AreDistinct one.shards.items }
+    requires distinct { AreDistinct (cow_slice_items one.shards) }
     ensures way { OnOk result (way.new.items ≡ way.old.items) }
     ensures lacks { OnOk result (map lack_view lacks.new.items ≡ map lack_view lacks.old.items
-        ++ inside_key (R.reading reading.now) R.has (inner_view node.now) number (way_view way.old.items) depth (keyed_view R.held one)) }
+        ++ inside_key (R.reading reading.now) R.has (inner_view node.now) number (way_view way.old.items) depth (keyed_view R.held one.entry)) }
 {
     let Keyed {
         key,
@@ -108,11 +109,11 @@ fn push_in_keys<R: BucketReading>(
     lacks: &mut Vec<Lack>,
 ) -> Result<(), WantMemory>
     requires countable { AreCountable (inner_view node.now) }
-    requires distinct { All (λ one. AreDistinct one.shards.items) buckets.items }
+    requires distinct { All (λ one. AreDistinct (cow_slice_items one.shards)) buckets.items }
     ensures way { OnOk result (way.new.items ≡ way.old.items) }
     ensures lacks { OnOk result (map lack_view lacks.new.items ≡ map lack_view lacks.old.items
         ++ flat_map (inside_key (R.reading reading.now) R.has (inner_view node.now) number (way_view way.old.items) depth)
-        (map (keyed_view R.held) buckets.items)) }
+        (map (keyed_view R.held) buckets.entry.items)) }
 {
     for one in buckets {
         push_in_key(alloc, reading, number, node, one, depth, way, lacks)?;

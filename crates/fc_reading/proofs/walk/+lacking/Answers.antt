@@ -1,4 +1,5 @@
 use Rattle.std.proofs.Common.{◌≡◌, ◌∙◌, ◌+◌, ◌-◌, ◌++◌, ◌∷◌, List, suc, drop, drop-cons, add-one, ap, sym, subst, map, false, ◌==◌, ◌&&◌, rules, arith}
+use Rattle.std.specs.Cow.{cow_slice_items}
 use Rattle.std.specs.List.{flat_map}
 use Rattle.std.proofs.lemmas.Bool.{ne_eqb}
 use Rattle.std.proofs.lemmas.List.{append-nil}
@@ -135,7 +136,7 @@ push_in_keys-loop-one-preserved g t c =
       c.in_ok-push_in_key.ensures.way ∙ c.loop-one.invariant.0,
       next_made (inside c.args.way.now.items) done (map lack_view c.push_in_key.new.lacks.items) (see one) (map see rest) (map see left) _ (ap (map see) first)
           (c.in_ok-push_in_key.ensures.lacks ∙ ap (λ w. done ++ inside w (see one)) c.loop-one.invariant.0) c.loop-one.invariant.1,
-      All-rest (λ (k : Keyed g.row.R-Bucket.Denot). AreDistinct k.shards.items) one rest left first c.loop-one.invariant.2,
+      All-rest (λ (k : Keyed g.row.R-Bucket.Denot). AreDistinct (cow_slice_items k.shards)) one rest left first c.loop-one.invariant.2,
     )
 
 pub push_under-returns-then-is_empty-clause-lacks : goal.push_under-returns-then-is_empty-clause-lacks
