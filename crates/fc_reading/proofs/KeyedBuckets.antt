@@ -1,24 +1,23 @@
 -- Printed buckets by their keys.
 use Rattle.std.proofs.Common.{◌≡◌, ℕ, suc, ◌+◌, ◌-◌, ◌<◌, List, [], ◌∷◌, ◌++◌, map, Bool, true, false, refl, ap, ap₂, sym, ◌∙◌, subst, append_assoc, arith}
 use Rattle.std.specs.Prelude.{All}
-use Rattle.std.specs.Cow.{cow_slice_items}
 use Rattle.std.specs.List.{range_with_len}
 use Rattle.std.proofs.lemmas.List.{map-append}
 use Rattle.std.proofs.lemmas.List.Elements.{All-head, All-tail, All-nil, All-cons}
-use Rattle.fc_spec.specs.requests.Buckets.{Key, value, missing, gap, before, between, after, whole}
+use Rattle.fc_spec.specs.requests.Buckets.{Key, value, missing, gap, before, between, after}
 use Rattle.fc_spec.specs.requests.Gaps.{gap_count}
 use Rattle.fc_spec.specs.requests.Ranks.{Entry}
-use Rattle.fc_spec.specs.requests.Request.{Terms, Range, Kind, terms, range, query, Nodes}
+use Rattle.fc_spec.specs.requests.Request.{Terms, Range, Kind, terms, range, Nodes}
 use Rattle.fc_spec.specs.words.Lists.{numbers_below}
 use Rattle.fc_spec.specs.replies.Chosen as chosen
-use Rattle.fc_spec.specs.replies.Distributed.{carried, printed_keys}
+use Rattle.fc_spec.specs.replies.Distributed.{printed_keys}
 use Rattle.fc_spec.specs.replies.Printed.{asked}
 use Rattle.fc_spec.specs.replies.Reading.{Reading}
 use Rattle.fc_base.specs.View.{val_view}
 use Rattle.fc_reading.specs.declared.candidate.Candidate.{Candidate}
 use Rattle.fc_reading.specs.declared.keyed.Keyed.{Keyed}
 use Rattle.fc_reading.specs.Distinct.{AreDistinct}
-use Rattle.fc_reading.specs.Keys.{WithKey, keyed_from, keyed_of, keyed_on, keyed_view}
+use Rattle.fc_reading.specs.Keys.{AreCountedKeys, IsCountedKey, WithKey, keyed_from, keyed_of, keyed_on, keyed_view}
 use Rattle.fc_reading.specs.Terms.{candidates_view, IsOn}
 use Rattle.fc_reading.proofs.DistinctShards.{known_distinct}
 
@@ -79,29 +78,17 @@ module _ {H D : Type 0} (R : Reading H D) (inner : Nodes) (K : List ℕ) (Y : D)
       ∙ sym (map-append f js (a ++ (b ++ c)))
       ∙ ap (λ k. map (keyed_on R k K Y) (js ++ (a ++ (b ++ c)))) k
 
-  -- the shards that a bucket carries are different where all are
-  carried_distinct : (kind : Kind) (key : Key) → AreDistinct K → AreDistinct (carried R kind inner K Y key)
-  carried_distinct (terms t) (value v) apart = known_distinct R t inner K Y v apart
-  carried_distinct (terms t) missing apart = apart
-  carried_distinct (terms t) (gap i) apart = apart
-  carried_distinct (terms t) before apart = apart
-  carried_distinct (terms t) between apart = apart
-  carried_distinct (terms t) after apart = apart
-  carried_distinct (terms t) whole apart = apart
-  carried_distinct (range g) key apart = apart
-  carried_distinct (query q) key apart = apart
+  -- a candidate has its count
+  value_counted : {B : Type 0} (held : B → H) (t : Terms) → AreDistinct K → (c : Candidate B) → IsOn R t inner K Y held (chosen.known R t inner K Y) c → IsCountedKey R held (keyed_from c)
+  value_counted held t apart c on = record {
+    distinct = subst AreDistinct (sym on.shards_are) (known_distinct R t inner K Y (val_view c.val) apart);
+    count = ap (λ (e : Entry). e.stats.count) on.entry ∙ sym (ap₂ (λ s b. R.count_on s b) on.shards_are on.bucket);
+  }
 
-  pub all_distinct : {B : Type 0} (held : B → H) (kind : Kind) (list : List (Keyed B)) (keys : List Key) → AreDistinct K → map (keyed_view held) list ≡ map (keyed_of R kind inner K Y) keys
-      → All (λ (one : Keyed B). AreDistinct (cow_slice_items one.shards)) list
-  all_distinct {B = B} held kind list keys apart is = unmap list (subst (All (λ (one : WithKey H). AreDistinct one.shards)) (sym is) (each keys))
-    where
-      each : (keys : List Key) → All (λ (one : WithKey H). AreDistinct one.shards) (map (keyed_of R kind inner K Y) keys)
-      each [] = All-nil (λ (one : WithKey H). AreDistinct one.shards)
-      each (k ∷ ks) = All-cons (λ (one : WithKey H). AreDistinct one.shards) (keyed_of R kind inner K Y k) (map (keyed_of R kind inner K Y) ks) (carried_distinct kind k apart) (each ks)
-
-      unmap : (list : List (Keyed B)) → All (λ (one : WithKey H). AreDistinct one.shards) (map (keyed_view held) list) → All (λ (one : Keyed B). AreDistinct (cow_slice_items one.shards)) list
-      unmap [] all = All-nil (λ (one : Keyed B). AreDistinct (cow_slice_items one.shards))
-      unmap (x ∷ xs) all =
-          All-cons (λ (one : Keyed B). AreDistinct (cow_slice_items one.shards)) x xs
-          (All-head (λ (one : WithKey H). AreDistinct one.shards) (keyed_view held x) (map (keyed_view held) xs) all)
-          (unmap xs (All-tail (λ (one : WithKey H). AreDistinct one.shards) (keyed_view held x) (map (keyed_view held) xs) all))
+  pub values_counted : {B : Type 0} (held : B → H) (t : Terms) → AreDistinct K → (cs : List (Candidate B)) → All (IsOn R t inner K Y held (chosen.known R t inner K Y)) cs
+      → AreCountedKeys R held (map keyed_from cs)
+  values_counted held t apart [] on = All-nil (IsCountedKey R held)
+  values_counted held t apart (c ∷ cs) on =
+      All-cons (IsCountedKey R held) (keyed_from c) (map keyed_from cs)
+      (value_counted held t apart c (All-head (IsOn R t inner K Y held (chosen.known R t inner K Y)) c cs on))
+      (values_counted held t apart cs (All-tail (IsOn R t inner K Y held (chosen.known R t inner K Y)) c cs on))

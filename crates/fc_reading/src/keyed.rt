@@ -1,6 +1,5 @@
 // Printed buckets by their keys.
 ghost use Rattle.std.specs.Prelude.{◌≡◌, ◌∷◌, ◌++◌, [], All, IfOk, IsTrue, OnOk, map};
-ghost use Rattle.std.specs.Cow.{cow_slice_items};
 ghost use Rattle.fc_spec.specs.requests.Buckets.{gap as gap_key};
 ghost use Rattle.fc_spec.specs.requests.Gaps.{gap_count};
 ghost use Rattle.fc_spec.specs.requests.Request as definition;
@@ -15,7 +14,7 @@ ghost use Rattle.fc_refine.specs.CountableRanges.{IsCountable, IsThere};
 ghost use Rattle.fc_request.specs.FacetNode.{has_buckets, kind_of, kind_view};
 ghost use Rattle.fc_request.specs.NodeView.{inner_view};
 ghost use Rattle.fc_reading.specs.Distinct.{AreDistinct};
-ghost use Rattle.fc_reading.specs.Keys.{keyed_from, keyed_of, keyed_on, keyed_view};
+ghost use Rattle.fc_reading.specs.Keys.{AreCountedKeys, keyed_from, keyed_of, keyed_on, keyed_view};
 
 use crate::BucketReading;
 use crate::candidate::Candidate;
@@ -27,12 +26,13 @@ use fc_request::Node;
 use std::alloc::Global;
 use std::borrow::CowSlice;
 
-/// A printed bucket by its key, with the shards that it carries.
+/// A printed bucket by its key, with the shards that it carries and its count there.
 #[derive(Drop)]
 pub(crate) struct Keyed<'s, B> {
     pub(crate) key: Key,
     pub(crate) shards: CowSlice<'s, u32>,
     pub(crate) bucket: B,
+    pub(crate) count: u64,
 }
 
 // Puts the bucket of a key that is no value behind others, on the shards of the bucket around it.
@@ -49,14 +49,19 @@ fn push_key<'s, R: BucketReading>(
     requires countable { IsCountable (kind_view kind.now) }
     requires made { R.is_for domain.now kind.now }
     requires there { IsThere (kind_view kind.now) (key_view key) }
-    ensures { OnOk result (map (keyed_view R.held) list.new.items ≡ map (keyed_view R.held) list.old.items
+    requires distinct { AreDistinct shards.now }
+    ensures keyed { OnOk result (map (keyed_view R.held) list.new.items ≡ map (keyed_view R.held) list.old.items
         ++ keyed_on (R.reading reading.now) (kind_view kind.now) shards.now (R.over domain.now) (key_view key) ∷ []) }
+    ensures counted { OnOk result (AreCountedKeys (R.reading reading.now) R.held list.old.items
+        → AreCountedKeys (R.reading reading.now) R.held list.new.items) }
 {
     let bucket = reading.bucket_at(alloc, kind, domain, &key)?;
+    let stats = reading.stats_on(alloc, &[], shards, &bucket)?;
     list.push(Keyed {
         key,
         shards: CowSlice::Borrowed(shards),
         bucket,
+        count: stats.count,
     })?;
     Ok(())
 }
@@ -76,8 +81,11 @@ fn push_asked<'s, R: BucketReading>(
     requires countable { IsCountable (kind_view kind.now) }
     requires made { R.is_for domain.now kind.now }
     requires there { IsThere (kind_view kind.now) (key_view key) }
-    ensures { OnOk result (map (keyed_view R.held) list.new.items ≡ map (keyed_view R.held) list.old.items
+    requires distinct { AreDistinct shards.now }
+    ensures keyed { OnOk result (map (keyed_view R.held) list.new.items ≡ map (keyed_view R.held) list.old.items
         ++ map (keyed_on (R.reading reading.now) (kind_view kind.now) shards.now (R.over domain.now)) (asked_of asked (key_view key))) }
+    ensures counted { OnOk result (AreCountedKeys (R.reading reading.now) R.held list.old.items
+        → AreCountedKeys (R.reading reading.now) R.held list.new.items) }
 {
     if !asked {
         return Ok(());
@@ -99,6 +107,7 @@ fn of_values<'s, B: Drop>(
             key: Key::Value(candidate.val),
             shards: candidate.shards,
             bucket: candidate.bucket,
+            count: candidate.stats.count,
         })?;
     }
     Ok(list)
@@ -116,9 +125,11 @@ fn of_gaps<'s, R: BucketReading>(
     requires kind { kind.now ≡ variant.Range range.now }
     requires few { HasFewGaps (range_view range.now) }
     requires made { R.is_for domain.now kind.now }
-    ensures { IfOk result (λ list. map (keyed_view R.held) list.items
+    requires distinct { AreDistinct shards.now }
+    ensures keyed { IfOk result (λ list. map (keyed_view R.held) list.items
         ≡ map (keyed_on (R.reading reading.now) (kind_view kind.now) shards.now (R.over domain.now))
         (map gap_key (numbers_below (gap_count (range_view range.now))))) }
+    ensures counted { IfOk result (λ list. AreCountedKeys (R.reading reading.now) R.held list.items) }
 {
     let mut list = Vec::new(alloc);
     for gap in 0..range.gaps() {
@@ -147,9 +158,10 @@ fn keyed_terms<'s, R: BucketReading>(
     requires made { R.is_for domain.now (kind_of node.now) }
     requires terms { kind_of node.now ≡ variant.Terms terms.now }
     requires distinct { AreDistinct shards.now }
-    ensures { IfOk result (λ list. map (keyed_view R.held) list.items
+    ensures keyed { IfOk result (λ list. map (keyed_view R.held) list.items
         ≡ map (keyed_of (R.reading reading.now) (definition.terms (terms_view terms.now)) (inner_view node.now) shards.now (R.over domain.now))
         (printed_keys (R.reading reading.now) (definition.terms (terms_view terms.now)) (inner_view node.now) shards.now (R.over domain.now))) }
+    ensures counted { IfOk result (λ list. AreCountedKeys (R.reading reading.now) R.held list.items) }
 {
     let stats = node.stats(alloc)?;
     let printed = printed(alloc, reading, node, terms, &stats, shards, domain)?;
@@ -179,9 +191,11 @@ fn keyed_range<'s, R: BucketReading>(
     requires kind { kind.now ≡ variant.Range range.now }
     requires few { HasFewGaps (range_view range.now) }
     requires made { R.is_for domain.now kind.now }
-    ensures { IfOk result (λ list. (inner : definition.Nodes) → map (keyed_view R.held) list.items
+    requires distinct { AreDistinct shards.now }
+    ensures keyed { IfOk result (λ list. (inner : definition.Nodes) → map (keyed_view R.held) list.items
         ≡ map (keyed_of (R.reading reading.now) (definition.range (range_view range.now)) inner shards.now (R.over domain.now))
         (printed_keys (R.reading reading.now) (definition.range (range_view range.now)) inner shards.now (R.over domain.now))) }
+    ensures counted { IfOk result (λ list. AreCountedKeys (R.reading reading.now) R.held list.items) }
 {
     let mut list = of_gaps(alloc, reading, kind, range, shards, domain)?;
     push_asked(
@@ -229,10 +243,10 @@ pub(crate) fn printed_buckets<'s, R: BucketReading>(
     requires countable { IsCountable (kind_view (kind_of node.now)) }
     requires made { R.is_for domain.now (kind_of node.now) }
     requires distinct { AreDistinct shards.now }
-    ensures buckets { IfOk result (λ list. map (keyed_view R.held) list.items
+    ensures keyed { IfOk result (λ list. map (keyed_view R.held) list.items
         ≡ map (keyed_of (R.reading reading.now) (kind_view (kind_of node.now)) (inner_view node.now) shards.now (R.over domain.now))
         (printed_keys (R.reading reading.now) (kind_view (kind_of node.now)) (inner_view node.now) shards.now (R.over domain.now))) }
-    ensures distinct { IfOk result (λ list. All (λ one. AreDistinct (cow_slice_items one.shards)) list.items) }
+    ensures counted { IfOk result (λ list. AreCountedKeys (R.reading reading.now) R.held list.items) }
 {
     let kind = &node.kind;
     match kind {

@@ -1,6 +1,5 @@
 // What lacks at the terms facets of a depth.
 ghost use Rattle.std.specs.Prelude.{◌≡◌, ◌++◌, [], All, IfOk, IsTrue, OnOk, map, if◌then◌else◌};
-ghost use Rattle.std.specs.Cow.{cow_slice_items};
 ghost use Rattle.std.specs.List.{flat_map};
 ghost use Rattle.fc_spec.specs.requests.Request.{no_nodes};
 ghost use Rattle.fc_spec.specs.requests.Shape.{asks_again as asks_again_of};
@@ -11,7 +10,7 @@ ghost use Rattle.fc_refine.specs.CountableRanges.{AreCountable, IsCountable};
 ghost use Rattle.fc_request.specs.FacetNode.{facet_view, has_buckets, kind_of, kind_view};
 ghost use Rattle.fc_request.specs.NodeView.{inner_view, node_view};
 ghost use Rattle.fc_reading.specs.Distinct.{AreDistinct};
-ghost use Rattle.fc_reading.specs.Keys.{keyed_view};
+ghost use Rattle.fc_reading.specs.Keys.{AreCountedKeys, IsCountedKey, keyed_view};
 ghost use Rattle.fc_reading.specs.Inside.{inside_key, lacking_under};
 ghost use Rattle.fc_reading.specs.Lacking.{lacking as lacking_of, lacking_values};
 ghost use Rattle.fc_reading.specs.LackView.{lack_view};
@@ -80,7 +79,7 @@ fn push_in_key<R: BucketReading>(
     lacks: &mut Vec<Lack>,
 ) -> Result<(), WantMemory>
     requires countable { AreCountable (inner_view node.now) }
-    requires distinct { AreDistinct (cow_slice_items one.shards) }
+    requires counted { IsCountedKey (R.reading reading.now) R.held one }
     ensures way { OnOk result (way.new.items ≡ way.old.items) }
     ensures lacks { OnOk result (map lack_view lacks.new.items ≡ map lack_view lacks.old.items
         ++ inside_key (R.reading reading.now) R.has (inner_view node.now) number (way_view way.old.items) depth (keyed_view R.held one.entry)) }
@@ -89,9 +88,12 @@ fn push_in_key<R: BucketReading>(
         key,
         shards,
         bucket,
+        count,
     } = one;
     way.push(Step { node: number, key })?;
-    push_in_bucket(alloc, reading, node, &shards, &bucket, depth, way, lacks)?;
+    push_in_bucket(
+        alloc, reading, node, &shards, &bucket, count, depth, way, lacks,
+    )?;
     let _left = way.pop();
     Ok(())
 }
@@ -109,7 +111,7 @@ fn push_in_keys<R: BucketReading>(
     lacks: &mut Vec<Lack>,
 ) -> Result<(), WantMemory>
     requires countable { AreCountable (inner_view node.now) }
-    requires distinct { All (λ one. AreDistinct (cow_slice_items one.shards)) buckets.items }
+    requires counted { AreCountedKeys (R.reading reading.now) R.held buckets.items }
     ensures way { OnOk result (way.new.items ≡ way.old.items) }
     ensures lacks { OnOk result (map lack_view lacks.new.items ≡ map lack_view lacks.old.items
         ++ flat_map (inside_key (R.reading reading.now) R.has (inner_view node.now) number (way_view way.old.items) depth)
@@ -209,7 +211,7 @@ fn push_at_node<R: BucketReading>(
     }
 }
 
-// What lacks at the nodes nested in one, or under their buckets.
+// What lacks at the nodes nested in one, or under their buckets, in a bucket with this count.
 #[cycle(lacking)]
 fn push_in_bucket<R: BucketReading>(
     alloc: Global,
@@ -217,29 +219,21 @@ fn push_in_bucket<R: BucketReading>(
     node: &Node,
     shards: &[u32],
     bucket: &R::Bucket,
+    count: u64,
     depth: u32,
     way: &mut Vec<Step>,
     lacks: &mut Vec<Lack>,
 ) -> Result<(), WantMemory>
     requires countable { AreCountable (inner_view node.now) }
     requires distinct { AreDistinct shards.now }
+    requires count { count ≡ (R.reading reading.now).count_on shards.now (R.held bucket.now) }
     ensures way { OnOk result (way.new.items ≡ way.old.items) }
     ensures lacks { OnOk result (map lack_view lacks.new.items ≡ map lack_view lacks.old.items
         ++ lacking_of (R.reading reading.now) R.has depth (inner_view node.now) 0 shards.now (R.held bucket.now) (way_view way.old.items)) }
 {
-    let stats = reading.stats_on(alloc, &[], shards, bucket)?;
     for (number, nested) in node.nodes.iter().enumerate() {
         push_at_node(
-            alloc,
-            reading,
-            number,
-            nested,
-            shards,
-            bucket,
-            stats.count,
-            depth,
-            way,
-            lacks,
+            alloc, reading, number, nested, shards, bucket, count, depth, way, lacks,
         )?;
     }
     Ok(())
@@ -261,10 +255,19 @@ pub fn lacking<R: BucketReading>(
     ensures { IfOk result (λ all. map lack_view all.items ≡ lacking_of (R.reading reading.now) R.has depth (inner_view node.now) 0
         shards.now (R.held bucket.now) []) }
 {
+    let stats = reading.stats_on(alloc, &[], shards, bucket)?;
     let mut way = Vec::new(alloc);
     let mut lacks = Vec::new(alloc);
     push_in_bucket(
-        alloc, reading, node, shards, bucket, depth, &mut way, &mut lacks,
+        alloc,
+        reading,
+        node,
+        shards,
+        bucket,
+        stats.count,
+        depth,
+        &mut way,
+        &mut lacks,
     )?;
     Ok(lacks)
 }

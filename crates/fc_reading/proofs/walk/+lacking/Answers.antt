@@ -1,5 +1,4 @@
 use Rattle.std.proofs.Common.{◌≡◌, ◌∙◌, ◌+◌, ◌-◌, ◌++◌, ◌∷◌, List, suc, drop, drop-cons, add-one, ap, sym, subst, map, false, ◌==◌, ◌&&◌, rules, arith}
-use Rattle.std.specs.Cow.{cow_slice_items}
 use Rattle.std.specs.List.{flat_map}
 use Rattle.std.proofs.lemmas.Bool.{ne_eqb}
 use Rattle.std.proofs.lemmas.List.{append-nil}
@@ -13,10 +12,8 @@ use Rattle.fc_request.specs.declared.node.Node.{out-Node}
 use Rattle.fc_request.specs.FacetNode.{facet_view, has_buckets, kind_of, kind_view}
 use Rattle.fc_request.specs.NodeView.{inner_view, node_view, nodes_view}
 use Rattle.fc_request.proofs.Nodes.{has_buckets_by}
-use Rattle.fc_reading.specs.declared.keyed.Keyed.{Keyed}
-use Rattle.fc_reading.specs.Distinct.{AreDistinct}
 use Rattle.fc_reading.specs.Inside.{inside_key, lacking_under}
-use Rattle.fc_reading.specs.Keys.{keyed_view}
+use Rattle.fc_reading.specs.Keys.{IsCountedKey, keyed_view}
 use Rattle.fc_reading.specs.Lacking.{lacking}
 use Rattle.fc_reading.specs.LackView.{lack_view}
 use Rattle.fc_reading.specs.Tree.{node_before}
@@ -89,7 +86,7 @@ push_in_bucket-push_at_node-requires g t c =
             search rules,
             (
               countable_first (node_view item) rest (subst AreCountable first c.loop-number.invariant.2),
-              (c.requires.distinct, ap (λ s. s.count) c.in_ok-stats.ensures),
+              (c.requires.distinct, c.requires.count),
             ),
           ),
         ),
@@ -136,7 +133,7 @@ push_in_keys-loop-one-preserved g t c =
       c.in_ok-push_in_key.ensures.way ∙ c.loop-one.invariant.0,
       next_made (inside c.args.way.now.items) done (map lack_view c.push_in_key.new.lacks.items) (see one) (map see rest) (map see left) _ (ap (map see) first)
           (c.in_ok-push_in_key.ensures.lacks ∙ ap (λ w. done ++ inside w (see one)) c.loop-one.invariant.0) c.loop-one.invariant.1,
-      All-rest (λ (k : Keyed g.row.R-Bucket.Denot). AreDistinct (cow_slice_items k.shards)) one rest left first c.loop-one.invariant.2,
+      All-rest (IsCountedKey R g.R.BucketReading.held) one rest left first c.loop-one.invariant.2,
     )
 
 pub push_under-returns-then-is_empty-clause-lacks : goal.push_under-returns-then-is_empty-clause-lacks
@@ -162,5 +159,5 @@ push_under-returns-clause-lacks g t c =
     let d = c.args.depth in
     let old = map lack_view c.args.lacks.now.items in
     c.in_ok-push_in_keys.ensures.lacks
-    ∙ ap (λ ls. old ++ ls) (under_keys R has kind inner n H (g.R.BucketReading.over c.in_ok-domain.domain) way d (map (keyed_view g.R.BucketReading.held) c.in_ok-buckets.buckets.items) c.in_ok-buckets.ensures.buckets)
+    ∙ ap (λ ls. old ++ ls) (under_keys R has kind inner n H (g.R.BucketReading.over c.in_ok-domain.domain) way d (map (keyed_view g.R.BucketReading.held) c.in_ok-buckets.buckets.items) c.in_ok-buckets.ensures.keyed)
     ∙ ap (λ y. old ++ lacking_under R has kind inner n H y way d) c.in_ok-domain.ensures.over

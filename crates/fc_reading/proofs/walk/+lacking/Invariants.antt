@@ -1,15 +1,12 @@
 use Rattle.std.proofs.Common.{◌≡◌, ◌++◌, ◌+◌, ◌*◌, map, drop}
-use Rattle.std.specs.Prelude.{All}
-use Rattle.std.specs.Cow.{cow_slice_items}
 use Rattle.std.specs.List.{flat_map}
 use Rattle.fc_refine.specs.AskView.{way_view}
 use Rattle.fc_refine.specs.CountableRanges.{AreCountable}
 use Rattle.fc_request.specs.declared.node.Node.{out-Node}
 use Rattle.fc_request.specs.NodeView.{inner_view, node_view, nodes_view}
 use Rattle.fc_spec.specs.requests.Request.{no_nodes}
-use Rattle.fc_reading.specs.Distinct.{AreDistinct}
 use Rattle.fc_reading.specs.Inside.{inside_key}
-use Rattle.fc_reading.specs.Keys.{keyed_view}
+use Rattle.fc_reading.specs.Keys.{AreCountedKeys, keyed_view}
 use Rattle.fc_reading.specs.Lacking.{lacking}
 use Rattle.fc_reading.specs.LackView.{lack_view}
 use Rattle.fc_reading.specs.Tree.{node_before}
@@ -23,7 +20,7 @@ invariant-push_in_keys-loop-one g l =
     let see = keyed_view g.R.BucketReading.held in
     (l.way.items ≡ l.fn.way.items)
     × (map lack_view l.lacks.items ++ flat_map F (map see l.one-iterator.rest.items) ≡ map lack_view l.fn.lacks.items ++ flat_map F (map see l.fn.buckets.items))
-    × All (λ one. AreDistinct (cow_slice_items one.shards)) l.one-iterator.rest.items
+    × AreCountedKeys R g.R.BucketReading.held l.one-iterator.rest.items
 
 abbrev pub invariant-push_in_bucket-loop-number : goal.invariant-push_in_bucket-loop-number
 invariant-push_in_bucket-loop-number g l =
