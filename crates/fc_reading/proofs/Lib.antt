@@ -1,7 +1,5 @@
 pub mod Candidates
 pub mod DistinctShards
-pub mod KeyedBuckets
-pub mod LackedValues
 pub mod MadeLists
 pub mod Merging
 pub mod OfferedValues
@@ -11,7 +9,5 @@ pub mod Rows
 pub mod RowsMade
 pub mod Sizes
 pub mod Steps
-pub mod Untold
 pub mod ValidRanges
 pub mod ValueParts
-pub mod WalkedNodes

@@ -10,11 +10,11 @@ use std::borrow::CowSlice;
 
 /// A value with the shards that it is counted on, its bucket, and its count and statistics there.
 #[derive(Drop)]
-pub(crate) struct Candidate<'s, B> {
-    pub(crate) val: Val,
-    pub(crate) shards: CowSlice<'s, u32>,
-    pub(crate) bucket: B,
-    pub(crate) stats: Stats,
+pub struct Candidate<'s, B> {
+    pub val: Val,
+    pub shards: CowSlice<'s, u32>,
+    pub bucket: B,
+    pub stats: Stats,
 }
 
 impl<B> Ranked for Candidate<'_, B> {

@@ -174,14 +174,14 @@ fn all_counted_on<'s, R: BucketReading>(
 }
 
 /// Whether a terms facet asks again.
-pub(crate) fn asks_again(terms: &Terms) -> bool
+pub fn asks_again(terms: &Terms) -> bool
     ensures { result ≡ asks_again_of (terms_view terms.now) }
 {
     terms.refine && terms.limit.is_some()
 }
 
 /// The chosen values of a facet that asks again, each counted over the shards that offer it.
-pub(crate) fn chosen_again<'s, R: BucketReading>(
+pub fn chosen_again<'s, R: BucketReading>(
     alloc: Global,
     reading: &R,
     node: &Node,
@@ -256,7 +256,7 @@ fn with_count<'s, B: Drop>(
 }
 
 /// The candidates that are printed, in the order of their ranks.
-pub(crate) fn printed<'s, R: BucketReading>(
+pub fn printed_values<'s, R: BucketReading>(
     alloc: Global,
     reading: &R,
     node: &Node,
@@ -318,7 +318,7 @@ pub(crate) fn terms_parts<'s, R: BucketReading>(
         ≡ parts_of (R.reading reading.now) (definition.terms (terms_view terms.now)) (inner_view node.now) shards.now (R.over domain.now)) }
     ensures counted { IfOk result (AreCounted (R.reading reading.now) R.held (map stat_view stats.now)) }
 {
-    let printed = printed(alloc, reading, node, terms, stats, shards, domain)?;
+    let printed = printed_values(alloc, reading, node, terms, stats, shards, domain)?;
     let list = value_parts(alloc, printed)?;
     let missing = part_beside(
         alloc,

@@ -65,7 +65,7 @@ fn is_statistic(node: &Node) -> bool
 }
 
 /// Whether a facet excludes no tag.
-pub(crate) fn has_no_tag(tags: &[Name]) -> bool
+pub fn has_no_tag(tags: &[Name]) -> bool
     ensures { result ≡ is_empty tags.now }
 {
     tags.is_empty()

@@ -1,0 +1,4 @@
+pub mod KeyedBuckets
+pub mod LackedValues
+pub mod Untold
+pub mod WalkedNodes

@@ -1,0 +1,4 @@
+pub mod Inside
+pub mod Keys
+pub mod LackView
+pub mod Lacking
