@@ -1,5 +1,5 @@
 -- The next round begins, or the reply can be made.
-use Rattle.std.proofs.Common.{◌≡◌, ◌⊎◌, ℕ, zero, suc, ◌+◌, ◌<◌, ◌≤◌, List, [], ◌∷◌, ◌++◌, append-nil, map, length, true, false, ◌||◌, Option, None, Some, is_some, is_none, refl, sym, ◌∙◌, ap, subst, inl, inr, arith}
+use Rattle.std.proofs.Common.{◌≡◌, ℕ, zero, suc, ◌+◌, ◌<◌, ◌≤◌, List, [], ◌∷◌, ◌++◌, append-nil, map, length, true, false, ◌||◌, Option, Some, is_some, is_none, IsTrue, refl, sym, ◌∙◌, ap, subst, inl, inr, arith}
 use Rattle.std.specs.List.{AllByRecursion, list_any, range_with_len}
 use Rattle.std.proofs.lemmas.Bool.{false≢true, cases_lt}
 use Rattle.std.proofs.lemmas.List.{length-map}
@@ -12,6 +12,7 @@ use Rattle.fc_spec.specs.messages.Merged.{over_held}
 use Rattle.fc_spec.specs.messages.Lacks.{Lack, wanted, lacks, untold, terms_depth}
 use Rattle.fc_spec.specs.messages.Rounds.{wants_of}
 use Rattle.fc_spec.specs.laws.LacksLaws.{way_depth, AreWithinDepth}
+use Rattle.fc_spec.specs.laws.Merging.{HasRoots, LacksNothing}
 use Rattle.fc_told.specs.Trees.{nothing}
 use Rattle.fc_told.specs.Telling.{Tells}
 use Rattle.fc_spec.proofs.words.NumbersBelow.{member_below}
@@ -21,8 +22,9 @@ use Rattle.fc_spec.proofs.messages.Beyond.{wanted_beyond, wanted_among}
 use Rattle.fc_spec.proofs.messages.SearchEnds.{IsNext, next_is}
 use Rattle.fc_spec.proofs.messages.Ways.{none_not_some, some_exact}
 use Rattle.fc_coord.specs.State.{State, ask_at, at_start, ask_for, asks_for, begun, lacks_next, goes_on}
-use Rattle.fc_coord.specs.Keeps.{Round, roots, lacking_at, depth_of, ask_in, Begins, IsAnswered, AreAnswered, Keeps}
-use Rattle.fc_coord.proofs.Hearing.{want_there}
+use Rattle.fc_coord.specs.Keeps.{Round, roots, lacking_at, depth_of, ask_in, Begins, IsAnswered, AreAnswered, IsRooted, HasEnded, Keeps}
+use Rattle.fc_coord.specs.View.{KeepsAt}
+use Rattle.fc_coord.proofs.Hearing.{none_asked, want_there}
 use Rattle.fc_coord.proofs.Rising.{nothing_lacks_down_to}
 
 -- ---- at the start
@@ -32,30 +34,34 @@ first_asked [] i ask e = absurd (none_not_some ask e)
 first_asked (x ∷ xs) zero ask e = sym (some_exact first ask e)
 first_asked (x ∷ xs) (suc i) ask e = first_asked xs i ask e
 
-pub start_keeps : (r : Request) (n : ℕ) → Tells nothing [] → Keeps (at_start r n) []
-start_keeps r n tells = record {
-  before = [];
-  here = [];
-  asking = roots;
-  told = refl;
-  tree = tells;
-  fitting = tt;
-  sums = record { counts = λ way. omega arith; sizes = λ m way. omega arith };
-  once = λ i j d before within. absurd (omega arith);
-  begins = refl;
-  depths = tt;
-  asked = λ i ask e. record { own = first_asked (numbers_below n) i ask e; untold = tt };
-  answered = tt;
-  rounds = omega arith;
-}
+start_awaited : (xs : List ℕ) (i : ℕ) → i < length (map (λ _. Some first) xs) → is_some (ask_at (map (λ _. Some first) xs) i) ≡ true
+start_awaited [] i less = absurd (omega arith)
+start_awaited (x ∷ xs) zero less = refl
+start_awaited (x ∷ xs) (suc i) less = start_awaited xs i (omega arith)
+
+pub start_keeps : (r : Request) (n : ℕ) → Tells nothing [] → KeepsAt (at_start r n) [] 0
+start_keeps r n tells = (
+  record {
+    before = [];
+    here = [];
+    asking = roots;
+    told = refl;
+    tree = tells;
+    fitting = tt;
+    sums = record { counts = λ way. omega arith; sizes = λ m way. omega arith };
+    once = λ i j d before within. absurd (omega arith);
+    begins = refl;
+    depths = tt;
+    asked = λ i ask e. record { own = first_asked (numbers_below n) i ask e; untold = tt };
+    answered = tt;
+    rounds = omega arith;
+    rooted = λ i less. ap (λ b. b || false) (start_awaited (numbers_below n) i less);
+    ended = λ ready. absurd (false≢true ready);
+  },
+  refl,
+)
 
 -- ---- a round has ended
-
-none_asked : (asks : List (Option Ask)) (i : ℕ) → list_any is_some asks ≡ false → is_some (ask_at asks i) ≡ false
-none_asked [] i none = refl
-none_asked (None ∷ xs) zero none = refl
-none_asked (None ∷ xs) (suc i) none = none_asked xs i none
-none_asked (Some a ∷ xs) i none = absurd (false≢true (sym none))
 
 -- down to the depth of the round nothing lacks
 nothing_down : (r : Request) (n : ℕ) (before here : List Told) (round : Round) (asks : List (Option Ask)) → list_any is_some asks ≡ false → Begins r n before round → AllByRecursion (λ t. way_depth r.nodes t.way ≡ depth_of round) here
@@ -109,6 +115,18 @@ lack_asked r n A f l m =
 
 -- ---- what is kept, and how many rounds there are
 
+-- each shard has told its root
+root_is_told : (round : Round) (asks : List (Option Ask)) (A : List Told) (i : ℕ) → list_any is_some asks ≡ false → IsRooted round asks A i → IsTrue (is_some (held A i []))
+root_is_told roots asks A i none h = sym (ap (λ b. b || is_some (held A i [])) (none_asked asks i none)) ∙ h
+root_is_told (lacking_at e) asks A i none h = h
+
+roots_told : (s : State) (A : List Told) → Keeps s A → list_any is_some s.asks ≡ false → HasRoots (length s.asks) A
+roots_told s A k none i less = root_is_told k.asking s.asks A i none (k.rooted i less)
+
+-- what lacks at no depth of the request's terms facets lacks nowhere
+nowhere_beyond : (r : Request) (n : ℕ) (A : List Told) → ((d : ℕ) → d < terms_depth r.nodes → lacks r n A d ≡ []) → LacksNothing r n A
+nowhere_beyond r n A none e = elim (cases_lt e (terms_depth r.nodes)) [ inl low ↦ none e low | inr high ↦ ap (untold A) (wanted_beyond (over_held A) r.nodes e 0 (numbers_below n) [] [] high) ]
+
 -- whatever lacks at a depth of the request's terms facets
 depth_bound : (r : Request) (n : ℕ) (A : List Told) (f : ℕ) → is_empty (lacks r n A f) ≡ false → f < terms_depth r.nodes
 depth_bound r n A f some = elim (cases_lt f (terms_depth r.nodes)) [
@@ -121,10 +139,10 @@ pub record HasBegun (s : State) (A : List Told) (all : List Lack) : Type 0 where
   pub keeps : Keeps (begun s all) A
   pub counted : is_empty all ≡ false → s.round ≤ terms_depth s.request.nodes
 
-begun_again : (s : State) (A : List Told) (all : List Lack) (f : ℕ) → Keeps s A → all ≡ lacks s.request (length s.asks) A f → is_empty all ≡ false → AreWithinDepth s.request.nodes f A → ((d : ℕ) → d < f → lacks s.request (length s.asks) A d ≡ []) → s.round ≤ f + 1
-    → Keeps (begun s all) A
-begun_again s A [] f k is some within none rounds = absurd (false≢true (sym some))
-begun_again s A (l ∷ ls) f k is some within none rounds =
+begun_again : (s : State) (A : List Told) (all : List Lack) (f : ℕ) → Keeps s A → HasRoots (length s.asks) A → all ≡ lacks s.request (length s.asks) A f → is_empty all ≡ false → AreWithinDepth s.request.nodes f A → ((d : ℕ) → d < f → lacks s.request (length s.asks) A d ≡ []) → s.round ≤ f + 1
+    → KeepsAt (begun s all) A (suc f)
+begun_again s A [] f k told is some within none rounds = absurd (false≢true (sym some))
+begun_again s A (l ∷ ls) f k told is some within none rounds =
     let r = s.request in
     let n = length s.asks in
     let len = sym (length-asks_for n (l ∷ ls)) in
@@ -132,57 +150,80 @@ begun_again s A (l ∷ ls) f k is some within none rounds =
     wants_asked (wants_of i (l ∷ ls)) ask (ap (λ j. ask_for (wants_of j (l ∷ ls))) (omega arith) ∙ made_is (λ j. ask_for (wants_of j (l ∷ ls))) n 0 i ask e) ∙ ap (λ all. more (wants_of i all)) is in
     let answered : AreAnswered r n A (lacking_at f) (asks_for n (l ∷ ls)) [] =
     all_from_members (IsAnswered (asks_for n (l ∷ ls)) []) (lacks r n A f)
-    (λ x m. ap (λ b. b || false) (ap (λ all. is_some (ask_at (asks_for n all) x.shard)) is ∙ lack_asked r n A f x m)) in
-    record {
-      before = A;
-      here = [];
-      asking = lacking_at f;
-      told = sym (append-nil A);
-      tree = k.tree;
-      fitting = k.fitting;
-      sums = k.sums;
-      once = k.once;
-      begins = subst (λ z. Begins r z A (lacking_at f)) len (within, none);
-      depths = tt;
-      asked = λ i ask e. record { own = asked i ask e ∙ ap (λ z. ask_in r z A (lacking_at f) i) len; untold = tt };
-      answered = subst (λ z. AreAnswered r z A (lacking_at f) (asks_for n (l ∷ ls)) []) len answered;
-      rounds = omega arith;
-    }
+    (λ x m. ap (λ b. b || false) (ap (λ all. is_some (ask_at (asks_for n all) x.shard)) is ∙ lack_asked r n A f x m)) in (
+      record {
+        before = A;
+        here = [];
+        asking = lacking_at f;
+        told = sym (append-nil A);
+        tree = k.tree;
+        fitting = k.fitting;
+        sums = k.sums;
+        once = k.once;
+        begins = subst (λ z. Begins r z A (lacking_at f)) len (within, none);
+        depths = tt;
+        asked = λ i ask e. record { own = asked i ask e ∙ ap (λ z. ask_in r z A (lacking_at f) i) len; untold = tt };
+        answered = subst (λ z. AreAnswered r z A (lacking_at f) (asks_for n (l ∷ ls)) []) len answered;
+        rounds = omega arith;
+        rooted = λ i less. told i (let same = length-asks_for n (l ∷ ls) in omega arith);
+        ended = λ ready. absurd (false≢true (sym some ∙ ap is_empty (is ∙ (k.ended ready).2 f)));
+      },
+      refl,
+    )
 
-ready_keeps : (s : State) (A : List Told) → Keeps s A → Keeps (record s { ready = true }) A
-ready_keeps s A k = record {
-  before = k.before;
-  here = k.here;
-  asking = k.asking;
-  told = k.told;
-  tree = k.tree;
-  fitting = k.fitting;
-  sums = k.sums;
-  once = k.once;
-  begins = k.begins;
-  depths = k.depths;
-  asked = k.asked;
-  answered = k.answered;
-  rounds = k.rounds;
-}
+ready_keeps : (s : State) (A : List Told) (k : Keeps s A) → HasEnded s A → KeepsAt (record s { ready = true }) A (depth_of k.asking)
+ready_keeps s A k over = (
+  record {
+    before = k.before;
+    here = k.here;
+    asking = k.asking;
+    told = k.told;
+    tree = k.tree;
+    fitting = k.fitting;
+    sums = k.sums;
+    once = k.once;
+    begins = k.begins;
+    depths = k.depths;
+    asked = k.asked;
+    answered = k.answered;
+    rounds = k.rounds;
+    rooted = k.rooted;
+    ended = λ ready. over;
+  },
+  refl,
+)
+
+-- nothing lacks
+pub ready_at_end : (s : State) (A : List Told) (k : Keeps s A) → list_any is_some s.asks ≡ false → ((d : ℕ) → d < terms_depth s.request.nodes → lacks s.request (length s.asks) A d ≡ []) → KeepsAt (record s { ready = true }) A (depth_of k.asking)
+ready_at_end s A k none nowhere = ready_keeps s A k (none, roots_told s A k none, nowhere_beyond s.request (length s.asks) A nowhere)
+
+module _ (s : State) (A : List Told) (k : Keeps s A) (none : list_any is_some s.asks ≡ false) where
+  -- down to the depth of the round nothing lacks
+  pub down : (d : ℕ) → d < depth_of k.asking → lacks s.request (length s.asks) A d ≡ []
+  down d less = subst (λ T. lacks s.request (length s.asks) T d ≡ []) (sym k.told) (nothing_down s.request (length s.asks) k.before k.here k.asking s.asks none k.begins k.depths k.answered d less)
+
+  -- what lacks at a depth, and nothing at less
+  module _ (all : List Lack) (f : ℕ) (is : all ≡ lacks s.request (length s.asks) A f) (some : is_empty all ≡ false) (below : (d : ℕ) → d < f → lacks s.request (length s.asks) A d ≡ []) where
+    full : is_empty (lacks s.request (length s.asks) A f) ≡ false
+    full = ap is_empty (sym is) ∙ some
+
+    deeper : depth_of k.asking ≤ f
+    deeper = elim (cases_lt f (depth_of k.asking)) [ inl low ↦ absurd (false≢true (sym full ∙ ap is_empty (down f low))) | inr high ↦ high ]
+
+    pub begun_at : KeepsAt (begun s all) A (suc f)
+    begun_at =
+        begun_again s A all f k (roots_told s A k none) is some
+        (subst (AreWithinDepth s.request.nodes f) (sym k.told) (within_down s.request (length s.asks) f k.before k.here k.asking deeper k.begins k.depths)) below (let a = k.rounds in let b = deeper in omega arith)
+
+    pub round_counted : s.round ≤ terms_depth s.request.nodes
+    round_counted = let a = k.rounds in let b = deeper in let c = depth_bound s.request (length s.asks) A f full in omega arith
 
 pub has_begun : (s : State) (A : List Told) → Keeps s A → list_any is_some s.asks ≡ false → HasBegun s A (lacks_next s A)
 has_begun s A k none = go (lacks_next s A) (next_is s.request (length s.asks) A (terms_depth s.request.nodes) 0)
   where
-    down : (d : ℕ) → d < depth_of k.asking → lacks s.request (length s.asks) A d ≡ []
-    down d less = subst (λ T. lacks s.request (length s.asks) T d ≡ []) (sym k.told) (nothing_down s.request (length s.asks) k.before k.here k.asking s.asks none k.begins k.depths k.answered d less)
-
     go : (all : List Lack) → IsNext s.request (length s.asks) A (terms_depth s.request.nodes) 0 all → HasBegun s A all
-    go all (inl ended) = subst (HasBegun s A) (sym ended.0) (record { keeps = ready_keeps s A k; counted = λ e. absurd (false≢true (sym e)) })
-    go all (inr goes_on) = rising (cases_lt goes_on.0 (depth_of k.asking))
-      where
-        some : is_empty (lacks s.request (length s.asks) A goes_on.0) ≡ false
-        some = ap is_empty (sym goes_on.1) ∙ goes_on.2
-
-        rising : (goes_on.0 < depth_of k.asking) ⊎ (depth_of k.asking ≤ goes_on.0) → HasBegun s A all
-        rising (inl low) = absurd (false≢true (sym some ∙ ap is_empty (down goes_on.0 low)))
-        rising (inr high) = record {
-          keeps = begun_again s A all goes_on.0 k goes_on.1 goes_on.2
-              (subst (AreWithinDepth s.request.nodes goes_on.0) (sym k.told) (within_down s.request (length s.asks) goes_on.0 k.before k.here k.asking high k.begins k.depths)) (λ d less. goes_on.3 d (omega arith) less) (let a = k.rounds in omega arith);
-          counted = λ e. let a = k.rounds in let b = depth_bound s.request (length s.asks) A goes_on.0 some in omega arith;
-        }
+    go all (inl ended) =
+        subst (HasBegun s A) (sym ended.0) (record { keeps = (ready_at_end s A k none (λ d less. ended.1 d (omega arith) (omega arith))).0; counted = λ e. absurd (false≢true (sym e)) })
+    go all (inr goes_on) =
+        let below = λ (d : ℕ) (less : d < goes_on.0). goes_on.3 d (omega arith) less in
+        record { keeps = (begun_at s A k none all goes_on.0 goes_on.1 goes_on.2 below).0; counted = λ e. round_counted s A k none all goes_on.0 goes_on.1 goes_on.2 below }

@@ -1,7 +1,7 @@
 -- What a message of an awaited shard adds to what is kept.
-use Rattle.std.proofs.Common.{◌≡◌, ◌≢◌, ◌⊎◌, ℕ, zero, suc, List, [], ◌∷◌, ◌++◌, append_assoc, map, length, Bool, true, false, ◌&&◌, ◌||◌, ◌==◌, Option, None, Some, is_some, IsTrue, refl, sym, ◌∙◌, ap, subst, inl, inr, arith}
+use Rattle.std.proofs.Common.{◌≡◌, ◌≢◌, ◌⊎◌, ℕ, zero, suc, List, [], ◌∷◌, ◌++◌, append_assoc, map, length, Bool, true, false, ◌&&◌, ◌||◌, ◌==◌, ◌<◌, Option, None, Some, is_some, IsTrue, refl, sym, ◌∙◌, ap, subst, inl, inr, arith}
 use Rattle.std.specs.Prelude.{slice_set, ◌↔◌}
-use Rattle.std.specs.List.{AllByRecursion, filter}
+use Rattle.std.specs.List.{AllByRecursion, filter, list_any}
 use Rattle.std.proofs.lemmas.Bool.{false≢true, and_parts, eq-eqb, cases_eq}
 use Rattle.fc_spec.specs.requests.Request.{Nodes, Request}
 use Rattle.fc_spec.specs.requests.Ranks.{offered_bound}
@@ -26,7 +26,8 @@ use Rattle.fc_spec.proofs.messages.LacksDeep.{lack_is_deep}
 use Rattle.fc_spec.proofs.messages.ToldOnce.{told_want, first_tell_once, rounds_tell_once}
 use Rattle.fc_spec.proofs.messages.Ways.{none_not_some}
 use Rattle.fc_coord.specs.State.{State, ask_at, is_awaited, told_for, told_of, is_shaped_for, is_fitting, Fits, heard}
-use Rattle.fc_coord.specs.Keeps.{Round, roots, lacking_at, depth_of, ask_in, Begins, IsAnswered, AreAnswered, Keeps}
+use Rattle.fc_coord.specs.Keeps.{Round, roots, lacking_at, depth_of, ask_in, Begins, IsAnswered, AreAnswered, IsRooted, Keeps}
+use Rattle.fc_coord.specs.View.{KeepsAt}
 
 -- ---- the asks, once a shard is heard
 
@@ -50,6 +51,13 @@ asked_still (x ∷ xs) zero zero other = absurd (other refl)
 asked_still (x ∷ xs) zero (suc j) other = refl
 asked_still (x ∷ xs) (suc i) zero other = refl
 asked_still (x ∷ xs) (suc i) (suc j) other = asked_still xs i j (λ h. other (omega arith))
+
+-- where nobody is asked, no shard is
+pub none_asked : (asks : List (Option Ask)) (i : ℕ) → list_any is_some asks ≡ false → is_some (ask_at asks i) ≡ false
+none_asked [] i none = refl
+none_asked (None ∷ xs) zero none = refl
+none_asked (None ∷ xs) (suc i) none = none_asked xs i none
+none_asked (Some a ∷ xs) i none = absurd (false≢true (sym none))
 
 -- ---- what is told in a round
 
@@ -124,6 +132,33 @@ still_answered r n before (lacking_at e) asks here i m shaped all = all_from_mem
         go true k f = ap (λ a. is_some a || is_some (held (here ++ told) l.shard (way_of l.want))) (asked_still asks i l.shard other) ∙ ap (λ b. b || is_some (held (here ++ told) l.shard (way_of l.want))) k
         go false k f = second (is_some (ask_at (slice_set asks i None) l.shard)) (is_some (held (here ++ told) l.shard (way_of l.want))) (held_among_more here told l.shard (way_of l.want) f)
 
+-- the first message of a shard tells its root
+root_told : (r : Request) (i : ℕ) (m : Partials) → is_shaped r first m ≡ true → is_some (held (told_by r.nodes i first m) i []) ≡ true
+root_told r i no_partials shaped = absurd (false≢true shaped)
+root_told r i (partial key stats rows rest) shaped = told_held (record { shard = i; way = []; bucket = record { stats = stats; nodes = r.nodes; rows = rows } }) []
+
+-- so each shard that is not awaited has told its root
+still_rooted : (r : Request) (n : ℕ) (before A : List Told) (round : Round) (asks : List (Option Ask)) (i j : ℕ) (m : Partials) → is_shaped r (ask_in r n before round i) m ≡ true → IsRooted round asks A j
+    → IsRooted round (slice_set asks i None) (A ++ told_by r.nodes i (ask_in r n before round i) m) j
+still_rooted r n before A (lacking_at e) asks i j m shaped h = held_among_more A (told_by r.nodes i (more (wants_of i (lacks r n before e))) m) j [] h
+still_rooted r n before A roots asks i j m shaped h = one (cases_eq j i)
+  where
+    told : List Told
+    told = told_by r.nodes i first m
+
+    later : (a b : Bool) → b ≡ true → (a || b) ≡ true
+    later true b e = refl
+    later false b e = e
+
+    one : (j ≡ i) ⊎ (j ≢ i) → IsRooted roots (slice_set asks i None) (A ++ told) j
+    one (inl own) =
+        later (is_some (ask_at (slice_set asks i None) j)) (is_some (held (A ++ told) j [])) (held_among_later A told j [] (subst (λ k. is_some (held told k []) ≡ true) (sym own) (root_told r i m shaped)))
+    one (inr other) = go (is_some (ask_at asks j)) refl h
+      where
+        go : (b : Bool) → is_some (ask_at asks j) ≡ b → (b || is_some (held A j [])) ≡ true → IsRooted roots (slice_set asks i None) (A ++ told) j
+        go true e f = ap (λ a. is_some a || is_some (held (A ++ told) j [])) (asked_still asks i j other) ∙ ap (λ b. b || is_some (held (A ++ told) j [])) e
+        go false e f = later (is_some (ask_at (slice_set asks i None) j)) (is_some (held (A ++ told) j [])) (held_among_more A told j [] f)
+
 -- no shard tells a bucket twice
 once_more : (r : Request) (n : ℕ) (before here : List Told) (round : Round) (i : ℕ) (m : Partials) → TellOnce (before ++ here) → Begins r n before round → AreOfOthers i here → TellOnce ((before ++ here) ++ told_by r.nodes i (ask_in r n before round i) m)
 once_more r n before here roots i m once begins others = (first_tell_once r.nodes (before ++ here) i m once (subst (λ B. AreOfOthers i (B ++ here)) (sym begins) others)).0
@@ -161,8 +196,8 @@ fits_is_exact s A i m exact k awaited =
 abbrev heard_by : State → ℕ → List Told → State
 heard_by s i T = record s { tree = all_added T s.tree; asks = slice_set s.asks i None }
 
-keeps_told : (s : State) (A : List Told) (i : ℕ) (m : Partials) → TellsMore → FitsExactly → Keeps s A → (ask : Ask) → ask_at s.asks i ≡ Some ask → IsTrue (is_shaped s.request ask m) → SumsFit (A ++ told_by s.request.nodes i ask m)
-    → Keeps (heard_by s i (told_by s.request.nodes i ask m)) (A ++ told_by s.request.nodes i ask m)
+keeps_told : (s : State) (A : List Told) (i : ℕ) (m : Partials) → TellsMore → FitsExactly → (k : Keeps s A) → (ask : Ask) → ask_at s.asks i ≡ Some ask → IsTrue (is_shaped s.request ask m) → SumsFit (A ++ told_by s.request.nodes i ask m)
+    → KeepsAt (heard_by s i (told_by s.request.nodes i ask m)) (A ++ told_by s.request.nodes i ask m) (depth_of k.asking)
 keeps_told s A i m tells exact k ask at shaped sums =
     let r = s.request in
     let n = length s.asks in
@@ -172,31 +207,41 @@ keeps_told s A i m tells exact k ask at shaped sums =
     let shaped_own : is_shaped r (ask_in r n k.before k.asking i) m ≡ true = ap (λ x. is_shaped r x m) (sym a.own) ∙ shaped in
     let depths = subst (λ x. AllByRecursion (λ t. way_depth r.nodes t.way ≡ depth_of k.asking) (told_by r.nodes i x m)) (sym a.own) (told_depth r n k.before k.asking i m) in
     let answered = subst (λ x. AreAnswered r n k.before k.asking (slice_set s.asks i None) (k.here ++ told_by r.nodes i x m)) (sym a.own) (still_answered r n k.before k.asking s.asks k.here i m shaped_own k.answered) in
-    record {
-      before = k.before;
-      here = k.here ++ T;
-      asking = k.asking;
-      told = ap (λ B. B ++ T) k.told ∙ append_assoc k.before k.here T;
-      tree = tells r s.tree A i ask m shaped k.tree (once_told s A i m k ask at) sums;
-      fitting = all_append (IsFitting offered_bound r) A T k.fitting (shaped_are_fitting offered_bound r i ask m shaped);
-      sums = sums;
-      once = once_told s A i m k ask at;
-      begins = subst (λ z. Begins r z k.before k.asking) len k.begins;
-      depths = all_append (λ t. way_depth r.nodes t.way ≡ depth_of k.asking) k.here T k.depths depths;
-      asked = λ j other e.
-          let old = still_asked s.asks i j other e in
-          let own = k.asked j other old.1 in
-          record { own = own.own ∙ ap (λ z. ask_in r z k.before k.asking j) len; untold = others_more j k.here T i own.untold (told_own r.nodes i ask m) old.0 };
-      answered = subst (λ z. AreAnswered r z k.before k.asking (slice_set s.asks i None) (k.here ++ T)) len answered;
-      rounds = k.rounds;
-    }
+    let nobody = λ (ready : s.ready ≡ true). none_asked s.asks i (k.ended ready).0 in
+    let rooted = λ (j : ℕ) (less : j < length (slice_set s.asks i None)). subst (λ x. IsRooted k.asking (slice_set s.asks i None) (A ++ told_by r.nodes i x m) j) (sym a.own)
+    (still_rooted r n k.before A k.asking s.asks i j m shaped_own (k.rooted j (let same = length-heard s.asks i in omega arith))) in (
+      record {
+        before = k.before;
+        here = k.here ++ T;
+        asking = k.asking;
+        told = ap (λ B. B ++ T) k.told ∙ append_assoc k.before k.here T;
+        tree = tells r s.tree A i ask m shaped k.tree (once_told s A i m k ask at) sums;
+        fitting = all_append (IsFitting offered_bound r) A T k.fitting (shaped_are_fitting offered_bound r i ask m shaped);
+        sums = sums;
+        once = once_told s A i m k ask at;
+        begins = subst (λ z. Begins r z k.before k.asking) len k.begins;
+        depths = all_append (λ t. way_depth r.nodes t.way ≡ depth_of k.asking) k.here T k.depths depths;
+        asked = λ j other e.
+            let old = still_asked s.asks i j other e in
+            let own = k.asked j other old.1 in
+            record { own = own.own ∙ ap (λ z. ask_in r z k.before k.asking j) len; untold = others_more j k.here T i own.untold (told_own r.nodes i ask m) old.0 };
+        answered = subst (λ z. AreAnswered r z k.before k.asking (slice_set s.asks i None) (k.here ++ T)) len answered;
+        rounds = k.rounds;
+        rooted = rooted;
+        ended = λ ready. absurd (false≢true (sym (nobody ready) ∙ ap is_some at));
+      },
+      refl,
+    )
 
-pub heard_keeps : (s : State) (A : List Told) (i : ℕ) (m : Partials) → TellsMore → FitsExactly → Keeps s A → IsTrue (is_awaited s i) → IsTrue (is_fitting s i m) → Keeps (heard s i m) (A ++ told_of s i m)
-heard_keeps s A i m tells exact k awaited fits =
+pub heard_keeps_at : (s : State) (A : List Told) (i : ℕ) (m : Partials) → TellsMore → FitsExactly → (k : Keeps s A) → IsTrue (is_awaited s i) → IsTrue (is_fitting s i m) → KeepsAt (heard s i m) (A ++ told_of s i m) (depth_of k.asking)
+heard_keeps_at s A i m tells exact k awaited fits =
     let a = asked_is (ask_at s.asks i) awaited in
     let f : IsTrue (is_shaped s.request a.0 m && all_fit s.tree (told_by s.request.nodes i a.0 m)) = ap (λ o. is_shaped_for s.request o m && all_fit s.tree (told_for s.request.nodes i o m)) (sym a.1) ∙ fits in
     let both = (fits_of_ask s A i m exact k a.0 a.1).0 f in
-    subst (λ o. Keeps (heard_by s i (told_for s.request.nodes i o m)) (A ++ told_for s.request.nodes i o m)) (sym a.1) (keeps_told s A i m tells exact k a.0 a.1 both.0 both.1)
+    subst (λ o. KeepsAt (heard_by s i (told_for s.request.nodes i o m)) (A ++ told_for s.request.nodes i o m) (depth_of k.asking)) (sym a.1) (keeps_told s A i m tells exact k a.0 a.1 both.0 both.1)
+
+pub heard_keeps : (s : State) (A : List Told) (i : ℕ) (m : Partials) → TellsMore → FitsExactly → Keeps s A → IsTrue (is_awaited s i) → IsTrue (is_fitting s i m) → Keeps (heard s i m) (A ++ told_of s i m)
+heard_keeps s A i m tells exact k awaited fits = (heard_keeps_at s A i m tells exact k awaited fits).0
 
 -- ---- what is asked is there
 

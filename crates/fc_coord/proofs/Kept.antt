@@ -13,19 +13,23 @@ use Rattle.fc_spec.specs.messages.Held.{Told, held}
 use Rattle.fc_spec.specs.messages.Merged.{over_held}
 use Rattle.fc_spec.specs.messages.Lacks.{Lack, wanted, lacks, terms_depth}
 use Rattle.fc_spec.specs.messages.Rounds.{next_lacks}
+use Rattle.fc_reading.specs.Lacking.{LackingIsUntold}
 use Rattle.fc_told.specs.Trees.{Tree}
 use Rattle.fc_told.specs.Named.{NamesKeys}
 use Rattle.fc_told.specs.Telling.{Tells, TellsMore, FitsExactly, SumsOfTellers, TellersFit}
 use Rattle.fc_spec.proofs.words.NumbersBelow.{member_below}
 use Rattle.fc_spec.proofs.words.Members.{Member, filter_member}
 use Rattle.fc_spec.proofs.messages.Beyond.{wanted_among}
+use Rattle.fc_spec.proofs.messages.PrintedKnown.{nothing_is_empty}
 use Rattle.fc_coord.specs.State.{State, ask_at, asks_for, begun, lacks_next, goes_on, heard, told_of, is_awaited, is_fitting, taken}
 use Rattle.fc_coord.specs.Keeps.{Keeps}
-use Rattle.fc_coord.specs.View.{IsKept, is_ready, is_spent}
+use Rattle.fc_coord.specs.TreeReading.{lacking_in, IsFound}
+use Rattle.fc_coord.specs.View.{IsKept, IsKeptAt, KeepsAt, is_ready, is_spent}
 use Rattle.fc_coord.specs.declared.standing.Standing.{Standing}
 use Rattle.fc_coord.specs.declared.standing.Standing.TheVariants.{Open, Ready, Spent}
-use Rattle.fc_coord.proofs.Hearing.{heard_keeps, asks_name_keys}
-use Rattle.fc_coord.proofs.Beginning.{has_begun}
+use Rattle.fc_coord.proofs.Hearing.{heard_keeps, heard_keeps_at, asks_name_keys}
+use Rattle.fc_coord.proofs.Beginning.{has_begun, down, begun_at, ready_at_end}
+use Rattle.fc_coord.proofs.NextSteps.{lacks_read, found_in, found_is_next}
 
 pub ready_not_spent : (s : Standing) → is_ready s ≡ true → is_spent s ≡ false
 ready_not_spent Open h = refl
@@ -34,6 +38,9 @@ ready_not_spent Spent h = absurd (false≢true h)
 
 tellers_one : (T : Tree) → IsProp (TellersFit T)
 tellers_one T = hlevel props
+
+pub kept_somehow : (s : State) (depth : ℕ) → ∥ IsKeptAt s depth ∥₁ → ∥ IsKept s ∥₁
+kept_somehow s depth kept = ∥∥₁_map kept (λ k. (k.0, k.1.0))
 
 -- over the tellers sums fit
 pub tellers_fit : (s : State) → SumsOfTellers → ∥ IsKept s ∥₁ → TellersFit s.tree
@@ -50,17 +57,10 @@ some_length all some = ne_eqb (length all) 0 (λ e. omega arith)
 pub waits : (s : State) (A : List Told) → list_any is_some s.asks ≡ true → s ≡ goes_on s A
 waits s A some = sym (ap (λ b. cond b s (begun s (lacks_next s A))) some)
 
--- nothing lacks
-pub ends : (s : State) (A : List Told) (all : List Lack) → list_any is_some s.asks ≡ false → IsNextOf s all → all ≡ [] → Keeps s A → record s { ready = true } ≡ goes_on s A
-ends s A all none next nothing k = sym (ap (λ b. cond b s (begun s (lacks_next s A))) none ∙ ap (begun s) (sym (next A k.tree) ∙ nothing))
-
 -- a round begins
-begins_for : (s : State) (all : List Lack) → 0 < length all → begun s all ≡ record s { asks = asks_for (length s.asks) all; round = suc s.round }
+pub begins_for : (s : State) (all : List Lack) → 0 < length all → begun s all ≡ record s { asks = asks_for (length s.asks) all; round = suc s.round }
 begins_for s [] some = absurd (omega arith)
 begins_for s (l ∷ ls) some = refl
-
-pub begins_again : (s : State) (A : List Told) (all : List Lack) → list_any is_some s.asks ≡ false → IsNextOf s all → 0 < length all → Keeps s A → record s { asks = asks_for (length s.asks) all; round = suc s.round } ≡ goes_on s A
-begins_again s A all none next some k = sym (ap (λ b. cond b s (begun s (lacks_next s A))) none ∙ ap (begun s) (sym (next A k.tree)) ∙ begins_for s all some)
 
 -- ---- what is kept then
 
@@ -79,6 +79,9 @@ module _ (s : State) (i : ℕ) (m : Partials) (tells : TellsMore) (exact : FitsE
   pub heard_kept : ∥ IsKept s ∥₁ → ∥ IsKept (heard s i m) ∥₁
   heard_kept kept = ∥∥₁_map kept (λ k. (k.0 ++ told_of s i m, heard_keeps s k.0 i m tells exact k.1 awaited fits))
 
+  pub heard_kept_at : (depth : ℕ) → ∥ IsKeptAt s depth ∥₁ → ∥ IsKeptAt (heard s i m) depth ∥₁
+  heard_kept_at depth kept = ∥∥₁_map kept (λ k. let h = heard_keeps_at s k.0 i m tells exact k.1.0 awaited fits in (k.0 ++ told_of s i m, (h.0, h.1 ∙ k.1.1)))
+
   pub state_after : (new : State) → Follows (heard s i m) new → (A : List Told) → Keeps s A → new ≡ taken s A i m
   state_after new follows A k = follows (A ++ told_of s i m) (heard_keeps s A i m tells exact k awaited fits)
 
@@ -86,9 +89,6 @@ module _ (s : State) (i : ℕ) (m : Partials) (tells : TellsMore) (exact : FitsE
   keeps_after new follows A k =
       let own = heard_keeps s A i m tells exact k awaited fits in
       subst (λ x. Keeps x (A ++ told_of s i m)) (sym (follows (A ++ told_of s i m) own)) (goes_on_keeps (heard s i m) (A ++ told_of s i m) own)
-
-  pub kept_after : (new : State) → Follows (heard s i m) new → ∥ IsKept s ∥₁ → ∥ IsKept new ∥₁
-  kept_after new follows kept = ∥∥₁_map kept (λ k. (k.0 ++ told_of s i m, keeps_after new follows k.0 k.1))
 
 -- ---- what lacks next
 
@@ -112,6 +112,39 @@ lacks_there s all kept next l m = ∥∥₁_elim kept le_prop (λ k. next_below 
 -- and its round can be counted
 pub round_counts : (s : State) (all : List Lack) → ∥ IsKept s ∥₁ → list_any is_some s.asks ≡ false → IsNextOf s all → 0 < length all → s.round ≤ terms_depth s.request.nodes
 round_counts s all kept none next some = ∥∥₁_elim kept le_prop (λ k. (has_begun s k.0 k.1 none).counted (ap is_empty (sym (next k.0 k.1.tree)) ∙ some_length all some))
+
+-- at less depth than that of the round nothing lacks, once nobody is awaited
+none_one : (r : Request) (n : ℕ) (T : Tree) (depth : ℕ) → IsProp ((e : ℕ) → e < depth → is_empty (lacking_in r n T e) ≡ true)
+none_one r n T depth = hlevel props
+
+pub nothing_below : (s : State) (depth : ℕ) → LackingIsUntold → ∥ IsKeptAt s depth ∥₁ → list_any is_some s.asks ≡ false → (e : ℕ) → e < depth → is_empty (lacking_in s.request (length s.asks) s.tree e) ≡ true
+nothing_below s depth untold kept none =
+    ∥∥₁_elim kept (none_one s.request (length s.asks) s.tree depth)
+    (λ k e less. ap is_empty (lacks_read s.request (length s.asks) s.tree k.0 e untold k.1.0.tree ∙ down s k.0 k.1.0 none e (let same = k.1.1 in omega arith)))
+
+-- what is found lacks next
+pub found_next : (s : State) (depth : ℕ) (all : List Lack) → LackingIsUntold → IsFound (lacking_in s.request (length s.asks) s.tree) (terms_depth s.request.nodes) depth all → IsNextOf s all
+found_next s depth all untold found A tells = found_is_next s.request (length s.asks) A (terms_depth s.request.nodes) depth all (found_in s.request (length s.asks) s.tree A depth all untold tells found)
+
+-- ---- what is kept then, and at which depth
+
+pub ready_kept_at : (s : State) (depth found_depth : ℕ) (all : List Lack) → LackingIsUntold → ∥ IsKeptAt s depth ∥₁ → list_any is_some s.asks ≡ false → IsFound (lacking_in s.request (length s.asks) s.tree) (terms_depth s.request.nodes) found_depth all → all ≡ []
+    → ∥ IsKeptAt (record s { ready = true }) depth ∥₁
+ready_kept_at s depth found_depth all untold kept none found nothing = ∥∥₁_map kept (λ k.
+    let own = found_in s.request (length s.asks) s.tree k.0 found_depth all untold k.1.0.tree found in
+    let at : found_depth ≡ terms_depth s.request.nodes = own.nowhere (ap is_empty nothing) in
+    let over = ready_at_end s k.0 k.1.0 none (λ d less. nothing_is_empty (lacks s.request (length s.asks) k.0 d) (own.below d (omega arith))) in
+    (k.0, (over.0, over.1 ∙ k.1.1)))
+
+pub round_kept_at : (s : State) (depth found_depth : ℕ) (all : List Lack) → LackingIsUntold → ∥ IsKeptAt s depth ∥₁ → list_any is_some s.asks ≡ false → IsFound (lacking_in s.request (length s.asks) s.tree) (terms_depth s.request.nodes) found_depth all → 0 < length all
+    → ∥ IsKeptAt (record s { asks = asks_for (length s.asks) all; round = suc s.round }) (suc found_depth) ∥₁
+round_kept_at s depth found_depth all untold kept none found some = ∥∥₁_map kept (λ k.
+    let own = found_in s.request (length s.asks) s.tree k.0 found_depth all untold k.1.0.tree found in
+    let full = some_length all some in (
+      k.0,
+      subst (λ x. KeepsAt x k.0 (suc found_depth)) (begins_for s all some)
+          (begun_at s k.0 k.1.0 none all found_depth (own.here full).1 full (λ d less. nothing_is_empty (lacks s.request (length s.asks) k.0 d) (own.below d less))),
+    ))
 
 -- ---- what is asked
 

@@ -1,6 +1,7 @@
 pub mod MappedReading
 pub mod ReadTrees
 pub mod TellerSums
+pub mod ToldLists
 pub mod WantedAlike
 pub mod Rising
 pub mod Hearing

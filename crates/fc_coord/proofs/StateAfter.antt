@@ -1,21 +1,24 @@
 -- The state behind a message, part by part.
-use Rattle.std.proofs.Common.{◌≡◌, ℕ, suc, ◌+◌, ◌<◌, List, [], length, true, false, Option, Some, None, is_some, sym, ◌∙◌, ap, subst, arith}
+use Rattle.std.proofs.Common.{◌≡◌, ℕ, suc, ◌+◌, List, length, true, false, cond, Option, Some, None, is_some, sym, ◌∙◌, ap, subst, arith}
 use Rattle.std.specs.Prelude.{slice_set}
 use Rattle.std.specs.List.{list_any}
 use Rattle.fc_spec.specs.requests.Request.{Nodes}
 use Rattle.fc_spec.specs.messages.Message.{Partials, Ask}
 use Rattle.fc_spec.specs.messages.Held.{Told, told_by}
-use Rattle.fc_spec.specs.messages.Lacks.{Lack, terms_depth}
-use Rattle.fc_spec.specs.messages.Rounds.{next_lacks}
+use Rattle.fc_spec.specs.messages.Lacks.{Lack}
 use Rattle.fc_told.specs.Trees.{Tree}
 use Rattle.fc_told.specs.Adding.{all_added}
-use Rattle.fc_told.specs.Telling.{Tells}
-use Rattle.fc_coord.specs.State.{State, ask_at, asks_for, told_for, heard}
-use Rattle.fc_coord.proofs.Kept.{Follows, IsNextOf, waits, ends, begins_again}
+use Rattle.fc_coord.specs.State.{State, ask_at, asks_for, begun, lacks_next, told_for, heard}
+use Rattle.fc_coord.specs.Keeps.{Keeps}
+use Rattle.fc_coord.specs.View.{IsKeptAt}
+use Rattle.fc_coord.proofs.Kept.{Follows, waits}
 
 -- neither ready nor spent
 abbrev pub open_state : State → Tree → List (Option Ask) → State
 open_state s T asks = record { request = s.request; tree = T; asks = asks; round = s.round; ready = false; spent = false }
+
+pub settled : (s : State) → s.ready ≡ false → s.spent ≡ false → s ≡ open_state s s.tree s.asks
+settled s ready spent = λ j. record s { ready = ready j; spent = spent j }
 
 pub is_heard : (s : State) (i : ℕ) (m : Partials) (ask : Ask) (T : Tree) (asks : List (Option Ask)) (nodes : Nodes) → ask_at s.asks i ≡ Some ask → nodes ≡ s.request.nodes → T ≡ all_added (told_by nodes i ask m) s.tree → asks ≡ slice_set s.asks i None
     → s.ready ≡ false → s.spent ≡ false → open_state s T asks ≡ heard s i m
@@ -24,22 +27,19 @@ is_heard s i m ask T asks nodes at same tree heard_asks ready spent =
     tree ∙ ap (λ ns. all_added (told_by ns i ask m) s.tree) same ∙ ap (λ o. all_added (told_for s.request.nodes i o m) s.tree) (sym at) in
     λ j. record { request = s.request; tree = whole j; asks = heard_asks j; round = s.round; ready = sym ready j; spent = sym spent j }
 
--- what is told to lack next
-abbrev pub NextFor : State → ℕ → List Lack → Type 0
-NextFor s n all = (A : List Told) → Tells s.tree A → all ≡ next_lacks s.request n A (terms_depth s.request.nodes) 0
-
-pub next_of : (h new : State) (n : ℕ) (all : List Lack) → new ≡ h → n ≡ length new.asks → NextFor new n all → IsNextOf h all
-next_of h new n all e shards next = subst (λ x. IsNextOf x all) e (λ A t. next A t ∙ ap (λ k. next_lacks new.request k A (terms_depth new.request.nodes) 0) shards)
-
 pub follows_waiting : (h new : State) → new ≡ h → list_any is_some new.asks ≡ true → Follows h new
 follows_waiting h new e some = λ A k. e ∙ waits h A (subst (λ (x : State). list_any is_some x.asks ≡ true) e some)
 
-pub follows_ready : (h new : State) (n : ℕ) (all : List Lack) → new ≡ h → list_any is_some new.asks ≡ false → n ≡ length new.asks → NextFor new n all → all ≡ [] → Follows h (record new { ready = true })
-follows_ready h new n all e none shards next nothing = λ A k. ap (λ (x : State). record x { ready = true }) e ∙ ends h A all (subst (λ (x : State). list_any is_some x.asks ≡ false) e none) (next_of h new n all e shards next) nothing k
+-- behind the last message of a round
+pub follows_begun : (h mid new : State) → mid ≡ h → list_any is_some mid.asks ≡ false → ((A : List Told) → Keeps mid A → new ≡ begun mid (lacks_next mid A)) → Follows h new
+follows_begun h mid new e none begins = subst (λ x. Follows x new) e (λ A k. begins A k ∙ sym (ap (λ b. cond b mid (begun mid (lacks_next mid A))) none))
 
-pub follows_round : (h new : State) (n : ℕ) (all : List Lack) (asks : List (Option Ask)) (round : ℕ) → new ≡ h → list_any is_some new.asks ≡ false → n ≡ length new.asks → NextFor new n all → 0 < length all → asks ≡ asks_for n all → round ≡ new.round + 1
-    → Follows h (record new { asks = asks; round = round })
-follows_round h new n all asks round e none shards next some own counted = λ A k.
-    let a : asks ≡ asks_for (length h.asks) all = own ∙ ap (λ k. asks_for k all) (shards ∙ ap (λ (x : State). length x.asks) e) in
-    let r : round ≡ suc h.round = counted ∙ ap (λ (x : State). x.round + 1) e ∙ (let z : h.round + 1 ≡ suc h.round = omega arith in z) in
-    (λ j. record (e j) { asks = a j; round = r j }) ∙ begins_again h A all (subst (λ (x : State). list_any is_some x.asks ≡ false) e none) (next_of h new n all e shards next) some k
+-- what is kept of the next round
+pub round_kept : (s : State) (all : List Lack) (asks : List (Option Ask)) (round found_depth depth : ℕ) → ∥ IsKeptAt (record s { asks = asks_for (length s.asks) all; round = suc s.round }) (suc found_depth) ∥₁ → asks ≡ asks_for (length s.asks) all → round ≡ s.round + 1 → depth ≡ found_depth + 1
+    → ∥ IsKeptAt (record s { asks = asks; round = round }) depth ∥₁
+round_kept s all asks round found_depth depth kept own counted deeper =
+    let r : round ≡ suc s.round = omega arith in
+    let d : depth ≡ suc found_depth = omega arith in
+    subst (λ n. ∥ IsKeptAt (record s { asks = asks; round = round }) n ∥₁) (sym d)
+    (subst (λ n. ∥ IsKeptAt (record s { asks = asks; round = n }) (suc found_depth) ∥₁) (sym r)
+    (subst (λ xs. ∥ IsKeptAt (record s { asks = xs; round = suc s.round }) (suc found_depth) ∥₁) (sym own) kept))

@@ -1,19 +1,19 @@
 -- What different shards told of a bucket is no more than what all who told it did.
-use Rattle.std.proofs.Common.{◌≡◌, ℕ, zero, suc, ◌+◌, ◌<◌, ◌≤◌, ◌^◌, ℤ, pos, ◌+ℤ◌, List, [], ◌∷◌, length, get_or, drop, Bool, true, false, cond, ◌==◌, Option, None, Some, refl, ◌∙◌, ap, arith}
+use Rattle.std.proofs.Common.{◌≡◌, ℕ, zero, suc, ◌+◌, ◌<◌, ◌≤◌, ◌^◌, ℤ, pos, ◌+ℤ◌, List, [], ◌∷◌, Bool, true, false, cond, ◌==◌, Option, None, Some, refl, ◌∙◌, ap, arith}
 use Rattle.std.specs.Prelude.{option_map, slice_index_or, sum_by, unsigned_abs}
 use Rattle.std.specs.List.{AllByRecursion}
 use Rattle.std.proofs.lemmas.Bool.{eqb-true}
 use Rattle.std.proofs.lemmas.Int.{ints}
 use Rattle.std.proofs.lemmas.List.Sums.{sum_by-cons}
 use Rattle.std.proofs.lemmas.Map.Keys.{IsDistinct-head, IsDistinct-tail}
-use Rattle.fc_spec.specs.requests.Request.{Stat, StatKind, sum, min, max, countvals, missing}
+use Rattle.fc_spec.specs.requests.Request.{StatKind, sum, min, max, countvals, missing}
 use Rattle.fc_spec.specs.requests.Statistics.{StatValue, number, extreme, Stats, amount, value_over, combined_value}
 use Rattle.fc_spec.specs.laws.SumsLaw.{size_of}
 use Rattle.fc_spec.specs.messages.Message.{Step}
 use Rattle.fc_reading.specs.Distinct.{AreDistinct}
 use Rattle.fc_told.specs.Telling.{TellersFit}
 use Rattle.fc_told.specs.Trees.{Teller, Tree, tellers_in, child, teller_of, stats_told}
-use Rattle.fc_coord.specs.TreeReading.{told_count, told_value, count_told, value_told}
+use Rattle.fc_coord.specs.TreeReading.{told_count, count_told}
 
 -- ---- the sums of a number of each teller
 
@@ -103,61 +103,28 @@ abs_add a b = omega (arith, ints)
 size_sum : (a b : StatValue) → size_of (number (amount a +ℤ amount b)) ≤ size_of a + size_of b
 size_sum a b = let e = abs_add (amount a) (amount b) in let f = size_amount a in let g = size_amount b in omega arith
 
-size_combined : (k : StatKind) (a b : StatValue) → size_of (combined_value k a b) ≤ size_of a + size_of b
+pub size_combined : (k : StatKind) (a b : StatValue) → size_of (combined_value k a b) ≤ size_of a + size_of b
 size_combined sum a b = size_sum a b
 size_combined min a b = omega arith
 size_combined max a b = omega arith
 size_combined countvals a b = size_sum a b
 size_combined missing a b = size_sum a b
 
-size_neutral : (k : StatKind) (f : ℕ) → size_of (value_over (record { of = k; field = f }) []) ≡ 0
+pub size_neutral : (k : StatKind) (f : ℕ) → size_of (value_over (record { of = k; field = f }) []) ≡ 0
 size_neutral sum f = refl
 size_neutral min f = refl
 size_neutral max f = refl
 size_neutral countvals f = refl
 size_neutral missing f = refl
 
-size_or : (vs : List StatValue) (m : ℕ) (d e : StatValue) → size_of d ≡ size_of e → size_of (slice_index_or vs m d) ≡ size_of (slice_index_or vs m e)
+pub size_or : (vs : List StatValue) (m : ℕ) (d e : StatValue) → size_of d ≡ size_of e → size_of (slice_index_or vs m d) ≡ size_of (slice_index_or vs m e)
 size_or [] m d e h = h
 size_or (v ∷ vs) zero d e h = refl
 size_or (v ∷ vs) (suc m) d e h = size_or vs m d e h
 
 -- of one of its statistics
-abbrev size_in : ℕ → Stats → ℕ
+abbrev pub size_in : ℕ → Stats → ℕ
 size_in m stats = size_of (slice_index_or stats.values m (number (pos 0)))
-
-size_told : (m : ℕ) (s : Stat) (o : Option Teller) → size_of (told_value m s (option_map (λ t. t.stats) o)) ≡ of_teller (size_in m) o
-size_told m s None = size_neutral s.of s.field
-size_told m s (Some t) = size_or t.stats.values m (value_over s []) (number (pos 0)) (size_neutral s.of s.field)
-
-size_over : (m : ℕ) (s : Stat) (H : List ℕ) (T : Tree) → size_of (value_told m s H T) ≤ over_shards (size_in m) (tellers_in T) H
-unfolding over_shards
-size_over m s [] T = let e = size_neutral s.of s.field in omega arith
-size_over m s (i ∷ H) T =
-    let a = size_combined s.of (told_value m s (stats_told i T)) (value_told m s H T) in let b = size_told m s (teller_of i (tellers_in T)) in let c = size_over m s H T in omega arith
-
--- ---- one more shard
-
--- its count behind those of the shards before it
-pub count_step : (T : Tree) (H : List ℕ) (k before : ℕ) (stats : Stats) → TellersFit T → AreDistinct H → k < length H → Some stats ≡ stats_told (get_or H k 0) T
-    → before + count_told (drop k H) T ≡ count_told H T → before + stats.count < 2 ^ 64
-count_step T H k before stats fit d below told so_far = let a = here H k below told in let b = count_bounded T H fit d in omega arith
-  where
-    here : (H : List ℕ) (k : ℕ) → k < length H → Some stats ≡ stats_told (get_or H k 0) T → stats.count ≤ count_told (drop k H) T
-    here [] k below told = absurd (omega arith)
-    here (i ∷ H) zero below told = let e : stats.count ≡ told_count (stats_told i T) = ap told_count told in omega arith
-    here (i ∷ H) (suc k) below told = here H k (omega arith) told
-
--- its statistic before those of the shards behind it
-pub size_step : (T : Tree) (m : ℕ) (s : Stat) (H : List ℕ) (k : ℕ) → TellersFit T → AreDistinct H → k < length H
-    → size_of (told_value m s (stats_told (get_or H k 0) T)) + size_of (value_told m s (drop (suc k) H) T) < 2 ^ 63
-unfolding over_shards
-size_step T m s H k fit d below = let a = here H k below in let b = bounded (size_in m) (tellers_in T) H d in let c = fit.sizes m [] in omega arith
-  where
-    here : (H : List ℕ) (k : ℕ) → k < length H → size_of (told_value m s (stats_told (get_or H k 0) T)) + size_of (value_told m s (drop (suc k) H) T) ≤ over_shards (size_in m) (tellers_in T) H
-    here [] k below = absurd (omega arith)
-    here (i ∷ H) zero below = let a = size_told m s (teller_of i (tellers_in T)) in let b = size_over m s H T in omega arith
-    here (i ∷ H) (suc k) below = let e = here H k (omega arith) in omega arith
 
 -- ---- places
 

@@ -1,6 +1,6 @@
 -- What the state of a coordinator keeps of all that was told.
-use Rattle.std.specs.Prelude.{◌≡◌, ℕ, suc, ◌+◌, ◌<◌, ◌≤◌, List, [], ◌++◌, length, ◌||◌, IsTrue, is_some, Option, Some}
-use Rattle.std.specs.List.{AllByRecursion}
+use Rattle.std.specs.Prelude.{◌≡◌, ℕ, suc, ◌+◌, ◌<◌, ◌≤◌, List, [], ◌++◌, length, true, false, ◌||◌, IsTrue, is_some, Option, Some}
+use Rattle.std.specs.List.{AllByRecursion, list_any}
 use Rattle.fc_spec.specs.requests.Request.{Request}
 use Rattle.fc_spec.specs.requests.Ranks.{offered_bound}
 use Rattle.fc_spec.specs.messages.Message.{way_of, Ask, first, more}
@@ -8,6 +8,7 @@ use Rattle.fc_spec.specs.messages.Held.{Told, held}
 use Rattle.fc_spec.specs.messages.Lacks.{Lack, lacks}
 use Rattle.fc_spec.specs.messages.Rounds.{wants_of}
 use Rattle.fc_spec.specs.laws.LacksLaws.{IsFitting, TellOnce, way_depth, AreWithinDepth, AreOfOthers}
+use Rattle.fc_spec.specs.laws.Merging.{HasRoots, LacksNothing}
 use Rattle.fc_spec.specs.laws.SumsLaw.{SumsFit}
 use Rattle.fc_told.specs.Telling.{Tells}
 use Rattle.fc_coord.specs.State.{State, ask_at}
@@ -46,7 +47,16 @@ pub record IsAsked (r : Request) (n : ℕ) (before : List Told) (round : Round) 
   pub own : ask ≡ ask_in r n before round i
   pub untold : AreOfOthers i here
 
--- A lists all that was told, in the order of its arrival: what was told before this round, and in it. The tree tells of that; each bucket has the nodes where its way leads, and their shape; its sums fit; no shard told a bucket twice
+-- the shard is awaited in the first round, or has told its root
+abbrev pub IsRooted : Round → List (Option Ask) → List Told → ℕ → Type 0
+IsRooted roots asks A i = IsTrue (is_some (ask_at asks i) || is_some (held A i []))
+IsRooted (lacking_at e) asks A i = IsTrue (is_some (held A i []))
+
+-- nobody is awaited, each shard has told its root, and nothing lacks
+abbrev pub HasEnded : State → List Told → Type 0
+HasEnded s A = (list_any is_some s.asks ≡ false) × HasRoots (length s.asks) A × LacksNothing s.request (length s.asks) A
+
+-- A lists all that was told, in the order of its arrival: what was told before this round, and in it. The tree tells of that; each bucket has the nodes where its way leads, and their shape; its sums fit; no shard told a bucket twice; once the reply can be made, all has ended
 pub record Keeps (s : State) (A : List Told) : Type 0 where
   pub before : List Told
   pub here : List Told
@@ -61,3 +71,5 @@ pub record Keeps (s : State) (A : List Told) : Type 0 where
   pub asked : (i : ℕ) (ask : Ask) → ask_at s.asks i ≡ Some ask → IsAsked s.request (length s.asks) before asking here i ask
   pub answered : AreAnswered s.request (length s.asks) before asking s.asks here
   pub rounds : s.round ≤ depth_of asking + 1
+  pub rooted : (i : ℕ) → i < length s.asks → IsRooted asking s.asks A i
+  pub ended : s.ready ≡ true → HasEnded s A

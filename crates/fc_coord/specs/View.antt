@@ -1,5 +1,5 @@
 -- What the parts of a coordinator stand for.
-use Rattle.std.specs.Prelude.{ℕ, List, map, Bool, true, false, Option, option_map, Vec}
+use Rattle.std.specs.Prelude.{◌≡◌, ℕ, List, map, Bool, true, false, Option, option_map, Vec}
 use Rattle.std.specs.declared.alloc.Global.{Global}
 use Rattle.fc_spec.specs.messages.Message as message
 use Rattle.fc_spec.specs.messages.Held.{Told}
@@ -13,7 +13,7 @@ use Rattle.fc_refine.specs.declared.ask.Taken.TheVariants as answer
 use Rattle.fc_told.specs.TreeView.{tree_view}
 use Rattle.fc_told.specs.declared.tree.ToldBucket.{ToldBucket}
 use Rattle.fc_coord.specs.State.{State}
-use Rattle.fc_coord.specs.Keeps.{Keeps}
+use Rattle.fc_coord.specs.Keeps.{depth_of, Keeps}
 use Rattle.fc_coord.specs.declared.standing.Standing.{Standing}
 use Rattle.fc_coord.specs.declared.standing.Standing.TheVariants.{Ready, Spent}
 
@@ -42,9 +42,16 @@ state_of request told asks round standing = record {
   spent = is_spent standing;
 }
 
+-- it is kept, in a round that asks for buckets with so many terms facets around
+abbrev pub KeepsAt : State → List Told → ℕ → Type 0
+KeepsAt s A depth = (k : Keeps s A) × (depth_of k.asking ≡ depth)
+
 -- some list of what was told is kept
 abbrev pub IsKept : State → Type 0
 IsKept s = (A : List Told) × Keeps s A
+
+abbrev pub IsKeptAt : State → ℕ → Type 0
+IsKeptAt s depth = (A : List Told) × KeepsAt s A depth
 
 -- the answer that the reply can be made
 abbrev pub says_ready : Taken → Bool

@@ -5,7 +5,7 @@ ghost use Rattle.fc_spec.specs.messages.Lacks.{terms_depth};
 ghost use Rattle.fc_request.specs.RequestView.{request_view};
 ghost use Rattle.fc_refine.specs.CountableRanges.{AreCountable};
 ghost use Rattle.fc_coord.specs.Countable.{AreCountable-prop};
-ghost use Rattle.fc_coord.specs.View.{asks_view, state_of, is_ready, is_spent, IsKept};
+ghost use Rattle.fc_coord.specs.View.{asks_view, state_of, is_ready, is_spent, IsKeptAt};
 
 use crate::standing::Standing;
 use fc_refine::Ask;
@@ -22,10 +22,12 @@ pub struct Coord<'a> {
     // By the numbers of the shards; none where a shard is not awaited.
     pub(crate) asks: Vec<Option<Ask>>,
     pub(crate) round: u32,
+    // With fewer terms facets around nothing lacks, once the round has ended.
+    pub(crate) next_depth: u32,
     pub(crate) standing: Standing,
     ghost countable: { AreCountable (request_view request.now).nodes } by { AreCountable-prop (request_view request.now).nodes },
     ghost depth: { terms_depth (request_view request.now).nodes + 1 < 2 ^ 32 },
     ghost shards: { length asks.items ≤ 64 },
     ghost done: { is_ready standing ≡ true → list_any is_some (asks_view asks.items) ≡ false },
-    ghost kept: { is_spent standing ≡ false → ∥ IsKept (state_of request.now told asks.items round standing) ∥₁ },
+    ghost kept: { is_spent standing ≡ false → ∥ IsKeptAt (state_of request.now told asks.items round standing) next_depth ∥₁ },
 }

@@ -12,6 +12,7 @@ mod rounds;
 mod spot;
 mod standing;
 mod taking;
+mod told_stats;
 mod values;
 
 pub use coord::Coord;

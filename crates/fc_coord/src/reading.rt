@@ -1,7 +1,6 @@
 // What is asked of buckets, answered from the tree of what shards told.
 ghost use Rattle.std.specs.Prelude.{◌≡◌, IfOk, List, map};
 ghost use Rattle.fc_spec.specs.messages.Held.{Told};
-ghost use Rattle.fc_spec.specs.messages.Lacks.{lacks};
 ghost use Rattle.fc_spec.specs.messages.Merged.{merged};
 ghost use Rattle.fc_spec.specs.words.Lists as words;
 ghost use Rattle.fc_request.specs.RequestView.{request_view};
@@ -13,13 +12,13 @@ ghost use Rattle.fc_told.specs.Telling.{TellersFit, Tells};
 ghost use Rattle.fc_told.specs.Trees as trees;
 ghost use Rattle.fc_told.specs.TreeView.{tree_view};
 ghost use Rattle.fc_coord.specs.Spots.{tree_at};
-ghost use Rattle.fc_coord.specs.TreeReading.{has_told, NodeIn, over_tree};
+ghost use Rattle.fc_coord.specs.TreeReading.{has_told, lacking_in, NodeIn, over_tree};
 
 use crate::spot::{NodeSpot, Spot};
 use fc_base::{Stat, Val, WantMemory};
 use fc_facet::{Kind, Terms};
 use fc_partial::{Key, Stats};
-use fc_reading::{BucketReading, Lack, lacking, lacking_is_untold, reply_over};
+use fc_reading::{BucketReading, Lack, lacking, reply_over};
 use fc_reply::Reply;
 use fc_request::{Node, Request};
 use fc_told::ToldBucket;
@@ -144,10 +143,9 @@ pub(crate) fn lacks_at(
 ) -> Result<Vec<Lack>, WantMemory>
     requires countable { AreCountable (request_view request.now).nodes }
     requires fit { TellersFit (tree_view told.now) }
-    ensures { IfOk result (λ all. (A : List Told) → Tells (tree_view told.now) A
-        → map lack_view all.items ≡ lacks (request_view request.now) shards A depth) }
+    ensures { IfOk result (λ all. map lack_view all.items
+        ≡ lacking_in (request_view request.now) shards (tree_view told.now) depth) }
 {
-    lacking_is_untold();
     let numbers = shard_numbers(alloc, shards)?;
     let tree = ToldTree {
         root: Spot::new(told),

@@ -1,13 +1,13 @@
 // What lacks next.
-ghost use Rattle.std.specs.Prelude.{◌≡◌, ◌<◌, ◌^◌, List, IfOk, map};
-ghost use Rattle.fc_spec.specs.messages.Held.{Told};
+ghost use Rattle.std.specs.Prelude.{◌≡◌, ℕ, ◌<◌, ◌^◌, IfOk, map, true};
 ghost use Rattle.fc_spec.specs.messages.Lacks as definition;
-ghost use Rattle.fc_spec.specs.messages.Rounds as rounds;
+ghost use Rattle.fc_spec.specs.words.Lists.{is_empty};
 ghost use Rattle.fc_request.specs.RequestView.{request_view};
 ghost use Rattle.fc_refine.specs.CountableRanges.{AreCountable};
 ghost use Rattle.fc_reading.specs.LackView.{lack_view};
-ghost use Rattle.fc_told.specs.Telling.{Tells, TellersFit};
+ghost use Rattle.fc_told.specs.Telling.{TellersFit};
 ghost use Rattle.fc_told.specs.TreeView.{tree_view};
+ghost use Rattle.fc_coord.specs.TreeReading.{lacking_in, IsFound};
 
 use crate::depth::terms_depth;
 use crate::reading::lacks_at;
@@ -17,24 +17,38 @@ use fc_request::Request;
 use fc_told::ToldBucket;
 use std::alloc::Global;
 
-/// What lacks at the least depth of terms facets at which something does.
+/// What lacks, and how many terms facets are around it.
+#[derive(Drop)]
+pub(crate) struct NextLacks {
+    pub(crate) depth: u32,
+    pub(crate) lacks: Vec<Lack>,
+}
+
+/// What lacks at the least depth of terms facets at which something does. No depth is tried at which it is known that
+/// nothing lacks.
 pub(crate) fn next_lacks(
     alloc: Global,
     request: &Request,
     shards: u32,
     told: &ToldBucket,
-) -> Result<Vec<Lack>, WantMemory>
+    from: u32,
+) -> Result<NextLacks, WantMemory>
     requires countable { AreCountable (request_view request.now).nodes }
     requires depth { definition.terms_depth (request_view request.now).nodes < 2 ^ 32 }
     requires fit { TellersFit (tree_view told.now) }
-    ensures { IfOk result (λ all. (A : List Told) → Tells (tree_view told.now) A → map lack_view all.items
-        ≡ rounds.next_lacks (request_view request.now) shards A (definition.terms_depth (request_view request.now).nodes) 0) }
+    requires below { (e : ℕ) → e < from → is_empty (lacking_in (request_view request.now) shards (tree_view told.now) e) ≡ true }
+    ensures { IfOk result (λ next. IsFound (lacking_in (request_view request.now) shards (tree_view told.now))
+        (definition.terms_depth (request_view request.now).nodes) next.depth (map lack_view next.lacks.items)) }
 {
-    for depth in 0..terms_depth(&request.root.nodes) {
-        let here = lacks_at(alloc, request, shards, told, depth)?;
-        if !here.is_empty() {
-            return Ok(here);
+    let depths = terms_depth(&request.root.nodes);
+    for depth in from..depths {
+        let lacks = lacks_at(alloc, request, shards, told, depth)?;
+        if !lacks.is_empty() {
+            return Ok(NextLacks { depth, lacks });
         }
     }
-    Ok(Vec::new(alloc))
+    Ok(NextLacks {
+        depth: depths,
+        lacks: Vec::new(alloc),
+    })
 }

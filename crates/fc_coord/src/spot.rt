@@ -5,18 +5,18 @@ ghost use Rattle.std.specs.List.Sorted.{IsStrictlySortedBy};
 ghost use Rattle.fc_spec.specs.documents.Val.{val_cmp};
 ghost use Rattle.fc_base.specs.StatisticView.{stat_view};
 ghost use Rattle.fc_partial.specs.StatsView.{stats_view};
-ghost use Rattle.fc_partial.specs.View.{key_view, stat_value_view};
+ghost use Rattle.fc_partial.specs.View.{key_view};
 ghost use Rattle.fc_request.specs.FacetNode.{vals_view};
 ghost use Rattle.fc_reading.specs.Distinct.{AreDistinct};
 ghost use Rattle.fc_told.specs.Telling.{TellersFit};
 ghost use Rattle.fc_told.specs.Trees.{child, offered_at, stats_told};
 ghost use Rattle.fc_told.specs.TreeView.{tree_view};
 ghost use Rattle.fc_coord.specs.Spots.{tree_at};
-ghost use Rattle.fc_coord.specs.TreeReading.{count_told, told_value, value_told};
+ghost use Rattle.fc_coord.specs.TreeReading.{count_told, told_on, value_told};
 
-use crate::values::{combined, neutral, value_of};
+use crate::told_stats::{count_of, values_of};
 use fc_base::{Stat, Val, WantMemory};
-use fc_partial::{Key, StatValue, Stats};
+use fc_partial::{Key, Stats};
 use fc_told::ToldBucket;
 use std::alloc::Global;
 
@@ -72,42 +72,17 @@ impl<'a> Spot<'a> {
         }
     }
 
-    // The counts of the shards that told it, added up.
-    fn count_on(&self, shards: &[u32]) -> u64
-        requires { AreDistinct shards.now }
-        ensures { result ≡ count_told shards.now (tree_at self.now.place) }
+    // What those of the shards told that told it. Where nobody told of it no shard is looked up.
+    fn told_on(&self, alloc: Global, shards: &[u32]) -> Result<Vec<&'a Stats>, WantMemory>
+        ensures { IfOk result (λ told. map (λ stats. stats_view stats.now) told.items ≡ told_on shards.now (tree_at self.now.place)) }
     {
-        let mut count = 0;
-        for shard in shards {
-            if let Some(stats) = self.told_by(*shard) {
-                count += stats.count;
+        match self.place {
+            Some(bucket) => {
+                let told = told_by_shards(alloc, bucket, shards)?;
+                Ok(told)
             }
+            None => Ok(Vec::new(alloc)),
         }
-        count
-    }
-
-    // A statistic of what a shard told, by its number; where it told nothing, that of no place.
-    fn value_by(&self, shard: u32, number: usize, stat: Stat) -> StatValue
-        ensures { stat_value_view result
-            ≡ told_value number (stat_view stat) (stats_told shard (tree_at self.now.place)) }
-    {
-        match self.told_by(shard) {
-            Some(stats) => value_of(stats, number, stat),
-            None => neutral(stat),
-        }
-    }
-
-    // A statistic of the shards that told it, by its number.
-    fn value_on(&self, number: usize, stat: Stat, shards: &[u32]) -> StatValue
-        requires { AreDistinct shards.now }
-        ensures { stat_value_view result
-            ≡ value_told number (stat_view stat) shards.now (tree_at self.now.place) }
-    {
-        let mut value = neutral(stat);
-        for at in (0..shards.len()).rev() {
-            value = combined(stat.of, self.value_by(shards[at], number, stat), value);
-        }
-        value
     }
 
     /// The count and the statistics of the shards that told it.
@@ -123,15 +98,30 @@ impl<'a> Spot<'a> {
           values = map (λ s. value_told s.0 s.1 shards.now (tree_at self.now.place)) (enumerate_from 0 (map stat_view stats.now));
         }) }
     {
-        let mut values = Vec::with_capacity(alloc, stats.len())?;
-        for (number, stat) in stats.iter().enumerate() {
-            values.push(self.value_on(number, *stat, shards))?;
-        }
+        let told = self.told_on(alloc, shards)?;
+        let values = values_of(alloc, stats, &told)?;
         Ok(Stats {
-            count: self.count_on(shards),
+            count: count_of(&told),
             values,
         })
     }
+}
+
+// What those of the shards told that told a bucket.
+fn told_by_shards<'a>(
+    alloc: Global,
+    bucket: &'a ToldBucket,
+    shards: &[u32],
+) -> Result<Vec<&'a Stats>, WantMemory>
+    ensures { IfOk result (λ told. map (λ stats. stats_view stats.now) told.items ≡ told_on shards.now (tree_view bucket.now)) }
+{
+    let mut told = Vec::new(alloc);
+    for shard in shards {
+        if let Some(stats) = bucket.told_by(*shard) {
+            told.push(stats)?;
+        }
+    }
+    Ok(told)
 }
 
 // The bucket of a key of the node with a number.

@@ -9,7 +9,7 @@ use Rattle.fc_request.specs.RequestView.{request_view}
 use Rattle.fc_refine.specs.AskView.{ask_view}
 use Rattle.fc_coord.specs.State.{at_start}
 use Rattle.fc_coord.specs.Keeps.{Keeps}
-use Rattle.fc_coord.specs.View.{state_of}
+use Rattle.fc_coord.specs.View.{state_of, KeepsAt}
 use Rattle.fc_coord.specs.declared.standing.Standing.TheVariants.{Open}
 use Rattle.fc_coord.proofs.Beginning.{start_keeps}
 use Rattle.fc_coord.proofs.coord.Coord.begin.Goals as goal
@@ -18,7 +18,7 @@ pub invariant_of-result-clause-kept : goal.invariant_of-result-clause-kept
 invariant_of-result-clause-kept c = λ _.
     let start = at_start (request_view c.args.request.now) c.args.shards in
     let same : state_of c.args.request.now c.new.result c.in_ok-first_asks.field-0.items 1 Open ≡ start = λ j. record start { tree = c.new.ensures j; asks = c.in_ok-first_asks.ensures j } in
-    merely ([], subst (λ s. Keeps s []) (sym same) (start_keeps (request_view c.args.request.now) c.args.shards c.trees_tell.ensures.nothing))
+    merely ([], subst (λ s. KeepsAt s [] 0) (sym same) (start_keeps (request_view c.args.request.now) c.args.shards c.trees_tell.ensures.nothing))
 
 pub invariant_of-result-clause-shards : goal.invariant_of-result-clause-shards
 invariant_of-result-clause-shards c =
@@ -30,4 +30,4 @@ pub returns-clause-kept : goal.returns-clause-kept
 returns-clause-kept c =
     let start = at_start (request_view c.args.request.now) c.args.shards in
     let same : state_of c.args.request.now c.new.result c.in_ok-first_asks.field-0.items 1 Open ≡ start = λ j. record start { tree = c.new.ensures j; asks = c.in_ok-first_asks.ensures j } in
-    subst (λ s. Keeps s []) (sym same) (start_keeps (request_view c.args.request.now) c.args.shards c.trees_tell.ensures.nothing)
+    subst (λ s. Keeps s []) (sym same) (start_keeps (request_view c.args.request.now) c.args.shards c.trees_tell.ensures.nothing).0
