@@ -13,7 +13,7 @@ use Rattle.fc_spec.specs.messages.Held.{Told, held}
 use Rattle.fc_spec.specs.messages.Merged.{over_held}
 use Rattle.fc_spec.specs.messages.Lacks.{Lack, wanted, lacks, terms_depth}
 use Rattle.fc_spec.specs.messages.Rounds.{next_lacks}
-use Rattle.fc_reading.specs.Lacking.{LackingIsUntold}
+use Rattle.fc_lacks.specs.Lacking.{LackingIsUntold}
 use Rattle.fc_told.specs.Trees.{Tree}
 use Rattle.fc_told.specs.Named.{NamesKeys}
 use Rattle.fc_told.specs.Telling.{Tells, TellsMore, FitsExactly, SumsOfTellers, TellersFit}

@@ -15,7 +15,7 @@ use Rattle.fc_spec.specs.replies.Chosen.{chosen_bound, offering, entry_on, candi
 use Rattle.fc_spec.specs.replies.Distributed.{printed_keys, carried, dist_buckets, dist_facets, reply_over}
 use Rattle.fc_spec.specs.messages.Message.{Way}
 use Rattle.fc_spec.specs.messages.Lacks.{Lack, want_of, each_of, facet_wanted}
-use Rattle.fc_reading.specs.Lacking.{lacking_values, lacking_at, lacking}
+use Rattle.fc_lacks.specs.Lacking.{lacking_values, lacking_at, lacking}
 
 -- f carries buckets and g domains of the first reading into the second: each question is answered the same
 pub record IsCarried {B C D E : Type 0} (R : Reading B D) (S : Reading C E) (f : B → C) (g : D → E) : Type 0 where

@@ -7,7 +7,7 @@ use Rattle.fc_spec.specs.messages.Lacks.{Lack, lacks, terms_depth}
 use Rattle.fc_spec.specs.messages.Rounds.{next_lacks}
 use Rattle.fc_spec.specs.words.Lists.{numbers_below}
 use Rattle.fc_spec.proofs.messages.PrintedKnown.{nothing_is_empty}
-use Rattle.fc_reading.specs.Lacking.{LackingIsUntold}
+use Rattle.fc_lacks.specs.Lacking.{LackingIsUntold}
 use Rattle.fc_told.specs.Trees.{Tree}
 use Rattle.fc_told.specs.Telling.{Tells}
 use Rattle.fc_coord.specs.TreeReading.{lacking_in, IsFound}

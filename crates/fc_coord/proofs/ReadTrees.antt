@@ -7,7 +7,7 @@ use Rattle.fc_spec.specs.replies.Distributed.{reply_over}
 use Rattle.fc_spec.specs.messages.Message.{Step, Way}
 use Rattle.fc_spec.specs.messages.Held.{HeldBucket, Told, held}
 use Rattle.fc_spec.specs.messages.Merged.{NodeOf, over_held, held_count, held_value, count_held, value_held}
-use Rattle.fc_reading.specs.Lacking.{lacking}
+use Rattle.fc_lacks.specs.Lacking.{lacking}
 use Rattle.fc_told.specs.Trees.{Tree, child, at}
 use Rattle.fc_told.specs.Telling.{Tells}
 use Rattle.fc_coord.specs.TreeReading.{told_count, told_value, count_told, value_told, NodeIn, over_tree, has_told}

@@ -6,7 +6,7 @@ use Rattle.fc_spec.specs.requests.Statistics.{StatValue, number, Stats, value_ov
 use Rattle.fc_spec.specs.laws.SumsLaw.{size_of}
 use Rattle.fc_spec.specs.replies.Reading.{Reading}
 use Rattle.fc_spec.specs.messages.Lacks.{Lack}
-use Rattle.fc_reading.specs.Lacking.{lacking}
+use Rattle.fc_lacks.specs.Lacking.{lacking}
 use Rattle.fc_told.specs.Trees.{Tree, child, stats_told, offered_at}
 
 -- the count of what a shard told; nothing adds nothing

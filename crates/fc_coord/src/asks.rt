@@ -5,13 +5,13 @@ ghost use Rattle.fc_spec.specs.messages.Message.{first};
 ghost use Rattle.fc_spec.specs.messages.Rounds.{wants_of};
 ghost use Rattle.fc_spec.specs.words.Lists.{numbers_below};
 ghost use Rattle.fc_refine.specs.AskView.{ask_view, want_view, wants_view};
-ghost use Rattle.fc_reading.specs.LackView.{lack_view};
+ghost use Rattle.fc_lacks.specs.LackView.{lack_view};
 ghost use Rattle.fc_coord.specs.State as state;
 ghost use Rattle.fc_coord.specs.View.{all_wants_view, asks_view};
 ghost use Rattle.fc_coord.specs.Wants.{with_want};
 
 use fc_base::WantMemory;
-use fc_reading::Lack;
+use fc_lacks::Lack;
 use fc_refine::{Ask, Want};
 use std::alloc::Global;
 

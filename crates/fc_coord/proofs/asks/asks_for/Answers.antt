@@ -1,7 +1,7 @@
 use Rattle.std.proofs.Common.{map, ap, ◌∙◌}
 use Rattle.fc_spec.specs.messages.Rounds.{wants_of}
 use Rattle.fc_spec.specs.words.Lists.{numbers_below}
-use Rattle.fc_reading.specs.LackView.{lack_view}
+use Rattle.fc_lacks.specs.LackView.{lack_view}
 use Rattle.fc_coord.specs.State as state
 use Rattle.fc_coord.proofs.ShardLists.{each_then}
 use Rattle.fc_coord.proofs.asks.asks_for.Goals as goal

@@ -5,8 +5,8 @@ use Rattle.std.proofs.lemmas.List.Elements.{All-rest}
 use Rattle.fc_spec.specs.messages.Rounds.{wants_of}
 use Rattle.fc_spec.specs.words.Lists.{numbers_below}
 use Rattle.fc_refine.specs.AskView.{want_view, wants_view}
-use Rattle.fc_reading.specs.LackView.{lack_view}
-use Rattle.fc_reading.specs.declared.lacks.Lack.{Lack}
+use Rattle.fc_lacks.specs.LackView.{lack_view}
+use Rattle.fc_lacks.specs.declared.lacks.Lack.{Lack}
 use Rattle.fc_coord.specs.View.{all_wants_view}
 use Rattle.fc_coord.proofs.ShardLists.{joined, joined_step, joined_nothing, joined_all, length-with_want}
 use Rattle.fc_coord.proofs.asks.wants_by_shard.Goals as goal

@@ -1,7 +1,7 @@
 use Rattle.std.proofs.Common.{◌≡◌, ◌<◌, All, map, length}
 use Rattle.fc_spec.specs.messages.Rounds.{wants_of}
 use Rattle.fc_spec.specs.words.Lists.{numbers_below}
-use Rattle.fc_reading.specs.LackView.{lack_view}
+use Rattle.fc_lacks.specs.LackView.{lack_view}
 use Rattle.fc_coord.specs.View.{all_wants_view}
 use Rattle.fc_coord.proofs.ShardLists.{joined}
 use Rattle.fc_coord.proofs.asks.wants_by_shard.Given as goal

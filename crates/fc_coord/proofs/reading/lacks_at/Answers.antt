@@ -1,7 +1,7 @@
 use Rattle.std.proofs.Common.{◌≡◌, [], ◌∙◌}
 use Rattle.fc_request.specs.RequestView.{request_view}
 use Rattle.fc_spec.specs.words.Lists.{numbers_below}
-use Rattle.fc_reading.specs.Lacking.{lacking}
+use Rattle.fc_lacks.specs.Lacking.{lacking}
 use Rattle.fc_coord.specs.TreeReading.{over_tree, has_told}
 use Rattle.fc_coord.proofs.reading.lacks_at.Goals as goal
 

@@ -5,7 +5,7 @@ use Rattle.std.proofs.lemmas.List.{length-map, nil_from_length}
 use Rattle.fc_spec.specs.words.Lists.{is_empty}
 use Rattle.fc_spec.specs.messages.Lacks.{terms_depth}
 use Rattle.fc_refine.specs.AskView.{ask_view}
-use Rattle.fc_reading.specs.LackView.{lack_view}
+use Rattle.fc_lacks.specs.LackView.{lack_view}
 use Rattle.fc_coord.specs.State.{State, asks_for, begun}
 use Rattle.fc_coord.specs.TreeReading.{lacking_in, IsFound}
 use Rattle.fc_coord.specs.View.{asks_view, IsKeptAt}
