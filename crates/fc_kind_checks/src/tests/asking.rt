@@ -36,15 +36,24 @@ pub(super) fn segment_from(rt: &impl Abort, alloc: Global, block: &str) -> Resul
 }
 
 // A facet of this kind, with these statistics nested in it.
-pub(super) fn node_of(alloc: Global, kind: Kind, stats: &[Stat]) -> Result<Node, Fail> {
+pub(super) fn node_of(alloc: Global, kind: Kind, stats: &[Stat]) -> Result<Node, Fail>
+    ensures { IfOk result (λ node. kind_of node ≡ kind) }
+{
+    let nodes = nodes_of(alloc, stats)?;
+    node_with(alloc, kind, nodes)
+}
+
+fn nodes_of(alloc: Global, stats: &[Stat]) -> Result<Vec<Node>, Fail> {
     let mut nodes = Vec::new(alloc);
     for stat in stats {
         nodes.push(node_with(alloc, Kind::Stat(*stat), Vec::new(alloc))?)?;
     }
-    node_with(alloc, kind, nodes)
+    Ok(nodes)
 }
 
-fn node_with(alloc: Global, kind: Kind, nodes: Vec<Node>) -> Result<Node, Fail> {
+fn node_with(alloc: Global, kind: Kind, nodes: Vec<Node>) -> Result<Node, Fail>
+    ensures { IfOk result (λ node. kind_of node ≡ kind) }
+{
     Ok(Node {
         name: Name::new(alloc, "f")?,
         domain: Domain {
@@ -135,7 +144,8 @@ fn is_key(node: &Node, key: &Key) -> bool
     match &node.kind {
         Kind::Terms(terms) => terms.prefix.is_none() && terms::is_key(terms, key),
         Kind::Range(range) => ranges::has_few_gaps(range) && ranges::is_key(range, key),
-        _ => false,
+        Kind::Query(_) => matches!(key, Key::Whole),
+        Kind::Stat(_) => false,
     }
 }
 
@@ -166,8 +176,24 @@ pub(super) fn collected(
     requires texts { length segment.now.texts ≡ 3 }
     requires limits { IsWithinLimits (segment.now.blocks ∷ []) }
 {
-    assert!(rt; is_for(kind, node));
     assert!(rt; fits(segment, node));
+    collected_by(rt, alloc, kind, segment, docs, node)
+}
+
+// The same of a facet that is known to fit the columns.
+pub(super) fn collected_by(
+    rt: &impl Abort,
+    alloc: Global,
+    kind: &Box<dyn FacetKind>,
+    segment: &Segment,
+    docs: &[u32],
+    node: &Node,
+) -> Result<Tally, Fail>
+    requires texts { length segment.now.texts ≡ 3 }
+    requires fits { FitsColumns segment.now.texts (kind_view (kind_of node.now)) }
+    requires limits { IsWithinLimits (segment.now.blocks ∷ []) }
+{
+    assert!(rt; is_for(kind, node));
     let stats = node.stats(alloc)?;
     assert!(rt; have_fields(&stats));
     let docs = terms::set_of(rt, alloc, segment, docs)?;
@@ -188,8 +214,23 @@ pub(super) fn selected(
 ) -> Result<Vec<u32>, Fail>
     requires texts { length segment.now.texts ≡ 3 }
 {
-    assert!(rt; is_for(kind, node));
     assert!(rt; fits(segment, node));
+    selected_by(rt, alloc, kind, segment, docs, node, key)
+}
+
+// The same of a facet that is known to fit the columns.
+pub(super) fn selected_by(
+    rt: &impl Abort,
+    alloc: Global,
+    kind: &Box<dyn FacetKind>,
+    segment: &Segment,
+    docs: &[u32],
+    node: &Node,
+    key: &Key,
+) -> Result<Vec<u32>, Fail>
+    requires fits { FitsColumns segment.now.texts (kind_view (kind_of node.now)) }
+{
+    assert!(rt; is_for(kind, node));
     assert!(rt; is_key(node, key));
     let docs = terms::set_of(rt, alloc, segment, docs)?;
     let mut into = DocSet::full(alloc, segment.doc_count())?;

@@ -273,7 +273,7 @@ fn write_value(text: &mut String, value: StatValue) -> Result<(), Fail> {
 }
 
 // The keys with their counts and statistics, in order.
-fn shown(alloc: Global, buckets: &[PartialBucket]) -> Result<String, Fail> {
+pub(super) fn shown(alloc: Global, buckets: &[PartialBucket]) -> Result<String, Fail> {
     let mut text = String::new(alloc);
     for bucket in buckets {
         write_key(&mut text, &bucket.key)?;

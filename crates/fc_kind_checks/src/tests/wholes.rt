@@ -1,15 +1,23 @@
-// Query facets, behind a box.
+// Query facets, behind a box, and statistics of sets.
 ghost use Rattle.std.specs.Prelude.{◌≡◌, ◌<◌, [], ◌∷◌, length, IfOk};
 ghost use Rattle.fc_spec.specs.documents.Schema.{texts_held};
 ghost use Rattle.fc_spec.specs.scripts.WorldLimits.{IsWithinLimits};
+ghost use Rattle.fc_query.specs.QueryView.{query_view};
+ghost use Rattle.fc_domain.specs.FieldsFit.{FitsFields};
 
+use super::asking::{collected_by, node_of, selected_by};
+use super::ways::shown;
 use fc_base::{FieldId, Schema, Stat, StatKind};
 use fc_docs::{Batch, read_block};
 use fc_docset::DocSet;
-use fc_kind::set_stats;
-use fc_partial::StatValue;
+use fc_facet::Kind;
+use fc_kind::{FacetKind, KindName, covers, set_stats, the_kind};
+use fc_partial::{Key, StatValue};
 use fc_places::is_within_limits;
+use fc_query::{Query, parse};
+use fc_range::{QueryKind, RangeKind};
 use fc_segment::Segment;
+use fc_terms::TermsKind;
 use serde_json::Value;
 use std::alloc::Global;
 use std::process::Abort;
@@ -81,5 +89,125 @@ fn statistics_of_sets(rt: HostRuntime) -> Result<(), Fail> {
         ]
         .as_slice()
     );
+    Ok(())
+}
+
+// Three children at the positions 0 to 2, and their parent at 3.
+const FOUR: &str =
+    r#"{"id":"3","cat":"a","price":9,"_childDocuments_":[{"id":"0","cat":"a","price":[2,5]},
+    {"id":"1","cat":"b","price":-4},{"id":"2","cat":"a"}]}"#;
+
+// A query facet, with the positions of a domain and with those of its bucket, which stands in the tally where it has
+// any: its count, the sum and the least of its prices, how many texts it has, and how many documents have no price.
+struct Row {
+    query: &'static str,
+    docs: &'static [u32],
+    whole: &'static [u32],
+    wanted: &'static str,
+}
+
+const ROWS: [Row; 9] = [
+    Row {
+        query: "*:*",
+        docs: &[1, 3],
+        whole: &[1, 3],
+        wanted: "whole 2: 5 -4 2 0; ",
+    },
+    Row {
+        query: "cat:a",
+        docs: &[0, 1, 2],
+        whole: &[0, 2],
+        wanted: "whole 2: 7 2 2 1; ",
+    },
+    Row {
+        query: "-cat:a",
+        docs: &[0, 1, 2, 3],
+        whole: &[1],
+        wanted: "whole 1: -4 -4 1 0; ",
+    },
+    Row {
+        query: "cat:a AND price:[3 TO 9]",
+        docs: &[0, 1, 2],
+        whole: &[0],
+        wanted: "whole 1: 7 2 1 0; ",
+    },
+    Row {
+        query: "-price:*",
+        docs: &[2, 3],
+        whole: &[2],
+        wanted: "whole 1: 0 - 1 1; ",
+    },
+    // What matches is not in the domain.
+    Row {
+        query: "cat:b",
+        docs: &[0, 2, 3],
+        whole: &[],
+        wanted: "",
+    },
+    Row {
+        query: "price:*",
+        docs: &[2],
+        whole: &[],
+        wanted: "",
+    },
+    // Nothing matches.
+    Row {
+        query: "cat:c",
+        docs: &[0, 1, 2, 3],
+        whole: &[],
+        wanted: "",
+    },
+    Row {
+        query: "*:*",
+        docs: &[],
+        whole: &[],
+        wanted: "",
+    },
+];
+
+fn query_of(alloc: Global, schema: &Schema, text: &str) -> Result<Query, Fail>
+    ensures { IfOk result (λ query. FitsFields (texts_held schema.now.fields) (query_view query)) }
+{
+    Ok(parse(alloc, schema, text)?)
+}
+
+// Whether what is collected and what is selected are what the row says.
+fn check(
+    rt: &impl Abort,
+    alloc: Global,
+    kind: &Box<dyn FacetKind>,
+    schema: &Schema,
+    segment: &Segment,
+    row: &Row,
+) -> Result<(), Fail>
+    requires held { segment.now.texts ≡ texts_held schema.now.fields }
+    requires texts { length segment.now.texts ≡ 3 }
+    requires limits { IsWithinLimits (segment.now.blocks ∷ []) }
+{
+    let query = query_of(alloc, schema, row.query)?;
+    let node = node_of(alloc, Kind::Query(query), &STATS)?;
+    let tally = collected_by(rt, alloc, kind, segment, row.docs, &node)?;
+    let found = shown(alloc, &tally.into_buckets()?)?;
+    assert_eq!(rt; found.as_str(), row.wanted, "{}", row.query);
+    let whole = selected_by(rt, alloc, kind, segment, row.docs, &node, &Key::Whole)?;
+    assert_eq!(rt; whole.as_slice(), row.whole, "{}", row.query);
+    Ok(())
+}
+
+#[test]
+fn buckets_of_queries(rt: HostRuntime) -> Result<(), Fail> {
+    let alloc = rt.alloc();
+    let mut kinds: Vec<Box<dyn FacetKind>> = Vec::new(alloc);
+    kinds.push(Box::new(alloc, TermsKind)?)?;
+    kinds.push(Box::new(alloc, QueryKind)?)?;
+    kinds.push(Box::new(alloc, RangeKind)?)?;
+    assert!(rt; covers(&kinds));
+    let schema = Schema::read(alloc, &Value::from_str(alloc, FIELDS)?)?;
+    assert_eq!(rt; schema.fields(), 3);
+    let segment = segment_of(&rt, alloc, &schema, FOUR)?;
+    let kind = the_kind(&kinds, KindName::Query);
+    for row in &ROWS {
+        check(&rt, alloc, kind, &schema, &segment, row)?;
+    }
     Ok(())
 }
