@@ -87,7 +87,7 @@ struct Row {
     after: &'static [u32],
 }
 
-const ROWS: [Row; 14] = [
+const ROWS: [Row; 18] = [
     Row {
         block: FIVE,
         docs: &[0, 1, 2, 3, 4],
@@ -162,6 +162,64 @@ const ROWS: [Row; 14] = [
         before: &[0],
         between: &[0, 1, 2, 3, 4],
         after: &[4],
+    },
+    // The last gap ends at 10.
+    Row {
+        block: FIVE,
+        docs: &[0, 1, 2, 3, 4],
+        range: Range {
+            hardend: true,
+            lower: false,
+            upper: true,
+            ..FROM_LOWER
+        },
+        gaps: &[&[1], &[2], &[3]],
+        before: &[0],
+        between: &[1, 2, 3],
+        after: &[4],
+    },
+    Row {
+        block: FIVE,
+        docs: &[0, 1, 2, 3, 4],
+        range: Range {
+            hardend: true,
+            lower: false,
+            edge: true,
+            ..FROM_LOWER
+        },
+        gaps: &[&[0], &[], &[3]],
+        before: &[],
+        between: &[0, 1, 2, 3],
+        after: &[4],
+    },
+    Row {
+        block: FIVE,
+        docs: &[0, 1, 2, 3, 4],
+        range: Range {
+            hardend: true,
+            lower: false,
+            outer: true,
+            ..FROM_LOWER
+        },
+        gaps: &[&[], &[], &[]],
+        before: &[0],
+        between: &[1, 2],
+        after: &[3, 4],
+    },
+    Row {
+        block: FIVE,
+        docs: &[0, 1, 2, 3, 4],
+        range: Range {
+            hardend: true,
+            upper: true,
+            edge: true,
+            outer: true,
+            ..FROM_LOWER
+        },
+        gaps: &[&[0, 1], &[1, 2], &[2, 3]],
+        before: &[0],
+        between: &[0, 1, 2, 3],
+        after: &[3, 4],
     },
     // A domain of two.
     Row {
