@@ -114,7 +114,8 @@ fn blocks_have_their_values(rt: HostRuntime) -> Result<(), Fail> {
     let schema = schema(alloc)?;
     for (text, values) in VALUES {
         let block = read_block(alloc, &schema, &Value::from_str(alloc, text)?)?;
-        assert_eq!(rt; shown(alloc, &block)?.as_str(), *values, "at {text}");
+        let found = shown(alloc, &block)?;
+        assert!(rt; found.as_str() == *values, "{found} at {text}");
     }
     Ok(())
 }
@@ -130,186 +131,123 @@ fn fault_of(alloc: Global, schema: &Schema, text: &str) -> Result<String, Fail> 
     Ok(out)
 }
 
-const FAULTS: &[(&str, &str)] = &[
-    ("null", "wrong-type"),
-    ("[]", "wrong-type"),
-    (r#""7""#, "wrong-type"),
-    ("{}", "no-id"),
-    (r#"{"cat":"a"}"#, "no-id"),
-    (r#"{"id":null}"#, "no-id"),
-    (r#"{"id":[]}"#, "no-id"),
-    (r#"{"id":[null,null]}"#, "no-id"),
-    (r#"{"ID":"7","id":"7"}"#, "unknown-field"),
-    (r#"{"id":"7","dog":null}"#, "unknown-field"),
-    (r#"{"id":"7","":"a"}"#, "unknown-field"),
-    (r#"{"id":"7","_":"a"}"#, "unknown-field"),
-    (r#"{"id":"7","_cat":"a"}"#, "unknown-field"),
-    (r#"{"id":"7","cat_":"a"}"#, "unknown-field"),
-    (r#"{"id":"7","_childDocuments":[]}"#, "unknown-field"),
-    (r#"{"id":true}"#, "wrong-type"),
-    (r#"{"id":"7","cat":{}}"#, "wrong-type"),
-    (r#"{"id":"7","cat":1.5}"#, "wrong-type"),
-    (r#"{"id":"7","cat":1e0}"#, "wrong-type"),
-    (r#"{"id":"7","cat":-0}"#, "wrong-type"),
-    (r#"{"id":"7","cat":9223372036854775808}"#, "wrong-type"),
-    (r#"{"id":"7","tags":["a",[]]}"#, "wrong-type"),
-    (r#"{"id":"7","tags":[false]}"#, "wrong-type"),
-    (r#"{"id":"7","n":true}"#, "wrong-type"),
-    (r#"{"id":"7","n":{}}"#, "wrong-type"),
-    (r#"{"id":"7","n":5.0}"#, "wrong-type"),
-    (r#"{"id":"7","n":9223372036854775808}"#, "wrong-type"),
-    (r#"{"id":"7","n":-9223372036854775809}"#, "wrong-type"),
-    (r#"{"id":"7","n":"9223372036854775808"}"#, "wrong-type"),
-    (r#"{"id":"7","n":"-9223372036854775809"}"#, "wrong-type"),
-    (r#"{"id":"7","n":""}"#, "wrong-type"),
-    (r#"{"id":"7","n":"-"}"#, "wrong-type"),
-    (r#"{"id":"7","n":"+5"}"#, "wrong-type"),
-    (r#"{"id":"7","n":" 5"}"#, "wrong-type"),
-    (r#"{"id":"7","n":"5 "}"#, "wrong-type"),
-    (r#"{"id":"7","n":"--5"}"#, "wrong-type"),
-    (r#"{"id":"7","n":"5.0"}"#, "wrong-type"),
-    (r#"{"id":"7","n":"٥"}"#, "wrong-type"),
-    (r#"{"id":"7","ns":[1,[2]]}"#, "wrong-type"),
-    (r#"{"id":["7","7"]}"#, "too-many-values"),
-    (r#"{"id":"7","cat":["a",null,"a"]}"#, "too-many-values"),
-    (r#"{"id":"7","cat":[1,"1"]}"#, "too-many-values"),
-    (r#"{"id":"7","n":[1,2]}"#, "too-many-values"),
-    (r#"{"id":"7","n":["1","01"]}"#, "too-many-values"),
-    (r#"{"id":"7","_childDocuments_":{}}"#, "wrong-type"),
-    (r#"{"id":"7","_childDocuments_":"c"}"#, "wrong-type"),
-    (r#"{"id":"7","_childDocuments_":false}"#, "wrong-type"),
-    (r#"{"id":"7","_childDocuments_":[null]}"#, "wrong-type"),
-    (r#"{"id":"7","_childDocuments_":[[]]}"#, "wrong-type"),
-    (r#"{"id":"7","_childDocuments_":[{}]}"#, "no-id"),
-    (
-        r#"{"id":"7","_childDocuments_":[{"id":"c"},{"cat":"a"}]}"#,
-        "no-id",
-    ),
-    (
-        r#"{"id":"7","_childDocuments_":[{"id":"c","_childDocuments_":[{"id":"d"}]}]}"#,
-        "deep-children",
-    ),
-    (
-        r#"{"id":"7","_childDocuments_":[{"id":"c","_childDocuments_":[null]}]}"#,
-        "deep-children",
-    ),
-    (
-        r#"{"id":"7","_childDocuments_":[{"id":"c","_childDocuments_":{}}]}"#,
-        "deep-children",
-    ),
-    (
-        r#"{"id":"7","_childDocuments_":[{"id":"c","_childDocuments_":0}]}"#,
-        "deep-children",
-    ),
-    // members in the byte order of their keys, each key before its value
-    (r#"{"cat":true,"ant":"a","id":"7"}"#, "unknown-field"),
-    (r#"{"eel":"a","cat":true,"id":"7"}"#, "wrong-type"),
-    (r#"{"cat":true,"Zed":null,"id":"7"}"#, "unknown-field"),
-    (r#"{"dog":{},"id":"7"}"#, "unknown-field"),
-    (r#"{"dog":1,"cat":["a","b"]}"#, "too-many-values"),
-    (r#"{"cat":["a","b"],"ant":1}"#, "unknown-field"),
-    (r#"{"n":"x","cat":["a","a"]}"#, "too-many-values"),
-    (r#"{"n":["1","2"],"cat":true}"#, "wrong-type"),
-    (r#"{"id":["a","b"],"cat":true}"#, "wrong-type"),
-    (r#"{"n":true,"id":["a","b"]}"#, "too-many-values"),
-    (r#"{"_x":1,"Age":true}"#, "wrong-type"),
-    (r#"{"ns":1.5,"n":[1,2]}"#, "too-many-values"),
-    // items before their number
-    (r#"{"n":[1,2,true],"id":"7"}"#, "wrong-type"),
-    (r#"{"cat":["a","a",1.5],"id":"7"}"#, "wrong-type"),
-    (r#"{"id":["a","b",{}]}"#, "wrong-type"),
-    // members before the id
-    (r#"{"tags":true}"#, "wrong-type"),
-    (r#"{"zed":1}"#, "unknown-field"),
-    (r#"{"id":null,"n":[1,2]}"#, "too-many-values"),
-    // the parent before its children
-    (
-        r#"{"_childDocuments_":true,"cat":["a","b"],"id":"7"}"#,
-        "too-many-values",
-    ),
-    (r#"{"_childDocuments_":true}"#, "no-id"),
-    (
-        r#"{"_childDocuments_":{},"zed":1,"id":"7"}"#,
-        "unknown-field",
-    ),
-    (r#"{"_childDocuments_":[{"dog":1}]}"#, "no-id"),
-    (
-        r#"{"_childDocuments_":[{"dog":1}],"tags":true}"#,
-        "wrong-type",
-    ),
-    (
-        r#"{"_childDocuments_":[{}],"id":["a","b"]}"#,
-        "too-many-values",
-    ),
-    // children in their order
-    (
-        r#"{"id":"7","_childDocuments_":[{"id":"c","cat":true},{"dog":1}]}"#,
-        "wrong-type",
-    ),
-    (
-        r#"{"id":"7","_childDocuments_":[{"dog":1},{"id":"c","cat":true}]}"#,
-        "unknown-field",
-    ),
-    (r#"{"id":"7","_childDocuments_":[{},1]}"#, "no-id"),
-    (r#"{"id":"7","_childDocuments_":[1,{}]}"#, "wrong-type"),
-    (
-        r#"{"id":"7","_childDocuments_":[{"_childDocuments_":[1]},{}]}"#,
-        "deep-children",
-    ),
-    (
-        r#"{"id":"7","_childDocuments_":[{},{"_childDocuments_":[1]}]}"#,
-        "no-id",
-    ),
-    // a child's children among its members
-    (
-        r#"{"id":"7","_childDocuments_":[{"Zed":1,"_childDocuments_":[1]}]}"#,
-        "unknown-field",
-    ),
-    (
-        r#"{"id":"7","_childDocuments_":[{"Age":true,"_childDocuments_":[1]}]}"#,
-        "wrong-type",
-    ),
-    (
-        r#"{"id":"7","_childDocuments_":[{"_childDocuments_":[1],"Age":[1,2]}]}"#,
-        "too-many-values",
-    ),
-    (
-        r#"{"id":"7","_childDocuments_":[{"_b":1,"_childDocuments_":[1]}]}"#,
-        "unknown-field",
-    ),
-    (
-        r#"{"id":"7","_childDocuments_":[{"_d":1,"_childDocuments_":[1]}]}"#,
-        "deep-children",
-    ),
-    (
-        r#"{"id":"7","_childDocuments_":[{"cat":true,"_childDocuments_":{}}]}"#,
-        "deep-children",
-    ),
-    (
-        r#"{"id":"7","_childDocuments_":[{"dog":1,"_childDocuments_":true}]}"#,
-        "deep-children",
-    ),
-    (
-        r#"{"id":"7","_childDocuments_":[{"id":["a","b"],"_childDocuments_":[null]}]}"#,
-        "deep-children",
-    ),
-    (
-        r#"{"id":"7","_childDocuments_":[{"_childDocuments_":[{"_childDocuments_":[1]}]}]}"#,
-        "deep-children",
-    ),
-];
+// Each line has the fault, and behind `~` the block.
+const FAULTS: &str = r##"
+wrong-type ~null
+wrong-type ~[]
+wrong-type ~"7"
+no-id ~{}
+no-id ~{"cat":"a"}
+no-id ~{"id":null}
+no-id ~{"id":[]}
+no-id ~{"id":[null,null]}
+unknown-field ~{"ID":"7","id":"7"}
+unknown-field ~{"id":"7","dog":null}
+unknown-field ~{"id":"7","":"a"}
+unknown-field ~{"id":"7","_":"a"}
+unknown-field ~{"id":"7","_cat":"a"}
+unknown-field ~{"id":"7","cat_":"a"}
+unknown-field ~{"id":"7","_childDocuments":[]}
+wrong-type ~{"id":true}
+wrong-type ~{"id":"7","cat":{}}
+wrong-type ~{"id":"7","cat":1.5}
+wrong-type ~{"id":"7","cat":1e0}
+wrong-type ~{"id":"7","cat":-0}
+wrong-type ~{"id":"7","cat":9223372036854775808}
+wrong-type ~{"id":"7","tags":["a",[]]}
+wrong-type ~{"id":"7","tags":[false]}
+wrong-type ~{"id":"7","n":true}
+wrong-type ~{"id":"7","n":{}}
+wrong-type ~{"id":"7","n":5.0}
+wrong-type ~{"id":"7","n":9223372036854775808}
+wrong-type ~{"id":"7","n":-9223372036854775809}
+wrong-type ~{"id":"7","n":"9223372036854775808"}
+wrong-type ~{"id":"7","n":"-9223372036854775809"}
+wrong-type ~{"id":"7","n":""}
+wrong-type ~{"id":"7","n":"-"}
+wrong-type ~{"id":"7","n":"+5"}
+wrong-type ~{"id":"7","n":" 5"}
+wrong-type ~{"id":"7","n":"5 "}
+wrong-type ~{"id":"7","n":"--5"}
+wrong-type ~{"id":"7","n":"5.0"}
+wrong-type ~{"id":"7","n":"٥"}
+wrong-type ~{"id":"7","ns":[1,[2]]}
+too-many-values ~{"id":["7","7"]}
+too-many-values ~{"id":"7","cat":["a",null,"a"]}
+too-many-values ~{"id":"7","cat":[1,"1"]}
+too-many-values ~{"id":"7","n":[1,2]}
+too-many-values ~{"id":"7","n":["1","01"]}
+wrong-type ~{"id":"7","_childDocuments_":{}}
+wrong-type ~{"id":"7","_childDocuments_":"c"}
+wrong-type ~{"id":"7","_childDocuments_":false}
+wrong-type ~{"id":"7","_childDocuments_":[null]}
+wrong-type ~{"id":"7","_childDocuments_":[[]]}
+no-id ~{"id":"7","_childDocuments_":[{}]}
+no-id ~{"id":"7","_childDocuments_":[{"id":"c"},{"cat":"a"}]}
+deep-children ~{"id":"7","_childDocuments_":[{"id":"c","_childDocuments_":[{"id":"d"}]}]}
+deep-children ~{"id":"7","_childDocuments_":[{"id":"c","_childDocuments_":[null]}]}
+deep-children ~{"id":"7","_childDocuments_":[{"id":"c","_childDocuments_":{}}]}
+deep-children ~{"id":"7","_childDocuments_":[{"id":"c","_childDocuments_":0}]}
+# members in the byte order of their keys, each key before its value
+unknown-field ~{"cat":true,"ant":"a","id":"7"}
+wrong-type ~{"eel":"a","cat":true,"id":"7"}
+unknown-field ~{"cat":true,"Zed":null,"id":"7"}
+unknown-field ~{"dog":{},"id":"7"}
+too-many-values ~{"dog":1,"cat":["a","b"]}
+unknown-field ~{"cat":["a","b"],"ant":1}
+too-many-values ~{"n":"x","cat":["a","a"]}
+wrong-type ~{"n":["1","2"],"cat":true}
+wrong-type ~{"id":["a","b"],"cat":true}
+too-many-values ~{"n":true,"id":["a","b"]}
+wrong-type ~{"_x":1,"Age":true}
+too-many-values ~{"ns":1.5,"n":[1,2]}
+# items before their number
+wrong-type ~{"n":[1,2,true],"id":"7"}
+wrong-type ~{"cat":["a","a",1.5],"id":"7"}
+wrong-type ~{"id":["a","b",{}]}
+# members before the id
+wrong-type ~{"tags":true}
+unknown-field ~{"zed":1}
+too-many-values ~{"id":null,"n":[1,2]}
+# the parent before its children
+too-many-values ~{"_childDocuments_":true,"cat":["a","b"],"id":"7"}
+no-id ~{"_childDocuments_":true}
+unknown-field ~{"_childDocuments_":{},"zed":1,"id":"7"}
+no-id ~{"_childDocuments_":[{"dog":1}]}
+wrong-type ~{"_childDocuments_":[{"dog":1}],"tags":true}
+too-many-values ~{"_childDocuments_":[{}],"id":["a","b"]}
+# children in their order
+wrong-type ~{"id":"7","_childDocuments_":[{"id":"c","cat":true},{"dog":1}]}
+unknown-field ~{"id":"7","_childDocuments_":[{"dog":1},{"id":"c","cat":true}]}
+no-id ~{"id":"7","_childDocuments_":[{},1]}
+wrong-type ~{"id":"7","_childDocuments_":[1,{}]}
+deep-children ~{"id":"7","_childDocuments_":[{"_childDocuments_":[1]},{}]}
+no-id ~{"id":"7","_childDocuments_":[{},{"_childDocuments_":[1]}]}
+# a child's children among its members
+unknown-field ~{"id":"7","_childDocuments_":[{"Zed":1,"_childDocuments_":[1]}]}
+wrong-type ~{"id":"7","_childDocuments_":[{"Age":true,"_childDocuments_":[1]}]}
+too-many-values ~{"id":"7","_childDocuments_":[{"_childDocuments_":[1],"Age":[1,2]}]}
+unknown-field ~{"id":"7","_childDocuments_":[{"_b":1,"_childDocuments_":[1]}]}
+deep-children ~{"id":"7","_childDocuments_":[{"_d":1,"_childDocuments_":[1]}]}
+deep-children ~{"id":"7","_childDocuments_":[{"cat":true,"_childDocuments_":{}}]}
+deep-children ~{"id":"7","_childDocuments_":[{"dog":1,"_childDocuments_":true}]}
+deep-children ~{"id":"7","_childDocuments_":[{"id":["a","b"],"_childDocuments_":[null]}]}
+deep-children ~{"id":"7","_childDocuments_":[{"_childDocuments_":[{"_childDocuments_":[1]}]}]}
+"##;
 
 #[test]
 fn first_faults_are_found(rt: HostRuntime) -> Result<(), Fail> {
     let alloc = rt.alloc();
     let schema = schema(alloc)?;
-    for (text, fault) in FAULTS {
-        assert_eq!(rt;
-            fault_of(alloc, &schema, text)?.as_str(),
-            *fault,
-            "at {text}"
-        );
+    let mut lines = 0u32;
+    for line in FAULTS.split('\n') {
+        if let Some((fault, text)) = line.split_once(" ~") {
+            let found = fault_of(alloc, &schema, text)?;
+            assert!(rt; found.as_str() == fault, "{found} at {line}");
+            lines = lines.wrapping_add(1);
+        }
     }
+    assert!(rt; lines == 94);
     Ok(())
 }
 
@@ -344,10 +282,10 @@ fn terms_have_a_limit(rt: HostRuntime) -> Result<(), Fail> {
     for (head, part, count, tail, fault) in LIMITS {
         let term = part.repeat(alloc, *count)?;
         let text = format!(in alloc; r#"{{"id":"7",{head}"{term}"{tail}}}"#)?;
-        assert_eq!(rt;
-            fault_of(alloc, &schema, &text)?.as_str(),
-            *fault,
-            "at {head} {part} {count}"
+        let found = fault_of(alloc, &schema, &text)?;
+        assert!(rt;
+            found.as_str() == *fault,
+            "{found} at {head} {part} {count}"
         );
     }
     Ok(())

@@ -1,17 +1,16 @@
 // Columns against words of bits and lists that were written by hand.
-ghost use Rattle.std.specs.Prelude.{◌<ℤ◌, IfOk};
-ghost use Rattle.fc_spec.specs.documents.Columns.{IsText};
-ghost use Rattle.fc_base.specs.View.{val_view};
+ghost use Rattle.std.specs.Prelude.{◌<◌, ◌<ℤ◌, length};
 
 use fc_base::{Name, Val, WantMemory};
 use fc_column::{LongBuilder, LongColumn, TextBuilder, TextColumn};
 use std::alloc::Global;
+use std::process::Abort;
 use std::test::Fail;
 
-fn text(alloc: Global, text: &str) -> Result<Val, WantMemory>
-    ensures { IfOk result (λ value. IsText (val_view value)) }
-{
-    Ok(Val::Text(Name::new(alloc, text)?))
+// Adds a position with one text.
+fn push_text(alloc: Global, builder: &mut TextBuilder, text: &str) -> Result<(), WantMemory> {
+    let value = Val::Text(Name::new(alloc, text)?);
+    builder.push_doc(&[value])
 }
 
 // Adds a position with the texts a and c.
@@ -41,27 +40,36 @@ const TERMS: [(&str, u32, u32); 7] = [
 // The texts b at the first position, a and c at the second, and none at the third.
 fn three_texts(alloc: Global) -> Result<TextColumn, WantMemory> {
     let mut builder = TextBuilder::new(alloc)?;
-    builder.push_doc(&[text(alloc, "b")?])?;
+    push_text(alloc, &mut builder, "b")?;
     push_texts(alloc, &mut builder)?;
     builder.push_doc(&[])?;
     builder.finish()
 }
 
+fn check_ordinals(rt: &impl Abort, column: &TextColumn, at: u32, ordinals: &[u32]) {
+    assert!(rt; at < column.len());
+    assert!(rt; column.ordinals_of(at) == ordinals, "at {at}");
+}
+
+fn check_text(rt: &impl Abort, column: &TextColumn, text: &str, from: u32, past: u32) {
+    let ordinal = if from < past { Some(from) } else { None };
+    let bytes = text.as_bytes();
+    assert!(rt; column.ordinal_of(bytes) == ordinal, "at {text:?}");
+    assert!(rt; column.first_from(bytes) == from, "at {text:?}");
+    assert!(rt; column.first_past(bytes) == past, "at {text:?}");
+}
+
 #[test]
 fn texts_are_found(rt: HostRuntime) -> Result<(), Fail> {
     let column = three_texts(rt.alloc())?;
-    assert_eq!(rt; column.len(), 3);
-    for (at, ordinals) in [[1].as_slice(), &[0, 2], &[]].iter().enumerate() {
-        assert_eq!(rt; column.ordinals_of(at as u32), *ordinals, "at {at}");
-    }
-    assert_eq!(rt; column.terms(), 3);
-    assert_eq!(rt; column.term(1).text(), "b");
+    assert!(rt; column.len() == 3);
+    check_ordinals(&rt, &column, 0, &[1]);
+    check_ordinals(&rt, &column, 1, &[0, 2]);
+    check_ordinals(&rt, &column, 2, &[]);
+    assert!(rt; column.terms() == 3);
+    assert!(rt; column.term(1).text() == "b");
     for (text, from, past) in TERMS {
-        let ordinal = if from < past { Some(from) } else { None };
-        let text = text.as_bytes();
-        assert_eq!(rt; column.ordinal_of(text), ordinal, "at {text:?}");
-        assert_eq!(rt; column.first_from(text), from, "at {text:?}");
-        assert_eq!(rt; column.first_past(text), past, "at {text:?}");
+        check_text(&rt, &column, text, from, past);
     }
     Ok(())
 }
@@ -71,9 +79,9 @@ fn texts(alloc: Global, len: u32) -> Result<TextColumn, WantMemory> {
     let mut builder = TextBuilder::new(alloc)?;
     for at in 0..len {
         match at % 4 {
-            0 => builder.push_doc(&[text(alloc, "a")?])?,
-            1 => builder.push_doc(&[text(alloc, "b")?])?,
-            2 => builder.push_doc(&[text(alloc, "c")?])?,
+            0 => push_text(alloc, &mut builder, "a")?,
+            1 => push_text(alloc, &mut builder, "b")?,
+            2 => push_text(alloc, &mut builder, "c")?,
             _ => builder.push_doc(&[])?,
         }
     }
@@ -97,11 +105,11 @@ const TEXTS_BETWEEN: [(u32, u32, u32, [u64; 3]); 9] = [
 fn texts_stand_between(rt: HostRuntime) -> Result<(), Fail> {
     for (len, low, high, expected) in TEXTS_BETWEEN {
         let column = texts(rt.alloc(), len)?;
-        assert_eq!(rt; column.len(), len);
+        assert!(rt; column.len() == len);
         assert!(rt; len <= 192);
         let mut words = [u64::MAX; 3];
         column.between(low, high, &mut words);
-        assert_eq!(rt; words, expected, "at {len}, {low} and {high}");
+        assert!(rt; words == expected, "at {len}, {low} and {high}");
     }
     Ok(())
 }
@@ -114,7 +122,7 @@ fn few_texts(alloc: Global, len: u32) -> Result<TextColumn, WantMemory> {
         if turn % 2 == 0 {
             push_texts(alloc, &mut builder)?;
         } else {
-            builder.push_doc(&[text(alloc, "b")?])?;
+            push_text(alloc, &mut builder, "b")?;
         }
     }
     builder.skip(len % 16)?;
@@ -143,20 +151,29 @@ fn listed<'a>(column: &'a TextColumn, text: &str) -> &'a [u32] {
     }
 }
 
+fn has_text(column: &TextColumn, at: u32, text: &str) -> bool
+    requires { at < length column.now }
+{
+    column
+        .ordinals_of(at)
+        .iter()
+        .any(|ord| column.term(*ord).text() == text)
+}
+
+fn check_positions(rt: &impl Abort, column: &TextColumn, text: &str, expected: &[u32]) {
+    assert!(rt; listed(column, text) == expected, "{text}");
+    for at in 0..column.len() {
+        let found = has_text(column, at, text);
+        assert!(rt; found == expected.contains(&at), "{text} at {at}");
+    }
+}
+
 #[test]
 fn positions_of_texts_are_listed(rt: HostRuntime) -> Result<(), Fail> {
     for (len, text, expected) in POSITIONS {
         let column = few_texts(rt.alloc(), len)?;
-        assert_eq!(rt; column.len(), len);
-        let positions = listed(&column, text);
-        assert_eq!(rt; positions, expected, "at {len}");
-        for at in 0..column.len() {
-            let found = column
-                .ordinals_of(at)
-                .iter()
-                .any(|ord| column.term(*ord).text() == text);
-            assert_eq!(rt; found, expected.contains(&at), "at {at} of {len}");
-        }
+        assert!(rt; column.len() == len);
+        check_positions(&rt, &column, text, expected);
     }
     Ok(())
 }
@@ -176,11 +193,11 @@ const ANY: [(u32, [u64; 3]); 7] = [
 fn positions_with_texts_are_marked(rt: HostRuntime) -> Result<(), Fail> {
     for (len, expected) in ANY {
         let column = few_texts(rt.alloc(), len)?;
-        assert_eq!(rt; column.len(), len);
+        assert!(rt; column.len() == len);
         assert!(rt; len <= 192);
         let mut words = [u64::MAX; 3];
         column.any(&mut words);
-        assert_eq!(rt; words, expected, "at {len}");
+        assert!(rt; words == expected, "at {len}");
     }
     Ok(())
 }
@@ -208,25 +225,44 @@ fn five_lists(alloc: Global) -> Result<LongColumn, WantMemory> {
     builder.finish()
 }
 
+fn check_between(
+    rt: &impl Abort,
+    column: &LongColumn,
+    low: i64,
+    high: i64,
+    bits: u64,
+    positions: &[u32],
+) {
+    assert!(rt; column.len() == 5);
+    let mut words = [u64::MAX];
+    column.between(low, high, &mut words);
+    assert!(rt; words == [bits], "at {low} and {high}");
+    let found = column.positions_between(low, high);
+    assert!(rt; found == positions, "at {low} and {high}");
+}
+
+// Compares the bits of the positions with an integer.
+fn check_any(rt: &impl Abort, column: &LongColumn, bits: u64) {
+    assert!(rt; column.len() == 5);
+    let mut words = [u64::MAX];
+    column.any(&mut words);
+    assert!(rt; words == [bits]);
+}
+
+fn check_integers(rt: &impl Abort, column: &LongColumn, at: u32, values: &[i64]) {
+    assert!(rt; at < column.len());
+    assert!(rt; column.values_of(at) == values, "at {at}");
+}
+
 #[test]
 fn integers_are_found(rt: HostRuntime) -> Result<(), Fail> {
     let column = five_lists(rt.alloc())?;
-    assert_eq!(rt; column.len(), 5);
-    assert_eq!(rt; column.values_of(0), [5, 7].as_slice());
-    assert_eq!(rt; column.values_of(1), [].as_slice());
+    check_integers(&rt, &column, 0, &[5, 7]);
+    check_integers(&rt, &column, 1, &[]);
     for (low, high, bits, positions) in LONGS_BETWEEN {
-        let mut words = [u64::MAX];
-        column.between(low, high, &mut words);
-        assert_eq!(rt; words, [bits], "at {low} and {high}");
-        assert_eq!(rt;
-            column.positions_between(low, high),
-            positions,
-            "at {low} and {high}"
-        );
+        check_between(&rt, &column, low, high, bits, positions);
     }
-    let mut words = [u64::MAX];
-    column.any(&mut words);
-    assert_eq!(rt; words, [0b11101]);
+    check_any(&rt, &column, 0b11101);
     Ok(())
 }
 
@@ -242,19 +278,23 @@ const PLACES_BETWEEN: [(u32, i64, i64, [u64; 3]); 7] = [
 ];
 
 // Each position has its own number as its integer.
+fn numbers(alloc: Global, len: u32) -> Result<LongColumn, WantMemory> {
+    let mut builder = LongBuilder::new(alloc)?;
+    for at in 0..len {
+        builder.push_doc(&[Val::Long(i64::from(at))])?;
+    }
+    builder.finish()
+}
+
 #[test]
 fn integers_stand_between(rt: HostRuntime) -> Result<(), Fail> {
     for (len, low, high, expected) in PLACES_BETWEEN {
-        let mut builder = LongBuilder::new(rt.alloc())?;
-        for at in 0..len {
-            builder.push_doc(&[Val::Long(i64::from(at))])?;
-        }
-        let column = builder.finish()?;
-        assert_eq!(rt; column.len(), len);
+        let column = numbers(rt.alloc(), len)?;
+        assert!(rt; column.len() == len);
         assert!(rt; len <= 192);
         let mut words = [u64::MAX; 3];
         column.between(low, high, &mut words);
-        assert_eq!(rt; words, expected, "at {len}, {low} and {high}");
+        assert!(rt; words == expected, "at {len}, {low} and {high}");
     }
     Ok(())
 }
@@ -270,37 +310,55 @@ const SKIPPED: [(u32, u32); 7] = [
     (64, 128),
 ];
 
+fn is_total(len: u32, before: u32, behind: u32) -> bool {
+    u64::from(len) == u64::from(before) + 1 + u64::from(behind)
+}
+
+// A column with one integer, behind so many positions and before so many.
+fn one_number(
+    rt: &impl Abort,
+    alloc: Global,
+    before: u32,
+    behind: u32,
+) -> Result<LongColumn, WantMemory> {
+    let mut builder = LongBuilder::new(alloc)?;
+    builder.skip(before)?;
+    builder.push_doc(&[Val::Long(i64::from(before))])?;
+    builder.skip(behind)?;
+    assert!(rt;
+        is_total(builder.len(), before, behind),
+        "at {before} and {behind}"
+    );
+    builder.finish()
+}
+
+// Compares what each position has, of which one has its own number.
+fn check_held(rt: &impl Abort, column: &LongColumn, number: u32) {
+    for at in 0..column.len() {
+        let wanted = if at == number {
+            Some(i64::from(at))
+        } else {
+            None
+        };
+        let held = column.values_of(at).first().copied();
+        assert!(rt; held == wanted, "at {at} and {number}");
+    }
+}
+
 #[test]
 fn integers_of_few_positions_are_found(rt: HostRuntime) -> Result<(), Fail> {
     for (before, behind) in SKIPPED {
-        let mut builder = LongBuilder::new(rt.alloc())?;
-        builder.skip(before)?;
-        builder.push_doc(&[Val::Long(i64::from(before))])?;
-        builder.skip(behind)?;
-        assert_eq!(rt;
-            builder.len(),
-            before + 1 + behind,
+        let column = one_number(&rt, rt.alloc(), before, behind)?;
+        assert!(rt;
+            is_total(column.len(), before, behind),
             "at {before} and {behind}"
         );
-        let column = builder.finish()?;
-        assert_eq!(rt;
-            column.len(),
-            before + 1 + behind,
+        let positions = column.positions_between(i64::MIN, i64::MAX);
+        assert!(rt;
+            positions == [before].as_slice(),
             "at {before} and {behind}"
         );
-        assert_eq!(rt;
-            column.positions_between(i64::MIN, i64::MAX),
-            [before].as_slice()
-        );
-        for at in 0..column.len() {
-            let held = column.values_of(at).first().copied();
-            let expected = if at == before {
-                Some(i64::from(at))
-            } else {
-                None
-            };
-            assert_eq!(rt; held, expected, "at {at}, {before} and {behind}");
-        }
+        check_held(&rt, &column, before);
     }
     Ok(())
 }

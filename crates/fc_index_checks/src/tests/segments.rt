@@ -1,5 +1,5 @@
 // Segments of small batches.
-ghost use Rattle.std.specs.Prelude.{◌≡◌, ◌≤◌, ◌*◌, length, All, IfOk};
+ghost use Rattle.std.specs.Prelude.{◌≡◌, ◌<◌, ◌≤◌, ◌*◌, length, All, IfOk};
 ghost use Rattle.fc_spec.specs.documents.Totals.{document_total};
 ghost use Rattle.fc_spec.specs.documents.ValidBlocks.{IsBlockOf};
 ghost use Rattle.fc_docs.specs.View.{batch_view};
@@ -101,6 +101,51 @@ const BATCHES: [(&[&str], u32, &str, [&str; 6]); 3] = [
     ),
 ];
 
+fn check_parents(
+    rt: &impl Abort,
+    alloc: Global,
+    segment: &Segment,
+    wanted: &str,
+) -> Result<(), Fail> {
+    let positions: Vec<u32> = segment.parents().iter().collect(alloc)?;
+    let found = format!(in alloc; "{positions:?}")?;
+    assert!(rt; found.as_str() == wanted, "{found}");
+    Ok(())
+}
+
+fn check_column(
+    rt: &impl Abort,
+    alloc: Global,
+    segment: &Segment,
+    field: u16,
+    wanted: &str,
+) -> Result<(), Fail>
+    requires { field < length segment.now.texts }
+{
+    let found = shown(alloc, segment.column(FieldId(field)))?;
+    assert!(rt; found.as_str() == wanted, "{found} at {field}");
+    Ok(())
+}
+
+// Compares the columns of the fields, from `id` on.
+fn check_columns(
+    rt: &impl Abort,
+    alloc: Global,
+    schema: &Schema,
+    segment: &Segment,
+    columns: &[&str],
+) -> Result<(), Fail>
+    requires { length segment.now.texts ≡ length schema.now.fields }
+{
+    let mut field: u16 = 0;
+    for wanted in columns {
+        assert!(rt; field < schema.fields());
+        check_column(rt, alloc, segment, field, wanted)?;
+        field = field.wrapping_add(1);
+    }
+    Ok(())
+}
+
 #[test]
 fn children_stand_before_their_parent(rt: HostRuntime) -> Result<(), Fail> {
     let alloc = rt.alloc();
@@ -108,14 +153,9 @@ fn children_stand_before_their_parent(rt: HostRuntime) -> Result<(), Fail> {
     for (blocks, count, parents, columns) in BATCHES {
         assert!(rt; blocks.len() <= 3);
         let segment = segment_of(&rt, alloc, &schema, blocks)?;
-        assert_eq!(rt; segment.doc_count(), count);
-        let positions: Vec<u32> = segment.parents().iter().collect(alloc)?;
-        assert_eq!(rt; format!(in alloc; "{positions:?}")?.as_str(), parents);
-        for (field, expected) in columns.iter().enumerate() {
-            assert!(rt; field < usize::from(schema.fields()));
-            let column = segment.column(FieldId(field as u16));
-            assert_eq!(rt; shown(alloc, column)?.as_str(), *expected, "at {field}");
-        }
+        assert!(rt; segment.doc_count() == count);
+        check_parents(&rt, alloc, &segment, parents)?;
+        check_columns(&rt, alloc, &schema, &segment, &columns)?;
     }
     Ok(())
 }

@@ -6,7 +6,7 @@ use std::test::Fail;
 
 // Compares what each reading call says of a set with its words.
 fn check(rt: &impl Abort, alloc: Global, set: &DocSet, words: &[u64]) -> Result<(), Fail> {
-    assert_eq!(rt; set.words(), words);
+    assert!(rt; set.words() == words);
     let mut positions = Vec::new(alloc);
     for at in 0..set.len() {
         if set.contains(at) {
@@ -14,23 +14,50 @@ fn check(rt: &impl Abort, alloc: Global, set: &DocSet, words: &[u64]) -> Result<
         }
     }
     let found: Vec<u32> = set.iter().collect(alloc)?;
-    assert_eq!(rt; found.as_slice(), positions.as_slice());
-    assert_eq!(rt; set.count() as usize, positions.len());
+    assert!(rt; found.as_slice() == positions.as_slice());
+    assert!(rt; set.count() as usize == positions.len());
     Ok(())
 }
+
+// What is done to a set of at most 64 positions.
+#[derive(Clone, Copy)]
+enum Change {
+    Add(u32),
+    SetMask(u64),
+    Clear,
+}
+
+fn make(rt: &impl Abort, set: &mut DocSet, change: Change) {
+    assert!(rt; set.len() <= 64);
+    match change {
+        Change::Add(at) => {
+            assert!(rt; at < set.len());
+            set.add(at);
+        }
+        Change::SetMask(mask) => set.set_mask(&[mask]),
+        Change::Clear => set.clear(),
+    }
+}
+
+// What is done to an empty set of 3 positions, the bits that it has then, and whether it has the position 2.
+const CHANGES: [(Change, u64, bool); 3] = [
+    (Change::Add(1), 0b010, false),
+    (Change::SetMask(13), 0b101, true),
+    (Change::Clear, 0, false),
+];
 
 #[test]
 fn makes_sets(rt: HostRuntime) -> Result<(), Fail> {
     let alloc = rt.alloc();
     let mut set = DocSet::empty(alloc, 3)?;
     check(&rt, alloc, &set, &[0])?;
-    set.add(1);
-    check(&rt, alloc, &set, &[0b010])?;
-    set.set_mask(&[13]);
-    check(&rt, alloc, &set.copy(alloc)?, &[0b101])?;
-    assert!(rt; set.contains(2));
-    set.clear();
-    check(&rt, alloc, &set, &[0])?;
+    for (change, bits, has_last) in CHANGES {
+        make(&rt, &mut set, change);
+        check(&rt, alloc, &set, &[bits])?;
+        check(&rt, alloc, &set.copy(alloc)?, &[bits])?;
+        assert!(rt; set.len() == 3);
+        assert!(rt; set.contains(2) == has_last);
+    }
     Ok(())
 }
 
@@ -77,24 +104,46 @@ const ROWS: [(u32, &[u64], &[u64], &[u64], &[u64]); 6] = [
     ),
 ];
 
+#[derive(Clone, Copy)]
+enum With {
+    Or,
+    Without,
+    And,
+    AndFill,
+}
+
+// The multiples of 3 below a length, combined with those of 2.
+fn combined(rt: &impl Abort, alloc: Global, len: u32, with: With) -> Result<DocSet, Fail> {
+    assert!(rt; len <= 192);
+    let even = DocSet::from_mask(alloc, len, &EVEN)?;
+    let mut set = DocSet::from_mask(alloc, len, &THIRDS)?;
+    assert!(rt; set.len() == even.len());
+    match with {
+        With::Or => set.or_with(&even),
+        With::Without => set.without(&even),
+        With::And => set.and_with(&even),
+        With::AndFill => {
+            set.and_with(&even);
+            set.fill();
+        }
+    }
+    Ok(set)
+}
+
 #[test]
 fn combines_sets(rt: HostRuntime) -> Result<(), Fail> {
     let alloc = rt.alloc();
     for (len, all, both, either, odd) in ROWS {
-        assert!(rt; len <= 192);
-        let even = DocSet::from_mask(alloc, len, &EVEN)?;
-        let mut set = DocSet::from_mask(alloc, len, &THIRDS)?;
-        set.or_with(&even);
-        check(&rt, alloc, &set, either)?;
-        let mut set = DocSet::from_mask(alloc, len, &THIRDS)?;
-        set.without(&even);
-        check(&rt, alloc, &set, odd)?;
-        let mut set = DocSet::from_mask(alloc, len, &THIRDS)?;
-        set.and_with(&even);
-        check(&rt, alloc, &set, both)?;
-        set.fill();
-        check(&rt, alloc, &set, all)?;
-        assert_eq!(rt; DocSet::full(alloc, len)?.words(), all);
+        let rows = [
+            (With::Or, either),
+            (With::Without, odd),
+            (With::And, both),
+            (With::AndFill, all),
+        ];
+        for (with, words) in rows {
+            check(&rt, alloc, &combined(&rt, alloc, len, with)?, words)?;
+        }
+        assert!(rt; DocSet::full(alloc, len)?.words() == all);
     }
     Ok(())
 }
