@@ -1,9 +1,8 @@
 -- What is wanted without what was told is what lacks.
-use Rattle.std.proofs.Common.{◌≡◌, ℕ, zero, suc, List, [], ◌∷◌, ◌++◌, map, Bool, true, false, cond, not, is_some, refl, ap, ap₂, sym, ◌∙◌, ◌==◌}
-use Rattle.std.specs.Option.{is_none}
+use Rattle.std.proofs.Common.{◌≡◌, ℕ, zero, suc, List, [], ◌∷◌, ◌++◌, Bool, true, false, cond, not, is_some, refl, ap, ap₂, sym, ◌∙◌, ◌==◌}
 use Rattle.std.specs.List.{filter, flat_map}
 use Rattle.std.proofs.lemmas.List.Elements.{filter-append}
-use Rattle.fc_spec.specs.requests.Request.{Terms, Kind, terms, range, query, Facet, Nodes, no_nodes, statistic, facet, Request}
+use Rattle.fc_spec.specs.requests.Request.{Terms, Kind, terms, range, query, Facet, Nodes, no_nodes, statistic, facet}
 use Rattle.fc_spec.specs.requests.Buckets.{Key, value}
 use Rattle.fc_spec.specs.requests.Shape.{asks_again}
 use Rattle.fc_spec.specs.words.Lists.{is_empty, numbers_below}
@@ -13,7 +12,7 @@ use Rattle.fc_spec.specs.replies.Reading.{Reading}
 use Rattle.fc_spec.specs.messages.Held.{Told, held}
 use Rattle.fc_spec.specs.messages.Lacks.{Lack, each_of, want_of, wanted_values, wanted_at, facet_wanted, wanted, untold}
 use Rattle.fc_spec.specs.messages.Merged.{NodeOf, over_held}
-use Rattle.fc_spec.specs.messages.Message.{Way, Want, Step, way_of}
+use Rattle.fc_spec.specs.messages.Message.{Way, Want, way_of}
 use Rattle.fc_lacks.specs.Lacking.{lacked_by, lacking_values, lacking_at, lacking, LackingIsUntold}
 
 -- what a test leaves of lists one behind the other

@@ -1,12 +1,10 @@
 -- What lacks, one node after another.
-use Rattle.std.proofs.Common.{◌≡◌, ℕ, zero, suc, ◌+◌, ◌-◌, List, [], ◌∷◌, ◌++◌, map, take, length, Bool, true, false, cond, ◌&&◌, refl, ap, ap₂, sym, ◌∙◌, append_assoc, ◌==◌, arith}
+use Rattle.std.proofs.Common.{◌≡◌, ℕ, suc, ◌-◌, List, [], ◌∷◌, ◌++◌, map, take, length, Bool, true, false, cond, ◌&&◌, refl, ap, ap₂, sym, ◌∙◌, append_assoc, ◌==◌, arith}
 use Rattle.std.specs.List.{flat_map}
 use Rattle.std.proofs.Math.Seq.{take-append_seam}
-use Rattle.std.proofs.lemmas.Bool.{eqb-true}
-use Rattle.std.proofs.lemmas.List.{append-nil, length-append, map-append}
+use Rattle.std.proofs.lemmas.List.{append-nil, length-append}
 use Rattle.std.proofs.lemmas.List.Folds.{flat_map-map}
-use Rattle.fc_spec.specs.requests.Buckets.{Key}
-use Rattle.fc_spec.specs.requests.Request.{Kind, terms, range, query, Terms, Facet, Nodes, no_nodes, facet}
+use Rattle.fc_spec.specs.requests.Request.{Kind, Facet, Nodes, no_nodes}
 use Rattle.fc_spec.specs.requests.RequestReading.{of_statistic, of_facet}
 use Rattle.fc_spec.specs.requests.Shape.{asks_again}
 use Rattle.fc_spec.specs.words.Lists.{is_empty}
@@ -19,7 +17,7 @@ use Rattle.fc_facet.specs.declared.kind.Kind.TheVariants as k
 use Rattle.fc_facet.specs.KindView.{terms_view}
 use Rattle.fc_request.specs.declared.node.Node.{Node}
 use Rattle.fc_request.specs.FacetNode.{has_buckets, kind_of, kind_view, facet_view}
-use Rattle.fc_request.specs.NodeView.{Part, node_view, nodes_view, inner_view}
+use Rattle.fc_request.specs.NodeView.{Part, node_view, inner_view}
 use Rattle.fc_request.proofs.Nodes.{facet_is, statistic_is}
 use Rattle.fc_lacks.specs.Inside.{inside_key, lacking_under}
 use Rattle.fc_lacks.specs.Keys.{WithKey, keyed_of}
@@ -32,20 +30,7 @@ last_left xs ys x is =
     let e : length (xs ++ x ∷ []) - 1 ≡ length xs = omega (arith, length-append xs (x ∷ [])) in
     is ∙ ap (λ m. take m (xs ++ x ∷ [])) e ∙ take-append_seam xs (x ∷ [])
 
--- of no nodes there are none
-pub no_nodes_in : (ns : List Node) → (length ns == 0) ≡ true → nodes_view ns ≡ no_nodes
-no_nodes_in [] h = refl
-no_nodes_in (n ∷ ns) h = absurd (omega (arith, eqb-true (length (n ∷ ns)) 0 h))
-
 module _ {B D : Type 0} (R : Reading B D) (has : B → ℕ → Bool) where
-  -- under no nodes nothing lacks
-  pub nothing_under : (kind : Kind) (inner : Nodes) (n : ℕ) (H : List ℕ) (Y : D) (way : Way) (d : ℕ) → inner ≡ no_nodes → lacking_under R has kind inner n H Y way d ≡ []
-  nothing_under kind inner n H Y way d none = ap (λ i. lacking_under R has kind i n H Y way d) none ∙ go (printed_keys R kind no_nodes H Y)
-    where
-      go : (keys : List Key) → flat_map (λ key. inside_key R has no_nodes n way d (keyed_of R kind no_nodes H Y key)) keys ≡ []
-      go [] = refl
-      go (key ∷ keys) = go keys
-
   -- under printed buckets
   pub under_keys : (kind : Kind) (inner : Nodes) (n : ℕ) (H : List ℕ) (Y : D) (way : Way) (d : ℕ) (list : List (WithKey B)) → list ≡ map (keyed_of R kind inner H Y) (printed_keys R kind inner H Y)
       → flat_map (inside_key R has inner n way d) list ≡ lacking_under R has kind inner n H Y way d

@@ -2,7 +2,7 @@
 use Rattle.std.specs.Prelude.{◌≡◌, ℕ, zero, suc, List, [], ◌∷◌, ◌++◌, Bool, not, ◌==◌, is_some, if◌then◌else◌}
 use Rattle.std.specs.List.{filter, flat_map}
 use Rattle.fc_spec.specs.words.Lists.{numbers_below}
-use Rattle.fc_spec.specs.requests.Request.{Terms, Kind, terms, Facet, Nodes, no_nodes, statistic, facet, Request}
+use Rattle.fc_spec.specs.requests.Request.{Terms, Kind, terms, Nodes, no_nodes, statistic, facet, Request}
 use Rattle.fc_spec.specs.requests.Buckets.{value}
 use Rattle.fc_spec.specs.requests.Shape.{asks_again}
 use Rattle.fc_spec.specs.replies.Chosen.{chosen}

@@ -1,3 +1,4 @@
+pub mod Asking
 pub mod Inside
 pub mod Keys
 pub mod LackView

@@ -1,6 +1,7 @@
 //! What lacks for a reply at a depth, computed from whatever answers the questions about its buckets.
 #![tactic(auto)]
 
+mod asking;
 mod keyed;
 mod lacks;
 mod law;

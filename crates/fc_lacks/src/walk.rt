@@ -16,6 +16,7 @@ ghost use Rattle.fc_lacks.specs.Lacking.{lacking as lacking_of, lacking_values};
 ghost use Rattle.fc_lacks.specs.LackView.{lack_view};
 ghost use Rattle.fc_reading.specs.Tree.{node_before};
 
+use crate::asking::asks_at;
 use crate::keyed::{Keyed, printed_buckets};
 use crate::lacks::{Lack, push_values};
 use fc_base::WantMemory;
@@ -143,7 +144,7 @@ fn push_under<R: BucketReading>(
         ++ lacking_under (R.reading reading.now) R.has (kind_view (kind_of node.now)) (inner_view node.now) number shards.now
         ((R.reading reading.now).domain_on number (facet_view node.now) shards.now (R.held around.now)) (way_view way.old.items) depth) }
 {
-    if node.nodes.is_empty() {
+    if !asks_at(&node.nodes, depth) {
         return Ok(());
     }
     let domain = reading.domain_on(alloc, number as usize, node, shards, around)?;

@@ -1,5 +1,4 @@
 use Rattle.std.proofs.Common.{◌≡◌, ◌∙◌, ◌+◌, ◌-◌, ◌++◌, ◌∷◌, List, suc, drop, drop-cons, add-one, ap, sym, subst, map, false, ◌==◌, ◌&&◌, rules, arith}
-use Rattle.std.specs.List.{flat_map}
 use Rattle.std.proofs.lemmas.Bool.{ne_eqb}
 use Rattle.std.proofs.lemmas.List.{append-nil}
 use Rattle.std.proofs.lemmas.List.Elements.{All-rest}
@@ -20,7 +19,9 @@ use Rattle.fc_reading.specs.Tree.{node_before}
 use Rattle.fc_lacks.proofs.LackedValues.{next_made}
 use Rattle.fc_reading.proofs.Sizes.{node_total, single_below, left_below}
 use Rattle.fc_reading.proofs.Steps.{countable_first, countable_others, first_fails, second_fails}
-use Rattle.fc_lacks.proofs.WalkedNodes.{next_node, no_nodes_in, nothing_under, others_under, under_keys, values_under}
+use Rattle.fc_lacks.proofs.NoneAsks.{none_under}
+use Rattle.fc_lacks.proofs.WalkedNodes.{next_node, others_under, under_keys, values_under}
+use Rattle.fc_lacks.specs.Asking.{asks_at}
 use Rattle.fc_lacks.proofs.walk.+lacking.Goals as goal
 use Rattle.fc_lacks.proofs.walk.+lacking.Goals.{push_at_node-else-count-eq0-via-then-count-eq0+else-has_no_tag, push_at_node-else-count-eq0-via-else-count-eq0}
 
@@ -136,13 +137,13 @@ push_in_keys-loop-one-preserved g t c =
       All-rest (IsCountedKey R g.R.BucketReading.held) one rest left first c.loop-one.invariant.2,
     )
 
-pub push_under-returns-then-is_empty-clause-lacks : goal.push_under-returns-then-is_empty-clause-lacks
-push_under-returns-then-is_empty-clause-lacks g t c =
+pub push_under-returns-then-not-asks_at-clause-lacks : goal.push_under-returns-then-not-asks_at-clause-lacks
+push_under-returns-then-not-asks_at-clause-lacks g t c =
     let R = g.R.BucketReading.reading c.args.reading.now in
     let node = c.args.node.now in
     let old = map lack_view c.args.lacks.now.items in
-    let none : inner_view node ≡ no_nodes = no_nodes_in (out-Node node).nodes.items (sym (ap (λ n. n == 0) (out-Node node).nodes.ok.0) ∙ sym c.is_empty.ensures ∙ c.if-is_empty.true) in
-    sym (ap (λ ls. old ++ ls) (nothing_under R g.R.BucketReading.has (kind_view (kind_of node)) (inner_view node) c.args.number c.args.shards.now
+    let none : asks_at c.args.depth (inner_view node) ≡ false = ap (λ ns. asks_at c.args.depth (nodes_view ns)) (sym c.deref.ensures.value) ∙ sym c.asks_at.ensures ∙ c.if-not-asks_at.true in
+    sym (ap (λ ls. old ++ ls) (none_under R g.R.BucketReading.has (kind_view (kind_of node)) (inner_view node) c.args.number c.args.shards.now
     (R.domain_on c.args.number (facet_view node) c.args.shards.now (g.R.BucketReading.held c.args.around.now)) (way_view c.args.way.now.items) c.args.depth none)
     ∙ append-nil old)
 
