@@ -67,6 +67,16 @@ const UP_TO_GREATEST: Range = Range {
     ..FROM_LOWER
 };
 
+// Gaps that hold their high ends, with no bucket beside them.
+const UP_TO_TEN: Range = Range {
+    before: false,
+    after: false,
+    between: false,
+    lower: false,
+    upper: true,
+    ..FROM_LOWER
+};
+
 // Four gaps over all integers.
 const OVER_ALL: Range = Range {
     start: -9_223_372_036_854_775_808,
@@ -76,7 +86,7 @@ const OVER_ALL: Range = Range {
     ..FROM_LOWER
 };
 
-// A facet, with the positions of a domain and those of each bucket.
+// A facet, with the positions of a domain and those of each bucket that is asked for.
 struct Row {
     block: &'static str,
     docs: &'static [u32],
@@ -87,7 +97,7 @@ struct Row {
     after: &'static [u32],
 }
 
-const ROWS: [Row; 18] = [
+const ROWS: [Row; 22] = [
     Row {
         block: FIVE,
         docs: &[0, 1, 2, 3, 4],
@@ -316,6 +326,52 @@ const ROWS: [Row; 18] = [
         between: &[0],
         after: &[],
     },
+    Row {
+        block: FIVE,
+        docs: &[0, 1, 2, 3, 4],
+        range: UP_TO_TEN,
+        gaps: &[&[1], &[2], &[3, 4]],
+        before: &[],
+        between: &[],
+        after: &[],
+    },
+    Row {
+        block: FIVE,
+        docs: &[0, 1, 2, 3, 4],
+        range: Range {
+            before: true,
+            ..UP_TO_TEN
+        },
+        gaps: &[&[1], &[2], &[3, 4]],
+        before: &[0],
+        between: &[],
+        after: &[],
+    },
+    Row {
+        block: FIVE,
+        docs: &[0, 1, 2, 3, 4],
+        range: Range {
+            between: true,
+            ..UP_TO_TEN
+        },
+        gaps: &[&[1], &[2], &[3, 4]],
+        before: &[],
+        between: &[1, 2, 3, 4],
+        after: &[],
+    },
+    Row {
+        block: FIVE,
+        docs: &[0, 1, 2, 3, 4],
+        range: Range {
+            after: true,
+            hardend: true,
+            ..UP_TO_TEN
+        },
+        gaps: &[&[1], &[2], &[3]],
+        before: &[],
+        between: &[],
+        after: &[4],
+    },
 ];
 
 pub(super) fn holds_integers(segment: &Segment, field: FieldId) -> bool
@@ -441,6 +497,15 @@ fn buckets_of(alloc: Global, row: &Row) -> Result<Vec<(Key, &'static [u32])>, Fa
     Ok(buckets)
 }
 
+fn is_asked(range: &Range, key: &Key) -> bool {
+    match key {
+        Key::Before => range.before,
+        Key::Between => range.between,
+        Key::After => range.after,
+        _ => true,
+    }
+}
+
 pub(super) fn count_of(tally: &Tally, key: &Key) -> Option<u64> {
     Some(tally.get(key)?.count)
 }
@@ -472,8 +537,13 @@ fn check(rt: &impl Abort, alloc: Global, kind: &Box<dyn FacetKind>, row: &Row) -
     assert!(rt; fits(&segment, &row.range));
     let tally = collected(rt, alloc, kind, &segment, row)?;
     for (key, wanted) in buckets_of(alloc, row)? {
-        let found = selected(rt, alloc, kind, &segment, row, &key)?;
-        check_bucket(rt, &found, wanted, count_of(&tally, &key))?;
+        let count = count_of(&tally, &key);
+        if is_asked(&row.range, &key) {
+            let found = selected(rt, alloc, kind, &segment, row, &key)?;
+            check_bucket(rt, &found, wanted, count)?;
+        } else {
+            assert!(rt; count.is_none());
+        }
     }
     Ok(())
 }
