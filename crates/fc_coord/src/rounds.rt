@@ -24,8 +24,8 @@ pub(crate) struct NextLacks {
     pub(crate) lacks: Vec<Lack>,
 }
 
-/// What lacks at the least depth of terms facets at which something does. No depth is tried at which it is known that
-/// nothing lacks.
+/// What lacks at the least depth of terms facets at which something does. It begins at a depth below which nothing
+/// lacks.
 pub(crate) fn next_lacks(
     alloc: Global,
     request: &Request,
