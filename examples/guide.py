@@ -16,7 +16,8 @@ IN_WORDS = {
     "a search of a 17th session": ['{"search":{"request":{},"session":"s%d"}}' % i for i in range(17)],
     "an `id` of 32,767 letters": ['{"id":"' + "x" * 32_767 + '"}'],
 }
-# Examples that are tried elsewhere, or are too large to be tried here.
+# Examples that are tried elsewhere: the two of scripts that are too large to stand in the guide by check-statuses, those
+# of bad documents by their own table.
 NOT_HERE = ["67,108,865 line feeds", "the 1,048,577th document", "see below"]
 
 

@@ -137,6 +137,22 @@ fn tallied_keys(rt: HostRuntime) -> Result<(), Fail> {
     Ok(())
 }
 
+#[test]
+fn one_text_added_twice(rt: HostRuntime) -> Result<(), Fail> {
+    let alloc = rt.alloc();
+    let key = Key::Value(Val::Text(Name::new(alloc, "a")?));
+    let keys = vec![in alloc; key.copy(alloc)?]?;
+    let mut tally = Tally::new(alloc, Vec::new(alloc))?;
+    add_each(&rt, alloc, &mut tally, &keys)?;
+    add_each(&rt, alloc, &mut tally, &keys)?;
+    assert_eq!(rt; count_at(&tally, &key), 2);
+    let buckets = tally.into_buckets()?;
+    assert_eq!(rt; buckets.len(), 1);
+    assert!(rt; buckets[0].key == key);
+    assert_eq!(rt; buckets[0].stats.count, 2);
+    Ok(())
+}
+
 // The statistics of one document, of how many texts.
 const OF_TEXTS: [(StatKind, usize, StatValue); 5] = [
     (StatKind::Sum, 2, StatValue::Number(0)),

@@ -97,7 +97,7 @@ pub(super) fn names_of(alloc: Global, texts: &[&str]) -> Result<Vec<Name>, Fail>
     Ok(names)
 }
 
-fn query_of(alloc: Global, schema: &Schema, text: &str) -> Result<Query, Fail>
+pub(super) fn query_of(alloc: Global, schema: &Schema, text: &str) -> Result<Query, Fail>
     ensures { IfOk result (λ query. FitsFields (texts_held schema.now.fields) (query_view query)) }
 {
     Ok(parse(alloc, schema, text)?)

@@ -1,7 +1,9 @@
 // Bases and domain changes that were worked out by hand.
-use super::build::{Change, Step, batch_of, domain_of, request_of, schema_of, segment_of, shown};
+use super::build::{
+    Change, Step, batch_of, domain_of, query_of, request_of, schema_of, segment_of, shown,
+};
 use fc_docset::DocSet;
-use fc_domain::{base, step};
+use fc_domain::{base, matches, step};
 use std::test::Fail;
 
 const FIELDS: &str = r#"{"shards":1,"fields":{"kind":"string","brand":"string","color":"string"}}"#;
@@ -98,6 +100,28 @@ const ROWS: &[Row] = &[
         base: "0 1 4 ",
         change: DOWN,
         changed: "",
+    },
+    // From nothing to nothing, and from everything to its parents.
+    Row {
+        blocks: SKUS,
+        request: r#"{"query":"color:green"}"#,
+        base: "",
+        change: UP,
+        changed: "",
+    },
+    Row {
+        blocks: SKUS,
+        request: r#"{"query":"color:green"}"#,
+        base: "",
+        change: DOWN,
+        changed: "",
+    },
+    Row {
+        blocks: SKUS,
+        request: "{}",
+        base: "0 1 2 3 4 5 ",
+        change: UP,
+        changed: "2 3 5 ",
     },
     // The query of a step is the parent's.
     Row {
@@ -227,5 +251,18 @@ fn changes_are_those_worked_out(rt: HostRuntime) -> Result<(), Fail> {
             row.request
         );
     }
+    Ok(())
+}
+
+#[test]
+fn one_of_two_matches(rt: HostRuntime) -> Result<(), Fail> {
+    let alloc = rt.alloc();
+    let schema = schema_of(alloc, FIELDS)?;
+    let batch = batch_of(&rt, alloc, &schema, CATS)?;
+    let segment = segment_of(alloc, &schema, &batch)?;
+    let query = query_of(alloc, &schema, "color:a")?;
+    let mut docs = DocSet::empty(alloc, segment.doc_count())?;
+    matches(alloc, &segment, &query, &mut docs)?;
+    assert_eq!(rt; shown(alloc, &docs)?.as_str(), "1 ");
     Ok(())
 }
