@@ -19,8 +19,8 @@ pub enum AllRead {
 
 const PIECE: usize = 8192;
 
-/// Reads up to the end: all the bytes that the source had left. It stops at the first fault, and as
-/// soon as more than `limit` bytes were taken. The memory that it takes grows with the bytes that come.
+/// Reads up to the end: all the bytes that the source had left; or says that it failed, or that more than
+/// `limit` bytes were taken. The memory that it takes grows with the bytes that come.
 pub fn read_all<S: Source>(
     alloc: Global,
     source: &mut S,

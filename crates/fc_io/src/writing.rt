@@ -13,7 +13,7 @@ pub enum WriteEnd {
     WriteFault,
 }
 
-/// Writes all of `bytes`. Stops at the first fault, with a front of `bytes` written.
+/// Writes all of `bytes`, or a front of them where the sink failed.
 pub fn write_all<K: Sink>(sink: &mut K, bytes: &[u8]) -> WriteEnd
     ensures whole { OnWhole result (Appends (K.written sink.old) (K.written sink.new) bytes.now) }
     ensures front { OnWriteFault result
