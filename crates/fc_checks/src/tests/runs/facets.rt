@@ -53,12 +53,14 @@ pub(super) const RUNS: &[Run] = &[
 {"search":{"request":{"facet":{"r":{"type":"range","field":"n","start":0,"end":10,"gap":4,"hardend":false,"include":"upper","other":"all"}}},"session":"a"}}
 {"search":{"request":{"facet":{"r":{"type":"range","field":"n","start":0,"end":10,"gap":4,"hardend":false,"include":"edge","other":"all"}}},"session":"a"}}
 {"search":{"request":{"facet":{"r":{"type":"range","field":"n","start":0,"end":10,"gap":4,"hardend":false,"include":"outer","other":"all"}}},"session":"a"}}
+{"search":{"request":{"facet":{"r":{"type":"range","field":"n","start":5,"end":5,"gap":1,"other":"all"}}},"session":"a"}}
 "##,
         written: r##"{"facets":{"count":5,"r":{"after":{"count":1},"before":{"count":0},"between":{"count":4},"buckets":[{"count":1,"val":0},{"count":1,"val":4},{"count":2,"val":8}]}},"generations":[1],"session":"a"}
 {"facets":{"count":5,"r":{"after":{"count":2},"before":{"count":0},"between":{"count":3},"buckets":[{"count":1,"val":0},{"count":1,"val":4},{"count":1,"val":8}]}},"generations":[1],"session":"a"}
 {"facets":{"count":5,"r":{"after":{"count":0},"before":{"count":1},"between":{"count":4},"buckets":[{"count":1,"val":0},{"count":1,"val":4},{"count":2,"val":8}]}},"generations":[1],"session":"a"}
 {"facets":{"count":5,"r":{"after":{"count":0},"before":{"count":0},"between":{"count":5},"buckets":[{"count":1,"val":0},{"count":0,"val":4},{"count":2,"val":8}]}},"generations":[1],"session":"a"}
 {"facets":{"count":5,"r":{"after":{"count":1},"before":{"count":1},"between":{"count":3},"buckets":[{"count":0,"val":0},{"count":0,"val":4},{"count":1,"val":8}]}},"generations":[1],"session":"a"}
+{"facets":{"count":5,"r":{"after":{"count":3},"before":{"count":2},"between":{"count":0},"buckets":[]}},"generations":[1],"session":"a"}
 "##,
     },
     Run {
@@ -130,6 +132,38 @@ pub(super) const RUNS: &[Run] = &[
 {"search":{"request":{"facet":{"q":{"type":"query","q":"cat:b","facet":{"least":{"type":"func","func":" min ( n ) "},"none":{"type":"query","q":"cat:z","facet":{"n":"countvals(n)"}}}},"bare":"missing(cat)"}},"session":"a"}}
 "##,
         written: r##"{"facets":{"bare":1,"count":3,"q":{"count":2,"least":2,"none":{"count":0}}},"generations":[1],"session":"a"}
+"##,
+    },
+    Run {
+        name: "query facets beside a statistic",
+        status: Status::Done,
+        script: r##"{"schema":{"shards":1,"fields":{"color":"string","size":"plong"}}}
+{"add":{"doc":{"id":"1","color":"a","size":1},"shard":0}}
+{"add":{"doc":{"id":"2","color":"b","size":2},"shard":0}}
+{"add":{"doc":{"id":"3","color":"c"},"shard":0}}
+{"commit":{}}
+{"sync":{}}
+{"search":{"request":{"facet":{"big":{"type":"query","q":"size:[2 TO *]","facet":{"m":"missing(color)","s":"sum(size)"}},"lo":"min(size)","none":{"type":"query","q":"color:z","facet":{"s":"sum(size)"}}}},"session":"a"}}
+"##,
+        written: r##"{"facets":{"big":{"count":1,"m":0,"s":2},"count":3,"lo":1,"none":{"count":0}},"generations":[1],"session":"a"}
+"##,
+    },
+    Run {
+        name: "values below mincount are offered",
+        status: Status::Done,
+        script: r##"{"schema":{"shards":1,"fields":{"cat":"string"}}}
+{"add":{"doc":{"id":"1","cat":"a"}}}
+{"add":{"doc":{"id":"2","cat":"b"}}}
+{"add":{"doc":{"id":"3","cat":"b"}}}
+{"add":{"doc":{"id":"4","cat":"c"}}}
+{"add":{"doc":{"id":"5","cat":"c"}}}
+{"commit":{}}
+{"sync":{}}
+{"search":{"request":{"facet":{"c":{"type":"terms","field":"cat","limit":1,"sort":"index","mincount":2,"overrequest":0}}},"session":"a"}}
+{"search":{"request":{"facet":{"c":{"type":"terms","field":"cat","limit":1,"sort":"index","mincount":2}}},"session":"a"}}
+"##,
+        written: r##"{"facets":{"c":{"buckets":[]},"count":5},"generations":[1],"session":"a"}
+{"facets":{"c":{"buckets":[{"count":2,"val":"b"}]},"count":5},"generations":[1],"session":"a"}
 "##,
     },
 ];
