@@ -1,0 +1,11 @@
+pub mod CountedTallies
+pub mod EmptySets
+pub mod GatheredPlaces
+pub mod KeptLengths
+pub mod ListedKeys
+pub mod NodesThere
+pub mod SegmentLimits
+pub mod SteppedWays
+pub mod TopBuckets
+pub mod ValidFacets
+pub mod WalkedSets

@@ -1,0 +1,121 @@
+-- The keys of what is listed of a tally.
+use Rattle.std.proofs.Common.{◌≡◌, List, [], ◌∷◌, ◌++◌, map, All, Bool, true, false, cond, ◌&&◌, not, Some, None, IsTrue, refl, sym, ◌∙◌, ap, subst}
+use Rattle.std.specs.List.{AllByRecursion}
+use Rattle.std.specs.Map.{keys_of}
+use Rattle.std.proofs.lemmas.Bool.{false≢true}
+use Rattle.std.proofs.lemmas.List.Elements.{All-nil, All-cons, All-head, All-tail}
+use Rattle.fc_spec.specs.documents.Sets.{AreSets, places_at}
+use Rattle.fc_spec.specs.documents.World.{Place, World}
+use Rattle.fc_spec.specs.words.Lists.{is_empty}
+use Rattle.fc_spec.specs.requests.Buckets.{Key, value, missing, gap, before, between, after, whole, bucket_places, is_key_of}
+use Rattle.fc_spec.specs.requests.Ranks.{offered_bound}
+use Rattle.fc_spec.specs.requests.Request.{Stat, Terms, Kind, terms, range, query, Nodes, stats_of}
+use Rattle.fc_spec.specs.requests.Statistics.{stats_over}
+use Rattle.fc_spec.specs.messages.KeyOrder.{same_key}
+use Rattle.fc_spec.proofs.messages.Keys.{same_key_itself}
+use Rattle.fc_spec.proofs.words.Members.{Every, every_append, every_filter, every_map}
+use Rattle.fc_partial.specs.BucketView.{bare, bucket_view, buckets_view}
+use Rattle.fc_partial.specs.Tallied.{Entry, Tallied}
+use Rattle.fc_partial.specs.Tallying.{IsTally, entry_at}
+use Rattle.fc_partial.specs.declared.bucket.PartialBucket.{PartialBucket}
+use Rattle.fc_refine.specs.Tops.{is_value_or_missing, of_entry, others_of_tally, values_of_tally}
+use Rattle.fc_kind.specs.Tallies.{IsTallyOf}
+use Rattle.fc_answers.specs.Listed.{bucket_entry, listed_of}
+use Rattle.fc_answers.specs.SetAnswer.{Sets, own_keys}
+use Rattle.fc_answers.proofs.ListedTallies.{tallies_list}
+use Rattle.fc_jobs.specs.Gathered.{IsCountedSoFar, gathered}
+use Rattle.fc_jobs.proofs.CountedTallies.{counted_all}
+
+-- ---- keys of a tally
+
+-- each key is the facet's
+abbrev pub HaveKeysOf : Kind → List Entry → Type 0
+HaveKeysOf kind es = Every (λ e. is_key_of kind e.0) es
+
+pub have_keys : (kind : Kind) (es : List Entry) → All (λ key. IsTrue (is_key_of kind key)) (keys_of es) → HaveKeysOf kind es
+have_keys kind [] all = tt
+have_keys kind (e ∷ es) all = (All-head (λ key. IsTrue (is_key_of kind key)) e.0 (keys_of es) all, have_keys kind es (All-tail (λ key. IsTrue (is_key_of kind key)) e.0 (keys_of es) all))
+
+pub all_keys : (p : Key → Bool) (es : List Entry) → Every (λ e. p e.0) es → All (λ key. IsTrue (p key)) (keys_of es)
+all_keys p [] own = All-nil (λ key. IsTrue (p key))
+all_keys p (e ∷ es) own = All-cons (λ key. IsTrue (p key)) e.0 (keys_of es) own.0 (all_keys p es own.1)
+
+-- a test that fails only at keys without an entry passes at each that has one
+passes : (p : Key → Bool) (es : List Entry) → ((k : Key) → p k ≡ false → entry_at es k ≡ None) → Every (λ e. p e.0) es
+passes p [] misses = tt
+passes p (e ∷ es) misses = (head (p e.0) refl, passes p es rest)
+  where
+    head : (b : Bool) → p e.0 ≡ b → p e.0 ≡ true
+    head true h = h
+    head false h = let none = sym (ap (λ c. cond c (Some e.1) (entry_at es e.0)) (same_key_itself e.0)) ∙ misses e.0 h in absurd (cc)
+
+    at : (k : Key) (b : Bool) → cond b (Some e.1) (entry_at es k) ≡ None → entry_at es k ≡ None
+    at k true h = absurd (cc)
+    at k false h = h
+
+    rest : (k : Key) → p k ≡ false → entry_at es k ≡ None
+    rest k h = at k (same_key k e.0) (misses k h)
+
+pub keys_own : (kind : Kind) (ss : List Stat) (X : List Place) (t : Tallied) → IsTallyOf kind ss X t → HaveKeysOf kind t.entries
+keys_own kind ss X t of = passes (is_key_of kind) t.entries (λ k h. of.entries k ∙ (λ i. cond (h i && not (is_empty (bucket_places kind k X))) (Some (stats_over ss (bucket_places kind k X))) None))
+
+-- ---- the end of a facet's job
+
+-- what is listed are the buckets of the keys that the answer lists
+pub listed_all : (V : World) (D : Sets) (kind : Kind) (inner : Nodes) (t : Tallied) → AreSets V D → IsTally t → IsCountedSoFar V D kind (stats_of inner) D t
+    → listed_of kind (stats_of inner) t.entries ≡ map (bucket_entry kind (stats_of inner) (places_at V D)) (own_keys kind inner (places_at V D))
+listed_all V D kind inner t are tally so_far = tallies_list kind inner (places_at V D) t.entries tally.ascend (counted_all V D kind (stats_of inner) t are so_far).entries
+
+-- and the keys of the tally are the facet's
+pub counted_keys : (V : World) (D domain : Sets) (kind : Kind) (ss : List Stat) (t : Tallied) → IsCountedSoFar V D kind ss domain t → All (λ key. IsTrue (is_key_of kind key)) (keys_of t.entries)
+counted_keys V D domain kind ss t so_far = all_keys (is_key_of kind) t.entries (keys_own kind ss (gathered V domain) t so_far.tally)
+
+-- ---- what is listed
+
+-- of a terms facet they are values, or missing
+pub terms_keys : (t : Terms) (es : List Entry) → HaveKeysOf (terms t) es → Every (λ e. is_value_or_missing e.0) es
+terms_keys t [] own = tt
+terms_keys t (e ∷ es) own = (at e.0 own.0, terms_keys t es own.1)
+  where
+    at : (k : Key) → is_key_of (terms t) k ≡ true → is_value_or_missing k ≡ true
+    at (value v) h = refl
+    at missing h = refl
+    at (gap i) h = absurd (false≢true h)
+    at before h = absurd (false≢true h)
+    at between h = absurd (false≢true h)
+    at after h = absurd (false≢true h)
+    at whole h = absurd (false≢true h)
+
+values_own : (p : Key → Bool) (es : List Entry) → Every (λ e. p e.0) es → Every (λ e. p (of_entry e).0) (values_of_tally es)
+values_own p [] own = tt
+values_own p ((value v, s) ∷ es) own = (own.0, values_own p es own.1)
+values_own p ((missing, s) ∷ es) own = values_own p es own.1
+values_own p ((gap i, s) ∷ es) own = values_own p es own.1
+values_own p ((before, s) ∷ es) own = values_own p es own.1
+values_own p ((between, s) ∷ es) own = values_own p es own.1
+values_own p ((after, s) ∷ es) own = values_own p es own.1
+values_own p ((whole, s) ∷ es) own = values_own p es own.1
+
+-- what is listed has keys of the tally, or the whole
+pub listed_keys : (kind : Kind) (ss : List Stat) (es : List Entry) → HaveKeysOf kind es → HaveKeysOf kind (listed_of kind ss es)
+listed_keys (terms t) ss es own =
+    let p : Key → Bool = is_key_of (terms t) in
+    every_append (λ e. p e.0) (map of_entry _) (others_of_tally es)
+    (every_map (λ e. p e.0) of_entry _ (every_filter (λ e. p (of_entry e).0) _ (values_of_tally es) (values_own p es own)))
+    (every_filter (λ e. p e.0) _ es own)
+listed_keys (range g) ss es own = own
+listed_keys (query q) ss es own = (refl, tt)
+
+-- buckets have the keys of the entries that they are of
+pub bucket_keys : (p : Key → Bool) (bs : List PartialBucket) (es : List Entry) → buckets_view bs ≡ bare es → Every (λ e. p e.0) es → All (λ b. IsTrue (p (bucket_view b).key)) bs
+bucket_keys p [] es same own = All-nil (λ b. IsTrue (p (bucket_view b).key))
+bucket_keys p (b ∷ bs) [] same own = absurd (cc)
+bucket_keys p (b ∷ bs) (e ∷ es) same own =
+    let key : (bucket_view b).key ≡ e.0 = cc in
+    let rest : buckets_view bs ≡ bare es = cc in
+    All-cons (λ b. IsTrue (p (bucket_view b).key)) b bs (ap p key ∙ own.0) (bucket_keys p bs es rest own.1)
+
+-- so what is listed has keys of the facet
+pub keys_listed : (kind : Kind) (ss : List Stat) (es : List Entry) (bs : List PartialBucket) → All (λ key. IsTrue (is_key_of kind key)) (keys_of es) → buckets_view bs ≡ bare (listed_of kind ss es)
+    → All (λ b. IsTrue (is_key_of kind (bucket_view b).key)) bs
+keys_listed kind ss es bs all same = bucket_keys (is_key_of kind) bs (listed_of kind ss es) same (listed_keys kind ss es (have_keys kind es all))

@@ -1,0 +1,62 @@
+use Rattle.std.proofs.Common.{◌≡◌, ◌<◌, ◌+◌, drop, length, get_or, sym, ap, subst, ◌∙◌}
+use Rattle.std.proofs.lemmas.Bool.{ltb-true}
+use Rattle.fc_spec.specs.laws.LacksLaws.{names_keys}
+use Rattle.fc_partial.specs.View.{key_view}
+use Rattle.fc_refine.specs.AskView.{way_view}
+use Rattle.fc_request.specs.FacetNode.{facet_view, kind_of, kind_view}
+use Rattle.fc_request.specs.NodeView.{inner_view, nodes_view}
+use Rattle.fc_request.specs.RequestView.{request_view}
+use Rattle.fc_jobs.specs.FacetFits.{AllFit}
+use Rattle.fc_jobs.specs.Walked.{domain_set, walked}
+use Rattle.fc_jobs.proofs.KeptLengths.{bucket_length, domain_length}
+use Rattle.fc_jobs.proofs.SteppedWays.{fits_there, is_facet, is_there, keys_inside, own_key, walked_more}
+use Rattle.fc_jobs.proofs.walking.domain_where.Goals as goal
+
+pub unreachable-requires : goal.unreachable-requires
+unreachable-requires g c =
+    is_there c.loop-step.nodes.now c.args.way.now c.loop-step.step-index c.step-item.result c.loop-step-test.true c.step-item.is c.loop-step.invariant.keys c.in_default.ensures.lookup.3
+
+pub entered-requires-clause-facet : goal.entered-requires-clause-facet
+entered-requires-clause-facet g c =
+    let there : c.step-item.result.node < length c.loop-step.nodes.now = ltb-true _ _ (sym c.in-Some.ensures.lookup.0) in
+    is_facet c.loop-step.nodes.now c.args.way.now c.loop-step.step-index c.step-item.result c.loop-step-test.true c.step-item.is c.loop-step.invariant.keys c.in-Some.around.now there c.in-Some.ensures.lookup.1
+
+pub entered-requires-clause-change : goal.entered-requires-clause-change
+entered-requires-clause-change g c =
+    let there : c.step-item.result.node < length c.loop-step.nodes.now = ltb-true _ _ (sym c.in-Some.ensures.lookup.0) in
+    (fits_there c.loop-step.nodes.now c.args.way.now c.loop-step.step-index c.step-item.result c.loop-step-test.true c.step-item.is c.loop-step.invariant.keys c.in-Some.around.now there c.in-Some.ensures.lookup.1 c.args.segment.now.texts c.loop-step.invariant.fit).0
+
+pub entered-requires-clause-kind : goal.entered-requires-clause-kind
+entered-requires-clause-kind g c =
+    let there : c.step-item.result.node < length c.loop-step.nodes.now = ltb-true _ _ (sym c.in-Some.ensures.lookup.0) in
+    (fits_there c.loop-step.nodes.now c.args.way.now c.loop-step.step-index c.step-item.result c.loop-step-test.true c.step-item.is c.loop-step.invariant.keys c.in-Some.around.now there c.in-Some.ensures.lookup.1 c.args.segment.now.texts c.loop-step.invariant.fit).1
+
+pub entered-requires-clause-key : goal.entered-requires-clause-key
+entered-requires-clause-key g c =
+    let there : c.step-item.result.node < length c.loop-step.nodes.now = ltb-true _ _ (sym c.in-Some.ensures.lookup.0) in
+    own_key c.loop-step.nodes.now c.args.way.now c.loop-step.step-index c.step-item.result c.loop-step-test.true c.step-item.is c.loop-step.invariant.keys c.in-Some.around.now there c.in-Some.ensures.lookup.1
+
+pub loop-step-preserved : goal.loop-step-preserved
+loop-step-preserved g c =
+    let xs = c.loop-step.nodes.now in
+    let way = c.args.way.now in
+    let i = c.loop-step.step-index in
+    let step = c.step-item.result in
+    let n = c.in-Some.around.now in
+    let r = request_view c.args.request.now in
+    let blocks = c.args.segment.now.blocks in
+    let texts = c.args.segment.now.texts in
+    let rest = way_view (drop (i + 1) way) in
+    let there : step.node < length xs = ltb-true _ _ (sym c.in-Some.ensures.lookup.0) in
+    let inside = c.deref-nodes.ensures.value in
+    let domain = domain_set r blocks (facet_view n) c.loop-step.docs in
+    record {
+      there = ap (λ ns. walked r blocks (nodes_view ns) c.in_ok-docs-2.docs rest) inside ∙ ap (λ s. walked r blocks (inner_view n) s rest) c.in_ok-docs-2.ensures
+          ∙ walked_more xs way i step c.loop-step-test.true c.step-item.is c.loop-step.invariant.keys n there c.in-Some.ensures.lookup.1 r blocks c.loop-step.docs ∙ c.loop-step.invariant.there;
+      long = ap length c.in_ok-docs-2.ensures
+          ∙ bucket_length (kind_view (kind_of n)) (key_view step.key) blocks domain (domain_length r blocks (facet_view n) c.loop-step.docs c.loop-step.invariant.long);
+      fit = subst (λ ns. AllFit texts (nodes_view ns)) (sym inside)
+          (fits_there xs way i step c.loop-step-test.true c.step-item.is c.loop-step.invariant.keys n there c.in-Some.ensures.lookup.1 texts c.loop-step.invariant.fit).2;
+      keys = ap (λ ns. names_keys (nodes_view ns) rest) inside
+          ∙ keys_inside xs way i step c.loop-step-test.true c.step-item.is c.loop-step.invariant.keys n there c.in-Some.ensures.lookup.1;
+    }

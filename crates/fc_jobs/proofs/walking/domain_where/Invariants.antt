@@ -1,0 +1,19 @@
+use Rattle.std.proofs.Common.{◌≡◌, drop, length, true}
+use Rattle.fc_spec.specs.documents.Totals.{document_total}
+use Rattle.fc_spec.specs.laws.LacksLaws.{names_keys}
+use Rattle.fc_refine.specs.AskView.{way_view}
+use Rattle.fc_request.specs.NodeView.{nodes_view}
+use Rattle.fc_request.specs.RequestView.{request_view}
+use Rattle.fc_jobs.specs.FacetFits.{AllFit}
+use Rattle.fc_jobs.specs.Walked.{walked}
+use Rattle.fc_jobs.proofs.walking.domain_where.Given as goal
+
+-- what is left of the way leads from here to where all of it leads
+abbrev pub invariant-loop-step : goal.invariant-loop-step
+invariant-loop-step g l = record {
+  there : walked (request_view l.request) l.segment.blocks (nodes_view l.nodes) l.docs (way_view (drop l.step-index l.way))
+      ≡ walked (request_view l.request) l.segment.blocks (request_view l.request).nodes l.base_docs (way_view l.way);
+  long : length l.docs ≡ document_total l.segment.blocks;
+  fit : AllFit l.segment.texts (nodes_view l.nodes);
+  keys : names_keys (nodes_view l.nodes) (way_view (drop l.step-index l.way)) ≡ true;
+}

@@ -1,0 +1,3 @@
+pub mod FacetFits
+pub mod Gathered
+pub mod Walked

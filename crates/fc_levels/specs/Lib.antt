@@ -1,0 +1,4 @@
+pub mod Jobs
+pub mod Facets
+pub mod Levels
+pub mod Steps
