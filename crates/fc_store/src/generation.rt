@@ -89,6 +89,16 @@ impl Generation {
     {
         &self.segments
     }
+
+    /// The same segments, shared, for whoever works on them longer than the generation is lent.
+    pub fn share(&self, alloc: Global) -> Result<Vec<Arc<Segment>>, WantMemory>
+        ensures blocks { IfOk result (λ shared. blocks_of (map arc_value shared.items) ≡ self.now.blocks) }
+        ensures kinds { IfOk result (λ shared. All (λ segment. segment.texts ≡ texts_held self.now.schema.fields)
+            (map arc_value shared.items)) }
+        ensures valid { All (IsBlockOf self.now.schema) self.now.blocks }
+    {
+        shared(alloc, self.segments())
+    }
 }
 
 // The segments of a generation, shared, and one that holds the blocks of a batch.
