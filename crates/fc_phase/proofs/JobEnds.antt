@@ -1,0 +1,227 @@
+-- The end of a top bucket's job, and of a facet's.
+use Rattle.std.proofs.Common.{◌≡◌, ℕ, ◌+◌, ◌<◌, ◌≤◌, List, [], ◌∷◌, ◌++◌, length, All, Bool, false, Option, None, Some, refl, sym, ◌∙◌, ap, subst, arith, append-nil, length-append}
+use Rattle.std.proofs.lemmas.List.{drop_all, length-map, length-replicate}
+use Rattle.std.proofs.lemmas.List.Elements.{All-head, All-tail}
+use Rattle.fc_spec.specs.documents.Document.{Block}
+use Rattle.fc_spec.specs.documents.Schema.{Schema}
+use Rattle.fc_spec.specs.documents.Sets.{AreSets, places_at}
+use Rattle.fc_spec.specs.documents.Totals.{document_total}
+use Rattle.fc_spec.specs.documents.World.{World}
+use Rattle.fc_spec.specs.messages.Message.{Ask, first, more, Partials, no_partials, partial, Way}
+use Rattle.fc_spec.specs.messages.Target.{facet_at, nodes_in}
+use Rattle.fc_spec.specs.requests.Buckets.{Key}
+use Rattle.fc_spec.specs.requests.DomainSets.{base_set}
+use Rattle.fc_spec.specs.requests.Request as definition
+use Rattle.fc_spec.specs.requests.Request.{Facet as DefFacet, Nodes, stats_of}
+use Rattle.fc_spec.specs.requests.Statistics.{stats_over}
+use Rattle.fc_spec.proofs.requests.SetChanges.{are_sets_again, keep_lengths}
+use Rattle.fc_partial.specs.BucketView.{node_view}
+use Rattle.fc_partial.specs.StatsView.{stats_view}
+use Rattle.fc_partial.specs.View.{key_view}
+use Rattle.fc_request.specs.FacetNode.{facet_view, kind_of, kind_view}
+use Rattle.fc_request.specs.NodeView.{inner_view}
+use Rattle.fc_request.specs.RequestView.{request_view}
+use Rattle.fc_request.specs.declared.request.Request.{Request}
+use Rattle.fc_segment.specs.Segmented.{Segmented}
+use Rattle.fc_answers.specs.SetAnswer.{Sets, bucket_sets, domain_sets, set_rows}
+use Rattle.fc_levels.specs.Facets.{Nested, nested_view}
+use Rattle.fc_levels.specs.Jobs.{openings, openings_of, units_each}
+use Rattle.fc_levels.specs.Levels.{ended_in, open_in, open_sets, outermost_domain, plug, row_in, row_over}
+use Rattle.fc_levels.specs.Steps.{Goes, IsLevel, IsNextOf}
+use Rattle.fc_levels.specs.declared.level.Level.{Level}
+use Rattle.fc_levels.specs.declared.level.Next.{Next}
+use Rattle.fc_levels.specs.declared.level.Next.TheVariants.{Job, Whole}
+use Rattle.fc_jobs.specs.Gathered.{AreFirst, IsCountedSoFar}
+use Rattle.fc_jobs.specs.Walked.{domain_set, set_in, walked}
+use Rattle.fc_jobs.proofs.KeptLengths.{bucket_length, domain_length}
+use Rattle.fc_jobs.proofs.TopBuckets.{bucket_all}
+use Rattle.fc_jobs.proofs.WalkedSets.{domains_are_sets}
+use Rattle.fc_phase.specs.Asked.{path_at, top_bucket, top_domain, top_set}
+use Rattle.fc_phase.specs.Built.{IsFacetJob, IsUnder, blocks_in, row_under_way, zeroed}
+use Rattle.fc_phase.specs.Going.{Ends, known_already}
+use Rattle.fc_phase.specs.Stepping.{IsOneFurther, StandsAtTop}
+use Rattle.fc_phase.specs.declared.jobs.FacetJob.{FacetJob}
+use Rattle.fc_phase.specs.declared.jobs.TopJob.{TopJob}
+use Rattle.fc_phase.proofs.Opening.{zeroed-append}
+
+-- ---- sets for each segment
+
+-- those that are first are all, where there are so many
+pub all_there : (D domain : Sets) → AreFirst D domain → length D ≤ length domain → domain ≡ D
+all_there D domain front h = sym (append-nil domain) ∙ ap (λ l. domain ++ l) (sym (drop_all (length domain) D h)) ∙ front
+
+module _ (r : definition.Request) (blocks : List Block) where
+  set_in_length : (key : Key) (set : List Bool) (f : Option (DefFacet × Nodes)) → length set ≡ document_total blocks → length (set_in r blocks key set f) ≡ document_total blocks
+  set_in_length key set None h = length-replicate (document_total blocks) false
+  set_in_length key set (Some f) h = bucket_length f.0.kind key blocks (domain_set r blocks f.0 set) (domain_length r blocks f.0 set h)
+
+  walked_length : (nodes : Nodes) (set : List Bool) (way : Way) → length set ≡ document_total blocks → length (walked r blocks nodes set way) ≡ document_total blocks
+  walked_length nodes set [] h = h
+  walked_length nodes set (step ∷ way) h = walked_length (nodes_in (facet_at step.node nodes)) (set_in r blocks step.key set (facet_at step.node nodes)) way (set_in_length step.key set (facet_at step.node nodes) h)
+
+  pub top_length : (ask : Ask) (i : ℕ) (f : DefFacet) → length (top_set r ask i f blocks) ≡ document_total blocks
+  top_length first i f = keep_lengths.base r [] blocks
+  top_length (more wants) i f = domain_length r blocks f (walked r blocks r.nodes (base_set r [] blocks) (path_at wants i)) (walked_length r.nodes (base_set r [] blocks) (path_at wants i) (keep_lengths.base r [] blocks))
+
+pub top_are_sets : (r : definition.Request) (V : World) (ask : Ask) (i : ℕ) (f : DefFacet) → AreSets V (top_domain r V ask i f)
+top_are_sets r [] ask i f = refl
+top_are_sets r (blocks ∷ V) ask i f = λ j. top_length r blocks ask i f j ∷ top_are_sets r V ask i f j
+
+pub sets_count : (V : World) (sets : Sets) → AreSets V sets → length sets ≡ length V
+sets_count V sets are = sym (length-map sets length) ∙ ap length are ∙ length-map V document_total
+
+-- ---- levels
+
+some_levels : (r : definition.Request) (V : World) (levels : List Level) (ps : Partials) (xs : List ℕ) (k : ℕ) → ended_in r V levels ps ≡ xs ++ k ∷ [] → 0 < length levels
+some_levels r V [] ps xs k e = absurd (omega (arith, ap length e, length-append xs (k ∷ [])))
+some_levels r V (l ∷ levels) ps xs k e = omega arith
+
+same_outermost : (D E : Sets) (levels : List Level) → 0 < length levels → outermost_domain D levels ≡ outermost_domain E levels
+same_outermost D E [] h = absurd (omega (arith, h))
+same_outermost D E (l ∷ levels) h = refl
+
+pub some_ended : (r : definition.Request) (V : World) (levels : List Level) (ps : Partials) → 0 < length levels → 0 < length (ended_in r V levels ps)
+some_ended r V [] ps h = absurd (omega (arith, h))
+some_ended r V (l ∷ levels) ps h = omega arith
+
+-- a top bucket by itself: its own job is the first, and opens none that was not known
+one_zeroed : (r : definition.Request) (V : World) (n : Nested) (k : Key) (D : Sets) (ps : Partials) → ps ≡ top_bucket r V n k D → openings ps ≡ zeroed (openings_of ps)
+one_zeroed r V n k D ps e = ap openings e ∙ ap (λ (qs : Partials). zeroed (openings_of qs)) (sym e)
+
+-- ---- units
+
+pub last_unit : (m k at : ℕ) → k < units_each m → IsOneFurther m k at → m ≤ at → k + 1 ≡ units_each m
+last_unit m k at h f past = grind (arith, h, f.more, f.none, past)
+
+pub within_unit : (m k at : ℕ) → IsOneFurther m k at → at < m → (at ≡ k + 1) × (at < units_each m)
+within_unit m k at f h = (grind (arith, f.more, f.none, h), omega (arith, h))
+
+-- ---- a top bucket's job has ended
+module _ (s : Schema) (segments : List Segmented) (request : Request) (ask : Ask) (i : ℕ) (roots : Sets) (job : TopJob) (st : StandsAtTop s segments request ask i roots job) (past : length segments ≤ job.at) where
+  abbrev r : definition.Request
+  r = request_view request
+
+  abbrev V : World
+  V = blocks_in segments
+
+  abbrev n : Nested
+  n = nested_view job.node.now
+
+  abbrev key : Key
+  key = key_view job.key
+
+  abbrev D : Sets
+  D = top_domain r V ask i n.0
+
+  sets : AreSets V D
+  sets = top_are_sets r V ask i n.0
+
+  count : length D ≡ length segments
+  count = sets_count V D sets ∙ length-map segments (λ g. g.blocks)
+
+  whole : job.domain.items ≡ D
+  whole = all_there D job.domain.items st.is_job.domain (omega (arith, count, past, st.is_job.reached))
+
+  pub top_sets : AreSets V job.domain.items
+  top_sets = subst (AreSets V) (sym whole) sets
+
+  at_end : job.at ≡ length V
+  at_end = omega (arith, past, st.is_job.reached, ap length whole, count, length-map segments (λ g. g.blocks))
+
+  stats : stats_view job.over ≡ stats_over (stats_of n.1) (places_at V (bucket_sets V n.0.kind key D))
+  stats = bucket_all V D n.0.kind (stats_of n.1) key job.at (stats_view job.over) sets at_end st.is_job.over
+
+  pub top_stats : stats_view job.over ≡ stats_over (stats_of n.1) (places_at V (bucket_sets V n.0.kind key job.domain.items))
+  top_stats = stats ∙ ap (λ E. stats_over (stats_of n.1) (places_at V (bucket_sets V n.0.kind key E))) (sym whole)
+
+  -- what the levels are told of
+  abbrev bucket : Partials
+  bucket = partial key (stats_view job.over) (set_rows r V n.1 (bucket_sets V n.0.kind key job.domain.items)) no_partials
+
+  bucket_is : bucket ≡ top_bucket r V n key D
+  bucket_is = λ j. partial key (stats j) (set_rows r V n.1 (bucket_sets V n.0.kind key (whole j))) no_partials
+
+  pub top_ends : (levels : List Level) (next : Next) → Goes r V [] levels job.domain.items bucket next → All (IsLevel s V) levels → IsNextOf s V next → Ends s segments request ask i [] levels (known_already next)
+  top_ends levels (Job m k) g kept valid =
+      let some = some_levels r V levels (row_in r V (nested_view m.now) (open_in V [] levels)) [] k g.2 in (
+        valid,
+        kept,
+        some,
+        record {
+          facet = n;
+          key = key;
+          asked = st.is_job.asked;
+          top = st.is_job.top;
+          bucket = g.1 ∙ bucket_is;
+          domain = same_outermost [] job.domain.items levels some ∙ g.3 ∙ whole;
+        },
+        ap zeroed g.2,
+      )
+  top_ends levels (Whole p domain) g kept valid = (n, key, st.is_job.asked, st.is_job.top, g.1 ∙ bucket_is, g.3 ∙ whole, one_zeroed r V n key D (node_view p) (g.1 ∙ bucket_is) ∙ ap zeroed g.2)
+
+-- ---- a facet's job has ended
+module _ (s : Schema) (segments : List Segmented) (request : Request) (ask : Ask) (i : ℕ) (levels : List Level) (job : FacetJob) (is : IsFacetJob s request (blocks_in segments) levels job)
+    (under : IsUnder request (blocks_in segments) ask i levels (row_under_way (request_view request) (blocks_in segments) levels job)) (past : length segments ≤ length job.domain.items) where
+  abbrev q : definition.Request
+  q = request_view request
+
+  abbrev W : World
+  W = blocks_in segments
+
+  abbrev m : Nested
+  m = nested_view job.node.now
+
+  abbrev E : Sets
+  E = domain_sets q W m.0 (open_in W [] levels)
+
+  open_are : (ls : List Level) (D : Sets) → AreSets W D → All (IsLevel s W) ls → AreSets W (open_in W D ls)
+  open_are [] D are all = are
+  open_are (l ∷ ls) D are all = open_are ls (open_sets W l) (are_sets_again.buckets (facet_view l.node.now).kind (key_view l.key) W l.domain.items (All-head (IsLevel s W) l ls all).sets) (All-tail (IsLevel s W) l ls all)
+
+  open_top_are : (ls : List Level) → 0 < length ls → All (IsLevel s W) ls → AreSets W (open_in W [] ls)
+  open_top_are [] h all = absurd (omega (arith, h))
+  open_top_are (l ∷ ls) h all = open_are ls (open_sets W l) (are_sets_again.buckets (facet_view l.node.now).kind (key_view l.key) W l.domain.items (All-head (IsLevel s W) l ls all).sets) (All-tail (IsLevel s W) l ls all)
+
+  pub facet_are_sets : AreSets W E
+  facet_are_sets = domains_are_sets q W m.0 (open_in W [] levels) (open_top_are levels is.some is.valid)
+
+  facet_whole : job.domain.items ≡ E
+  facet_whole = all_there E job.domain.items is.counted.first (omega (arith, sets_count W E facet_are_sets, length-map segments (λ g. g.blocks), past))
+
+  pub facet_sets : AreSets W job.domain.items
+  facet_sets = subst (AreSets W) (sym facet_whole) facet_are_sets
+
+  pub facet_counted : IsCountedSoFar W job.domain.items (kind_view (kind_of job.node.now)) (stats_of (inner_view job.node.now)) job.domain.items job.tally
+  facet_counted = subst (λ D. IsCountedSoFar W D (kind_view (kind_of job.node.now)) (stats_of (inner_view job.node.now)) job.domain.items job.tally) (sym facet_whole) is.counted
+
+  list_is : row_over q W m job.domain.items ≡ row_under_way q W levels job
+  list_is = ap (row_over q W m) facet_whole
+
+  pub facet_ends : (after : List Level) (next : Next) → Goes q W levels after job.domain.items (row_over q W m job.domain.items) next → All (IsLevel s W) after → IsNextOf s W next
+      → Ends s segments request ask i (zeroed (ended_in q W levels (row_under_way q W levels job))) after next
+  facet_ends after (Job x k) g kept valid =
+      let some = some_levels q W after (row_in q W (nested_view x.now) (open_in W [] after)) (ended_in q W levels (row_over q W m job.domain.items)) k g.2 in (
+        valid,
+        kept,
+        some,
+        record {
+          facet = under.facet;
+          key = under.key;
+          asked = under.asked;
+          top = under.top;
+          bucket = g.1 ∙ ap (plug q W levels) list_is ∙ under.bucket;
+          domain = same_outermost [] job.domain.items after some ∙ g.3 ∙ same_outermost job.domain.items [] levels is.some ∙ under.domain;
+        },
+        ap zeroed (g.2 ∙ ap (λ ps. ended_in q W levels ps ++ k ∷ []) list_is) ∙ zeroed-append (ended_in q W levels (row_under_way q W levels job)) (k ∷ []) (some_ended q W levels (row_under_way q W levels job) is.some),
+      )
+  facet_ends after (Whole p domain) g kept valid =
+      let bucket = g.1 ∙ ap (plug q W levels) list_is ∙ under.bucket in (
+        under.facet,
+        under.key,
+        under.asked,
+        under.top,
+        bucket,
+        g.3 ∙ same_outermost job.domain.items [] levels is.some ∙ under.domain,
+        one_zeroed q W under.facet under.key (top_domain q W ask i under.facet.0) (node_view p) bucket
+            ∙ ap zeroed (g.2 ∙ ap (λ ps. ended_in q W levels ps ++ 0 ∷ []) list_is) ∙ zeroed-append (ended_in q W levels (row_under_way q W levels job)) (0 ∷ []) (some_ended q W levels (row_under_way q W levels job) is.some),
+      )

@@ -1,0 +1,19 @@
+-- A shard's future.
+use Rattle.std.specs.Prelude.{◌≡◌, List, false}
+use Rattle.fc_spec.specs.documents.Document.{Block}
+use Rattle.fc_spec.specs.messages.Message.{Ask}
+use Rattle.fc_request.specs.declared.request.Request.{Request}
+use Rattle.fc_refine.specs.AskView.{ask_view}
+use Rattle.fc_phase.specs.Phases.{Phase}
+use Rattle.fc_phase.specs.declared.future.PhaseFuture.{PhaseFuture}
+
+abbrev pub phase_of : {B : Type 0} {Q : B → Type 0} → PhaseFuture B Q → Phase
+phase_of f = f.progress
+
+-- nothing is done of the answer to this ask
+pub record IsBegun (request : Request) (blocks : List Block) (ask : Ask) (p : Phase) : Type 0 where
+  pub request_is : p.request ≡ request
+  pub ask_is : ask_view p.ask ≡ ask
+  pub blocks_are : p.blocks ≡ blocks
+  pub done : p.done ≡ 0
+  pub fresh : p.spent ≡ false
