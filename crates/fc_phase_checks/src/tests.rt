@@ -1,0 +1,11 @@
+// Messages of shards with memory enough, and kinds of the test's own.
+mod answers;
+mod asked;
+mod counted;
+mod deep;
+mod driving;
+mod kinds;
+mod messages;
+mod orders;
+mod shards;
+mod wants;

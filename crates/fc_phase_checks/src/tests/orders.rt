@@ -1,0 +1,127 @@
+// Two futures side by side, in every order of their turns.
+ghost use Rattle.std.specs.Prelude.{◌≡◌, map};
+ghost use Rattle.std.specs.Arc.{arc_value};
+ghost use Rattle.fc_kind.specs.Names.{Covers};
+ghost use Rattle.fc_phase_checks.specs.Cases.{CanAsk};
+
+use super::driving::{Case, Row, case_of, future_of};
+use super::kinds::kinds_of;
+use super::messages::text_of;
+use super::shards::{Cut, schema_of};
+use super::wants::Tag;
+use fc_kind::FacetKind;
+use fc_partial::Message;
+use fc_phase::{PhaseFuture, Turn};
+use std::alloc::Global;
+use std::process::Abort;
+use std::sync::Arc;
+use std::sync::atomic::AtomicU64;
+use std::test::Fail;
+
+const TWO: &[&str] = &[r#"{"id":"1","cat":"a"}"#, r#"{"id":"2","cat":"b"}"#];
+
+const REQUEST: &str =
+    r#"{"facet":{"c":{"type":"terms","field":"cat","facet":{"n":"countvals(id)"}}}}"#;
+
+// The first answer, and one to two wants: four turns each over two segments.
+const ONE: Row = Row {
+    name: "one",
+    documents: TWO,
+    request: REQUEST,
+    wants: &[],
+    left: &[2, 1, 0],
+    message: "whole 2[a 1 1, b 1 1]",
+};
+
+const OTHER: Row = Row {
+    name: "other",
+    documents: TWO,
+    request: REQUEST,
+    wants: &[&[(0, Tag::Text("b"))], &[(0, Tag::Text("c"))]],
+    left: &[2, 1, 0],
+    message: "b 1 1, c 0 0",
+};
+
+const TURNS: u32 = 4;
+
+// One turn, and the message that it gave, if any.
+fn turn_of(
+    rt: &impl Abort,
+    future: &mut PhaseFuture<'_>,
+    answer: &mut Option<Message>,
+) -> Result<(), Fail>
+    requires { Covers (map (λ b. (⟦<dyn FacetKind as FacetKind>⟧ b.vtable).name b.value) future.old.kinds.now) }
+    ensures { future.new.kinds.now ≡ future.old.kinds.now }
+{
+    assert!(rt; !future.spent());
+    if let Turn::Done(message) = future.turn()? {
+        *answer = Some(message);
+    }
+    Ok(())
+}
+
+fn is_answer(alloc: Global, answer: Option<Message>, wanted: &str) -> Result<bool, Fail> {
+    let message = answer.ok_or("an answer")?;
+    let text = text_of(alloc, &message)?;
+    Ok(text.as_str() == wanted)
+}
+
+// The turns in an order: the bits that are set are those of the first future.
+fn in_order(
+    rt: &impl Abort,
+    alloc: Global,
+    mut one: PhaseFuture<'_>,
+    mut other: PhaseFuture<'_>,
+    order: u32,
+) -> Result<(), Fail>
+    requires one { Covers (map (λ b. (⟦<dyn FacetKind as FacetKind>⟧ b.vtable).name b.value) one.kinds.now) }
+    requires other { Covers (map (λ b. (⟦<dyn FacetKind as FacetKind>⟧ b.vtable).name b.value) other.kinds.now) }
+{
+    let mut first = None;
+    let mut second = None;
+    for at in 0..2 * TURNS {
+        if order & (1 << at) != 0 {
+            turn_of(rt, &mut one, &mut first)?;
+        } else {
+            turn_of(rt, &mut other, &mut second)?;
+        }
+    }
+    assert!(rt; is_answer(alloc, first, ONE.message)?);
+    assert!(rt; is_answer(alloc, second, OTHER.message)?);
+    Ok(())
+}
+
+fn in_all_orders(
+    rt: &impl Abort,
+    alloc: Global,
+    one: &Case,
+    other: &Case,
+    kinds: &[Box<dyn FacetKind>],
+) -> Result<(), Fail>
+    requires covers { Covers (map name kinds.now) }
+    requires one { CanAsk (arc_value one.now.generation) one.now.request one.now.ask }
+    requires other { CanAsk (arc_value other.now.generation) other.now.request other.now.ask }
+{
+    let mut orders = 0u32;
+    for order in 0..1u32 << (2 * TURNS) {
+        if order.count_ones() == TURNS {
+            orders = orders.saturating_add(1);
+            let first = future_of(alloc, one, kinds)?;
+            let second = future_of(alloc, other, kinds)?;
+            in_order(rt, alloc, first, second, order)?;
+        }
+    }
+    assert!(rt; orders == 70);
+    Ok(())
+}
+
+#[test]
+fn orders_of_turns(rt: HostRuntime) -> Result<(), Fail> {
+    let alloc = rt.alloc();
+    let calls = Arc::new(alloc, AtomicU64::new(0))?;
+    let kinds = kinds_of(&rt, alloc, &calls)?;
+    let schema = schema_of(alloc)?;
+    let one = case_of(&rt, alloc, &schema, &ONE, Cut::Each)?;
+    let other = case_of(&rt, alloc, &schema, &OTHER, Cut::Each)?;
+    in_all_orders(&rt, alloc, &one, &other, &kinds)
+}

@@ -1,0 +1,182 @@
+// What shards are asked, of tables.
+ghost use Rattle.std.specs.Prelude.{◌≡◌, ◌<◌, None, true, map, IfSome, IsTrue};
+ghost use Rattle.std.specs.Bool.{OnTrue};
+ghost use Rattle.std.specs.List.{AllByRecursion};
+ghost use Rattle.fc_spec.specs.laws.LacksLaws.{has_key, names_keys};
+ghost use Rattle.fc_spec.specs.messages.Message.{way_of};
+ghost use Rattle.fc_spec.specs.messages.Target.{facet_at, nodes_in};
+ghost use Rattle.fc_spec.specs.requests.Buckets.{is_key_of, is_range_key, is_terms_key};
+ghost use Rattle.fc_facet.specs.KindView.{range_view, terms_view};
+ghost use Rattle.fc_facet.specs.RangeGaps.{HasFewGaps};
+ghost use Rattle.fc_partial.specs.View.{key_view};
+ghost use Rattle.fc_refine.specs.AskView.{ask_view, want_view};
+ghost use Rattle.fc_request.specs.FacetNode.{has_buckets, kind_of, kind_view};
+ghost use Rattle.fc_request.specs.NodeView.{nodes_view};
+ghost use Rattle.fc_phase.specs.Asked.{NamesKeys, asked_count};
+
+use fc_base::{Name, Val};
+use fc_partial::Key;
+use fc_refine::{Ask, Step, Want};
+use fc_request::{Kind, Node, Range, Terms};
+use std::alloc::Global;
+use std::test::Fail;
+
+// The key of a bucket.
+#[derive(Clone, Copy)]
+pub(super) enum Tag {
+    Text(&'static str),
+    Long(i64),
+    Missing,
+    Gap(u32),
+    Before,
+    Between,
+    After,
+    Whole,
+}
+
+// The nodes and keys from the outermost bucket to the wanted one.
+pub(super) type Way = &'static [(u32, Tag)];
+
+fn key_of(alloc: Global, tag: Tag) -> Result<Key, Fail> {
+    Ok(match tag {
+        Tag::Text(text) => Key::Value(Val::Text(Name::new(alloc, text)?)),
+        Tag::Long(number) => Key::Value(Val::Long(number)),
+        Tag::Missing => Key::Missing,
+        Tag::Gap(number) => Key::Gap(number),
+        Tag::Before => Key::Before,
+        Tag::Between => Key::Between,
+        Tag::After => Key::After,
+        Tag::Whole => Key::Whole,
+    })
+}
+
+fn want_of(alloc: Global, way: Way) -> Result<Want, Fail> {
+    let (last, before) = way.split_last().ok_or("a step")?;
+    let mut path = Vec::new(alloc);
+    for (node, tag) in before {
+        path.push(Step {
+            node: *node,
+            key: key_of(alloc, *tag)?,
+        })?;
+    }
+    Ok(Want {
+        path,
+        node: last.0,
+        key: key_of(alloc, last.1)?,
+    })
+}
+
+// The first ask where there is none of them.
+pub(super) fn ask_of(alloc: Global, ways: &[Way]) -> Result<Ask, Fail> {
+    if ways.is_empty() {
+        return Ok(Ask::First);
+    }
+    let mut wants = Vec::new(alloc);
+    for way in ways {
+        wants.push(want_of(alloc, way)?)?;
+    }
+    Ok(Ask::More(wants))
+}
+
+// Whether there are so few gaps that they have numbers.
+fn has_few_gaps(range: &Range) -> bool
+    ensures { result ≡ true → HasFewGaps (range_view range.now) }
+{
+    if range.end < range.start || range.gap < 1 {
+        return false;
+    }
+    let width = range.end.abs_diff(range.start);
+    width.div_ceil(range.gap.unsigned_abs()) <= 10_000
+}
+
+fn has_range_key(range: &Range, key: &Key) -> bool
+    requires { HasFewGaps (range_view range.now) }
+    ensures { result ≡ is_range_key (range_view range.now) (key_view key.now) }
+{
+    match key {
+        Key::Gap(number) => *number < range.gaps(),
+        Key::Before => range.before,
+        Key::Between => range.between,
+        Key::After => range.after,
+        _ => false,
+    }
+}
+
+fn has_terms_key(terms: &Terms, key: &Key) -> bool
+    requires { terms.now.prefix ≡ None }
+    ensures { result ≡ is_terms_key (terms_view terms.now) (key_view key.now) }
+{
+    match key {
+        Key::Value(_) => true,
+        Key::Missing => terms.missing,
+        _ => false,
+    }
+}
+
+// Whether it is a key of a facet without a prefix.
+fn is_key(node: &Node, key: &Key) -> bool
+    ensures facet { OnTrue result (IsTrue (has_buckets (kind_of node.now))) }
+    ensures key { OnTrue result (IsTrue (is_key_of (kind_view (kind_of node.now)) (key_view key.now))) }
+{
+    match &node.kind {
+        Kind::Terms(terms) => terms.prefix.is_none() && has_terms_key(terms, key),
+        Kind::Range(range) => has_few_gaps(range) && has_range_key(range, key),
+        Kind::Query(_) => matches!(key, Key::Whole),
+        Kind::Stat(_) => false,
+    }
+}
+
+// The nodes nested in the facet of a number, where the key is one of its own.
+fn nodes_inside<'a>(nodes: &'a [Node], number: u32, key: &Key) -> Option<&'a [Node]>
+    ensures named { IfSome result (λ inner. IsTrue (has_key (facet_at number (nodes_view nodes.now)) (key_view key.now))) }
+    ensures there { IfSome result (λ inner. nodes_view inner.now ≡ nodes_in (facet_at number (nodes_view nodes.now))) }
+{
+    let at = number as usize;
+    if at >= nodes.len() {
+        return None;
+    }
+    let node = &nodes[at];
+    if is_key(node, key) {
+        Some(&node.nodes)
+    } else {
+        None
+    }
+}
+
+fn is_named(nodes: &[Node], want: &Want) -> bool
+    ensures { OnTrue result (IsTrue (names_keys (nodes_view nodes.now) (way_of (want_view want.now)))) }
+{
+    let mut around = nodes;
+    for step in &want.path {
+        match nodes_inside(around, step.node, &step.key) {
+            Some(inner) => around = inner,
+            None => return false,
+        }
+    }
+    match nodes_inside(around, want.node, &want.key) {
+        Some(_) => true,
+        None => false,
+    }
+}
+
+fn all_named(nodes: &[Node], wants: &[Want]) -> bool
+    ensures { OnTrue result (AllByRecursion (λ way. IsTrue (names_keys (nodes_view nodes.now) (way_of way))) (map want_view wants.now)) }
+{
+    for want in wants {
+        if !is_named(nodes, want) {
+            return false;
+        }
+    }
+    true
+}
+
+// Whether there is something to answer, and each step of each want names a facet among the nodes and one of its keys.
+pub(super) fn can_ask(nodes: &[Node], ask: &Ask) -> bool
+    ensures some { OnTrue result (0 < asked_count (ask_view ask.now)) }
+    ensures names { OnTrue result (NamesKeys (nodes_view nodes.now) (ask_view ask.now)) }
+{
+    match ask {
+        Ask::First => true,
+        Ask::More(wants) => !wants.is_empty() && all_named(nodes, wants),
+    }
+}
