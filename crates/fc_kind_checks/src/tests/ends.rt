@@ -17,15 +17,13 @@ fn check(rt: &impl Abort, alloc: Global, range: &Range, wanted: &[(i64, i64)]) -
     requires last { IsTrue (is_long (last_end (range_view range.now))) }
 {
     let ends = bounds(alloc, range)?;
-    assert_eq!(rt; ends.len(), wanted.len());
+    assert!(rt; ends.len() == wanted.len());
     for (end, (low, high)) in ends.iter().zip(wanted) {
-        assert_eq!(rt;
-            *end,
-            GapEnds {
-                low: *low,
-                high: *high
-            }
-        );
+        let wanted = GapEnds {
+            low: *low,
+            high: *high,
+        };
+        assert!(rt; *end == wanted);
     }
     Ok(())
 }

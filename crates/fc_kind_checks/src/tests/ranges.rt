@@ -1,28 +1,17 @@
 // Range facets, behind a box.
-ghost use Rattle.std.specs.Prelude.{◌≡◌, ◌<◌, [], ◌∷◌, length, slice_index_or, false, true, IfOk};
-ghost use Rattle.fc_spec.specs.documents.Totals.{document_total};
+ghost use Rattle.std.specs.Prelude.{◌≡◌, ◌<◌, [], ◌∷◌, length, slice_index_or, false, true};
 ghost use Rattle.fc_spec.specs.requests.Buckets.{is_range_key};
-ghost use Rattle.fc_spec.specs.requests.Request as definition;
 ghost use Rattle.fc_spec.specs.scripts.WorldLimits.{IsWithinLimits};
 ghost use Rattle.fc_facet.specs.KindView.{range_view};
 ghost use Rattle.fc_facet.specs.RangeGaps.{HasFewGaps};
-ghost use Rattle.fc_facet.specs.declared.kind.Kind.TheVariants as kinds;
 ghost use Rattle.fc_partial.specs.View.{key_view};
-ghost use Rattle.fc_request.specs.FacetNode.{kind_of};
-ghost use Rattle.fc_request.specs.NodeView.{inner_view};
-ghost use Rattle.fc_kind.specs.Columns.{FitsColumns};
-ghost use Rattle.fc_kind.specs.declared.name.KindName.TheVariants as names;
 
-use super::wholes::segment_of;
-use fc_base::{FieldId, Name, Schema};
-use fc_docset::DocSet;
-use fc_facet::{BlockStep, Domain, Kind, Range};
-use fc_kind::FacetKind;
+use super::asking::{collected, node_of, segment_from, selected};
+use fc_base::FieldId;
+use fc_facet::{Kind, Range};
 use fc_partial::{Key, Tally};
-use fc_range::RangeKind;
 use fc_request::Node;
 use fc_segment::{Column, Segment};
-use serde_json::Value;
 use std::alloc::Global;
 use std::process::Abort;
 use std::test::Fail;
@@ -394,14 +383,6 @@ pub(super) fn has_few_gaps(range: &Range) -> bool
     width.div_ceil(range.gap.unsigned_abs()) <= 10_000
 }
 
-fn fits(segment: &Segment, range: &Range) -> bool
-    requires { length segment.now.texts ≡ 2 }
-    ensures { result ≡ true
-        → FitsColumns segment.now.texts (definition.range (range_view range.now)) }
-{
-    range.field.0 < 2 && holds_integers(segment, range.field) && has_few_gaps(range)
-}
-
 pub(super) fn is_key(range: &Range, key: &Key) -> bool
     requires { HasFewGaps (range_view range.now) }
     ensures { result ≡ is_range_key (range_view range.now) (key_view key.now) }
@@ -413,73 +394,6 @@ pub(super) fn is_key(range: &Range, key: &Key) -> bool
         Key::After => range.after,
         _ => false,
     }
-}
-
-// A facet of this range with nothing nested.
-fn node_of(alloc: Global, range: Range) -> Result<Node, Fail>
-    ensures kind { IfOk result (λ node. kind_of node ≡ kinds.Range range) }
-    ensures inner { IfOk result (λ node. inner_view node ≡ definition.no_nodes) }
-{
-    Ok(Node {
-        name: Name::new(alloc, "f")?,
-        domain: Domain {
-            exclude: Vec::new(alloc),
-            block: BlockStep::Stay,
-            filters: Vec::new(alloc),
-        },
-        kind: Kind::Range(range),
-        nodes: Vec::new(alloc),
-    })
-}
-
-fn set_of(rt: &impl Abort, alloc: Global, segment: &Segment, docs: &[u32]) -> Result<DocSet, Fail>
-    ensures { IfOk result (λ set. length set ≡ document_total segment.now.blocks) }
-{
-    let mut set = DocSet::empty(alloc, segment.doc_count())?;
-    for at in docs {
-        assert!(rt; *at < set.len());
-        set.add(*at);
-    }
-    Ok(set)
-}
-
-// What is collected of a row.
-fn collected(
-    rt: &impl Abort,
-    alloc: Global,
-    kind: &Box<dyn FacetKind>,
-    segment: &Segment,
-    row: &Row,
-) -> Result<Tally, Fail>
-    requires name { name kind.now ≡ names.Range }
-    requires fits { FitsColumns segment.now.texts (definition.range (range_view row.now.range)) }
-    requires limits { IsWithinLimits (segment.now.blocks ∷ []) }
-{
-    let node = node_of(alloc, row.range)?;
-    let docs = set_of(rt, alloc, segment, row.docs)?;
-    let mut tally = Tally::new(alloc, Vec::new(alloc))?;
-    kind.collect(alloc, segment, &docs, &node, &mut tally)?;
-    Ok(tally)
-}
-
-// The positions of a bucket of a row.
-fn selected(
-    rt: &impl Abort,
-    alloc: Global,
-    kind: &Box<dyn FacetKind>,
-    segment: &Segment,
-    row: &Row,
-    key: &Key,
-) -> Result<Vec<u32>, Fail>
-    requires name { name kind.now ≡ names.Range }
-    requires fits { FitsColumns segment.now.texts (definition.range (range_view row.now.range)) }
-{
-    assert!(rt; is_key(&row.range, key));
-    let node = node_of(alloc, row.range)?;
-    let docs = set_of(rt, alloc, segment, row.docs)?;
-    let mut into = DocSet::full(alloc, segment.doc_count())?;
-    kind.select(alloc, segment, &docs, &node, key, &mut into)?;
-    Ok(into.iter().collect(alloc)?)
 }
 
 // The keys of a row with their positions.
@@ -517,43 +431,63 @@ pub(super) fn check_bucket(
     wanted: &[u32],
     count: Option<u64>,
 ) -> Result<(), Fail> {
-    assert_eq!(rt; found, wanted);
+    assert!(rt; found == wanted);
     match count {
-        Some(count) => {
-            assert!(rt; count > 0);
-            assert_eq!(rt; count, wanted.len() as u64);
-        }
-        None => assert_eq!(rt; wanted.len(), 0),
+        Some(count) => assert!(rt; count > 0 && count == wanted.len() as u64),
+        None => assert!(rt; wanted.is_empty()),
     }
     Ok(())
 }
 
-fn check(rt: &impl Abort, alloc: Global, kind: &Box<dyn FacetKind>, row: &Row) -> Result<(), Fail>
-    requires name { name kind.now ≡ names.Range }
+// Whether a bucket has these positions, where it is asked for.
+fn check_key(
+    rt: &impl Abort,
+    alloc: Global,
+    segment: &Segment,
+    row: &Row,
+    node: &Node,
+    key: &Key,
+    wanted: &[u32],
+    count: Option<u64>,
+) -> Result<(), Fail>
+    requires { length segment.now.texts ≡ 2 }
 {
-    let schema = Schema::read(alloc, &Value::from_str(alloc, FIELDS)?)?;
-    assert_eq!(rt; schema.fields(), 2);
-    let segment = segment_of(rt, alloc, &schema, row.block)?;
-    assert!(rt; fits(&segment, &row.range));
-    let tally = collected(rt, alloc, kind, &segment, row)?;
-    for (key, wanted) in buckets_of(alloc, row)? {
-        let count = count_of(&tally, &key);
-        if is_asked(&row.range, &key) {
-            let found = selected(rt, alloc, kind, &segment, row, &key)?;
-            check_bucket(rt, &found, wanted, count)?;
-        } else {
-            assert!(rt; count.is_none());
-        }
+    if !is_asked(&row.range, key) {
+        assert!(rt; count.is_none());
+        return Ok(());
+    }
+    let found = selected(rt, alloc, segment, 2, row.docs, node, key)?;
+    check_bucket(rt, &found, wanted, count)
+}
+
+fn check_node(
+    rt: &impl Abort,
+    alloc: Global,
+    segment: &Segment,
+    row: &Row,
+    node: &Node,
+) -> Result<(), Fail>
+    requires texts { length segment.now.texts ≡ 2 }
+    requires limits { IsWithinLimits (segment.now.blocks ∷ []) }
+{
+    let tally = collected(rt, alloc, segment, 2, row.docs, node)?;
+    for (key, wanted) in &buckets_of(alloc, row)? {
+        let count = count_of(&tally, key);
+        check_key(rt, alloc, segment, row, node, key, wanted, count)?;
     }
     Ok(())
+}
+
+fn check(rt: &impl Abort, alloc: Global, row: &Row) -> Result<(), Fail> {
+    let segment = segment_from(rt, alloc, FIELDS, 2, row.block)?;
+    let node = node_of(alloc, Kind::Range(row.range), &[])?;
+    check_node(rt, alloc, &segment, row, &node)
 }
 
 #[test]
 fn buckets_of_ranges(rt: HostRuntime) -> Result<(), Fail> {
-    let alloc = rt.alloc();
-    let kind: Box<dyn FacetKind> = Box::new(alloc, RangeKind)?;
     for row in &ROWS {
-        check(&rt, alloc, &kind, row)?;
+        check(&rt, rt.alloc(), row)?;
     }
     Ok(())
 }

@@ -1,27 +1,17 @@
 // Terms facets, behind a box.
-ghost use Rattle.std.specs.Prelude.{◌≡◌, ◌<◌, [], ◌∷◌, length, slice_index_or, false, None, IfOk};
-ghost use Rattle.fc_spec.specs.documents.Totals.{document_total};
+ghost use Rattle.std.specs.Prelude.{◌≡◌, ◌<◌, [], ◌∷◌, length, slice_index_or, false, None};
 ghost use Rattle.fc_spec.specs.requests.Buckets.{is_terms_key};
-ghost use Rattle.fc_spec.specs.requests.Request as definition;
 ghost use Rattle.fc_spec.specs.scripts.WorldLimits.{IsWithinLimits};
 ghost use Rattle.fc_facet.specs.KindView.{terms_view};
-ghost use Rattle.fc_facet.specs.declared.kind.Kind.TheVariants as kinds;
 ghost use Rattle.fc_partial.specs.View.{key_view};
-ghost use Rattle.fc_request.specs.FacetNode.{kind_of};
-ghost use Rattle.fc_request.specs.NodeView.{inner_view};
-ghost use Rattle.fc_kind.specs.Columns.{FitsColumns};
-ghost use Rattle.fc_kind.specs.declared.name.KindName.TheVariants as names;
 
-use super::wholes::segment_of;
-use fc_base::{FieldId, Name, Schema, Val};
-use fc_docset::DocSet;
-use fc_facet::{BlockStep, Domain, Kind, Sort, SortKey, Terms};
-use fc_kind::{FacetKind, KindName};
-use fc_partial::{Key, PartialBucket, Tally};
+use super::asking::{collected, node_of, segment_from, selected, terms_of};
+use super::ways::write_key;
+use fc_base::{FieldId, Name, Val};
+use fc_facet::Terms;
+use fc_partial::{Key, PartialBucket};
 use fc_request::Node;
 use fc_segment::{Column, Segment};
-use fc_terms::TermsKind;
-use serde_json::Value;
 use std::alloc::Global;
 use std::fmt::Write;
 use std::process::Abort;
@@ -124,121 +114,50 @@ pub(super) fn holds_texts(segment: &Segment, field: FieldId) -> bool
     }
 }
 
-pub(super) fn terms_of(
-    rt: &impl Abort,
-    alloc: Global,
-    segment: &Segment,
-    field: u16,
-    prefix: Option<&str>,
-    missing: bool,
-) -> Result<Terms, Fail>
-    requires { length segment.now.texts ≡ 3 }
-    ensures { IfOk result (λ terms.
-        FitsColumns segment.now.texts (definition.terms (terms_view terms))) }
-{
-    assert!(rt; field < 3);
-    let prefix = match prefix {
-        Some(text) => {
-            assert!(rt; holds_texts(segment, FieldId(field)));
-            Some(Name::new(alloc, text)?)
-        }
-        None => None,
-    };
-    Ok(Terms {
-        field: FieldId(field),
-        offset: 0,
-        limit: None,
-        sort: Sort {
-            by: SortKey::Index,
-            descending: false,
-        },
-        mincount: 1,
-        missing,
-        prefix,
-        refine: false,
-        overrequest: 0,
-        overrefine: 0,
-    })
-}
-
-// A facet of these terms with nothing nested.
-pub(super) fn node_of(alloc: Global, terms: Terms) -> Result<Node, Fail>
-    ensures kind { IfOk result (λ node. kind_of node ≡ kinds.Terms terms) }
-    ensures inner { IfOk result (λ node. inner_view node ≡ definition.no_nodes) }
-{
-    Ok(Node {
-        name: Name::new(alloc, "f")?,
-        domain: Domain {
-            exclude: Vec::new(alloc),
-            block: BlockStep::Stay,
-            filters: Vec::new(alloc),
-        },
-        kind: Kind::Terms(terms),
-        nodes: Vec::new(alloc),
-    })
-}
-
-pub(super) fn set_of(
-    rt: &impl Abort,
-    alloc: Global,
-    segment: &Segment,
-    docs: &[u32],
-) -> Result<DocSet, Fail>
-    ensures { IfOk result (λ set. length set ≡ document_total segment.now.blocks) }
-{
-    let mut set = DocSet::empty(alloc, segment.doc_count())?;
-    for at in docs {
-        assert!(rt; *at < set.len());
-        set.add(*at);
-    }
-    Ok(set)
-}
-
 // The keys with their counts, in order.
-pub(super) fn shown(alloc: Global, buckets: &[PartialBucket]) -> Result<String, Fail> {
+fn shown(alloc: Global, buckets: &[PartialBucket]) -> Result<String, Fail> {
     let mut text = String::new(alloc);
     for bucket in buckets {
-        match &bucket.key {
-            Key::Value(Val::Text(name)) => write!(text, "{}", name.text())?,
-            Key::Value(Val::Long(number)) => write!(text, "{number}")?,
-            Key::Missing => text.push_str("missing")?,
-            _ => text.push_str("?")?,
-        }
+        write_key(&mut text, &bucket.key)?;
         write!(text, " {}, ", bucket.stats.count)?;
     }
     Ok(text)
 }
 
-fn collected(
+fn facet_of(alloc: Global, field: u16, prefix: Option<&str>, missing: bool) -> Result<Node, Fail> {
+    node_of(alloc, terms_of(alloc, field, prefix, missing)?, &[])
+}
+
+// What a facet has of the documents at these positions.
+fn found(
     rt: &impl Abort,
     alloc: Global,
-    kind: &Box<dyn FacetKind>,
     segment: &Segment,
-    row: &Row,
+    docs: &[u32],
+    node: &Node,
 ) -> Result<String, Fail>
-    requires name { name kind.now ≡ names.Terms }
     requires texts { length segment.now.texts ≡ 3 }
     requires limits { IsWithinLimits (segment.now.blocks ∷ []) }
 {
-    let terms = terms_of(rt, alloc, segment, row.field, row.prefix, row.missing)?;
-    let node = node_of(alloc, terms)?;
-    let docs = set_of(rt, alloc, segment, row.docs)?;
-    let mut tally = Tally::new(alloc, Vec::new(alloc))?;
-    kind.collect(alloc, segment, &docs, &node, &mut tally)?;
+    let tally = collected(rt, alloc, segment, 3, docs, node)?;
     shown(alloc, &tally.into_buckets()?)
+}
+
+fn check(rt: &impl Abort, alloc: Global, segment: &Segment, row: &Row) -> Result<(), Fail>
+    requires texts { length segment.now.texts ≡ 3 }
+    requires limits { IsWithinLimits (segment.now.blocks ∷ []) }
+{
+    let node = facet_of(alloc, row.field, row.prefix, row.missing)?;
+    let found = found(rt, alloc, segment, row.docs, &node)?;
+    assert!(rt; found.as_str() == row.wanted);
+    Ok(())
 }
 
 #[test]
 fn buckets_of_terms(rt: HostRuntime) -> Result<(), Fail> {
-    let alloc = rt.alloc();
-    let kind: Box<dyn FacetKind> = Box::new(alloc, TermsKind)?;
-    let schema = Schema::read(alloc, &Value::from_str(alloc, FIELDS)?)?;
-    assert_eq!(rt; schema.fields(), 3);
-    let segment = segment_of(&rt, alloc, &schema, BLOCK)?;
+    let segment = segment_from(&rt, rt.alloc(), FIELDS, 3, BLOCK)?;
     for row in &ROWS {
-        assert!(rt; kind.kind() == KindName::Terms);
-        let found = collected(&rt, alloc, &kind, &segment, row)?;
-        assert_eq!(rt; found.as_str(), row.wanted);
+        check(&rt, rt.alloc(), &segment, row)?;
     }
     Ok(())
 }
@@ -286,40 +205,41 @@ pub(super) fn is_key(terms: &Terms, key: &Key) -> bool
     }
 }
 
-fn selected(
+fn check_key(
     rt: &impl Abort,
     alloc: Global,
-    kind: &Box<dyn FacetKind>,
+    segment: &Segment,
+    node: &Node,
+    key: &Key,
+    wanted: &[u32],
+) -> Result<(), Fail>
+    requires { length segment.now.texts ≡ 3 }
+{
+    let found = selected(rt, alloc, segment, 3, &[0, 1, 2, 3, 4], node, key)?;
+    assert!(rt; found.as_slice() == wanted);
+    Ok(())
+}
+
+fn check_selected(
+    rt: &impl Abort,
+    alloc: Global,
     segment: &Segment,
     field: u16,
     bucket: Bucket,
-) -> Result<DocSet, Fail>
-    requires name { name kind.now ≡ names.Terms }
-    requires texts { length segment.now.texts ≡ 3 }
+    wanted: &[u32],
+) -> Result<(), Fail>
+    requires { length segment.now.texts ≡ 3 }
 {
-    let terms = terms_of(rt, alloc, segment, field, None, true)?;
+    let node = facet_of(alloc, field, None, true)?;
     let key = key_of(alloc, bucket)?;
-    assert!(rt; terms.prefix.is_none());
-    assert!(rt; is_key(&terms, &key));
-    let node = node_of(alloc, terms)?;
-    let docs = DocSet::full(alloc, segment.doc_count())?;
-    let mut into = DocSet::full(alloc, segment.doc_count())?;
-    kind.select(alloc, segment, &docs, &node, &key, &mut into)?;
-    Ok(into)
+    check_key(rt, alloc, segment, &node, &key, wanted)
 }
 
 #[test]
 fn selection_of_buckets(rt: HostRuntime) -> Result<(), Fail> {
-    let alloc = rt.alloc();
-    let kind: Box<dyn FacetKind> = Box::new(alloc, TermsKind)?;
-    let schema = Schema::read(alloc, &Value::from_str(alloc, FIELDS)?)?;
-    assert_eq!(rt; schema.fields(), 3);
-    let segment = segment_of(&rt, alloc, &schema, BLOCK)?;
+    let segment = segment_from(&rt, rt.alloc(), FIELDS, 3, BLOCK)?;
     for (field, bucket, wanted) in SELECTED {
-        assert!(rt; kind.kind() == KindName::Terms);
-        let found = selected(&rt, alloc, &kind, &segment, field, bucket)?;
-        let positions: Vec<u32> = found.iter().collect(alloc)?;
-        assert_eq!(rt; positions.as_slice(), wanted);
+        check_selected(&rt, rt.alloc(), &segment, field, bucket, wanted)?;
     }
     Ok(())
 }

@@ -1,12 +1,14 @@
 // Facets with statistics, of the same documents beside few values and beside many, which are counted in other ways.
+ghost use Rattle.std.specs.Prelude.{◌≡◌, [], ◌∷◌, length};
+ghost use Rattle.fc_spec.specs.scripts.WorldLimits.{IsWithinLimits};
+
 use super::asking::{collected, node_of, segment_from, terms_of};
-use super::terms::{CAT, N};
+use super::terms::{CAT, FIELDS, N};
 use fc_base::{FieldId, Stat, StatKind, Val};
 use fc_facet::{Kind, Range};
-use fc_kind::FacetKind;
 use fc_partial::{Key, PartialBucket, StatValue};
-use fc_range::RangeKind;
-use fc_terms::TermsKind;
+use fc_request::Node;
+use fc_segment::Segment;
 use std::alloc::Global;
 use std::fmt::Write;
 use std::process::Abort;
@@ -250,7 +252,7 @@ fn kind_of(alloc: Global, facet: Facet) -> Result<Kind, Fail> {
     })
 }
 
-fn write_key(text: &mut String, key: &Key) -> Result<(), Fail> {
+pub(super) fn write_key(text: &mut String, key: &Key) -> Result<(), Fail> {
     match key {
         Key::Value(Val::Text(name)) => write!(text, "{}", name.text())?,
         Key::Value(Val::Long(number)) => write!(text, "{number}")?,
@@ -286,31 +288,34 @@ pub(super) fn shown(alloc: Global, buckets: &[PartialBucket]) -> Result<String, 
     Ok(text)
 }
 
-// Whether what is collected beside a parent with these members is what the row says.
-fn check(
+// What a facet has of the documents at these positions.
+fn found(
     rt: &impl Abort,
     alloc: Global,
-    kind: &Box<dyn FacetKind>,
-    row: &Row,
-    members: &str,
-) -> Result<(), Fail> {
-    let segment = segment_from(rt, alloc, &block_of(alloc, row.children, members)?)?;
+    segment: &Segment,
+    docs: &[u32],
+    node: &Node,
+) -> Result<String, Fail>
+    requires texts { length segment.now.texts ≡ 3 }
+    requires limits { IsWithinLimits (segment.now.blocks ∷ []) }
+{
+    let tally = collected(rt, alloc, segment, 3, docs, node)?;
+    shown(alloc, &tally.into_buckets()?)
+}
+
+// Whether what is collected beside a parent with these members is what the row says.
+fn check(rt: &impl Abort, alloc: Global, row: &Row, members: &str) -> Result<(), Fail> {
+    let block = block_of(alloc, row.children, members)?;
+    let segment = segment_from(rt, alloc, FIELDS, 3, &block)?;
     let node = node_of(alloc, kind_of(alloc, row.facet)?, &STATS)?;
-    let tally = collected(rt, alloc, kind, &segment, row.docs, &node)?;
-    let found = shown(alloc, &tally.into_buckets()?)?;
-    assert_eq!(rt; found.as_str(), row.wanted);
+    let found = found(rt, alloc, &segment, row.docs, &node)?;
+    assert!(rt; found.as_str() == row.wanted);
     Ok(())
 }
 
-fn check_all(
-    rt: &impl Abort,
-    alloc: Global,
-    kind: &Box<dyn FacetKind>,
-    rows: &[Row],
-    members: &str,
-) -> Result<(), Fail> {
+fn check_all(rt: &impl Abort, alloc: Global, rows: &[Row], members: &str) -> Result<(), Fail> {
     for row in rows {
-        check(rt, alloc, kind, row, members)?;
+        check(rt, alloc, row, members)?;
     }
     Ok(())
 }
@@ -318,11 +323,10 @@ fn check_all(
 // One document is counted side by side with 68 texts, and in runs with 69.
 #[test]
 fn terms_beside_few_and_many(rt: HostRuntime) -> Result<(), Fail> {
-    let alloc = rt.alloc();
-    let kind: Box<dyn FacetKind> = Box::new(alloc, TermsKind)?;
-    check_all(&rt, alloc, &kind, &BOTH, "")?;
+    let rows: &[Row] = &BOTH;
+    check_all(&rt, rt.alloc(), rows, "")?;
     for count in [63, 64, 100] {
-        check_all(&rt, alloc, &kind, &BOTH, &many_values(alloc, count)?)?;
+        check_all(&rt, rt.alloc(), rows, &many_values(rt.alloc(), count)?)?;
     }
     Ok(())
 }
@@ -330,14 +334,10 @@ fn terms_beside_few_and_many(rt: HostRuntime) -> Result<(), Fail> {
 // Two documents are counted side by side with integers 72 apart, and in runs with integers 73 apart.
 #[test]
 fn integers_near_and_apart(rt: HostRuntime) -> Result<(), Fail> {
-    let alloc = rt.alloc();
-    let kind: Box<dyn FacetKind> = Box::new(alloc, TermsKind)?;
-    check_all(&rt, alloc, &kind, &APART, "")
+    check_all(&rt, rt.alloc(), &APART, "")
 }
 
 #[test]
 fn statistics_of_gaps(rt: HostRuntime) -> Result<(), Fail> {
-    let alloc = rt.alloc();
-    let kind: Box<dyn FacetKind> = Box::new(alloc, RangeKind)?;
-    check_all(&rt, alloc, &kind, &IN_GAPS, "")
+    check_all(&rt, rt.alloc(), &IN_GAPS, "")
 }

@@ -1,24 +1,22 @@
 // Query facets, behind a box, and statistics of sets.
-ghost use Rattle.std.specs.Prelude.{◌≡◌, ◌<◌, [], ◌∷◌, length, IfOk};
+ghost use Rattle.std.specs.Prelude.{◌≡◌, [], ◌∷◌, length, IfOk};
 ghost use Rattle.fc_spec.specs.documents.Schema.{texts_held};
 ghost use Rattle.fc_spec.specs.scripts.WorldLimits.{IsWithinLimits};
 ghost use Rattle.fc_query.specs.QueryView.{query_view};
+ghost use Rattle.fc_request.specs.FacetNode.{kind_of, kind_view};
 ghost use Rattle.fc_domain.specs.FieldsFit.{FitsFields};
+ghost use Rattle.fc_kind.specs.Columns.{FitsColumns};
 
-use super::asking::{collected_by, node_of, selected_by};
+use super::asking::{collected_by, node_of, schema_of, segment_of, selected_by};
 use super::ways::shown;
 use fc_base::{FieldId, Schema, Stat, StatKind};
-use fc_docs::{Batch, read_block};
 use fc_docset::DocSet;
 use fc_facet::Kind;
-use fc_kind::{FacetKind, KindName, covers, set_stats, the_kind};
+use fc_kind::set_stats;
 use fc_partial::{Key, StatValue};
-use fc_places::is_within_limits;
 use fc_query::{Query, parse};
-use fc_range::{QueryKind, RangeKind};
+use fc_request::Node;
 use fc_segment::Segment;
-use fc_terms::TermsKind;
-use serde_json::Value;
 use std::alloc::Global;
 use std::process::Abort;
 use std::test::Fail;
@@ -48,47 +46,21 @@ const STATS: [Stat; 4] = [
     },
 ];
 
-// The segment of one block with fewer children than 2,000.
-pub(super) fn segment_of(
-    rt: &impl Abort,
-    alloc: Global,
-    schema: &Schema,
-    text: &str,
-) -> Result<Segment, Fail>
-    ensures texts { IfOk result (λ segment. segment.texts ≡ texts_held schema.now.fields) }
-    ensures limits { IfOk result (λ segment. IsWithinLimits (segment.blocks ∷ [])) }
-{
-    let block = read_block(alloc, schema, &Value::from_str(alloc, text)?)?;
-    assert!(rt; block.children.len() < 2_000);
-    let batches = vec![in alloc;
-        Batch {
-            blocks: vec![in alloc; block]?
-        },
-    ]?;
-    assert_eq!(rt; batches.len(), 1);
-    assert!(rt; is_within_limits(alloc, &[&batches])?);
-    Ok(Segment::build(alloc, schema, &batches[0])?)
-}
-
 #[test]
 fn statistics_of_sets(rt: HostRuntime) -> Result<(), Fail> {
     let alloc = rt.alloc();
-    let schema = Schema::read(alloc, &Value::from_str(alloc, FIELDS)?)?;
-    assert_eq!(rt; schema.fields(), 3);
+    let schema = schema_of(&rt, alloc, FIELDS, 3)?;
     let segment = segment_of(&rt, alloc, &schema, BLOCK)?;
     let all = DocSet::full(alloc, segment.doc_count())?;
     let stats = set_stats(alloc, &segment, &STATS, &all)?;
-    assert_eq!(rt; stats.count, 2);
-    assert_eq!(rt;
-        stats.values.as_slice(),
-        [
-            StatValue::Number(2),
-            StatValue::Extreme(Some(-5)),
-            StatValue::Number(2),
-            StatValue::Number(1),
-        ]
-        .as_slice()
-    );
+    assert!(rt; stats.count == 2);
+    let wanted = [
+        StatValue::Number(2),
+        StatValue::Extreme(Some(-5)),
+        StatValue::Number(2),
+        StatValue::Number(1),
+    ];
+    assert!(rt; stats.values.as_slice() == wanted.as_slice());
     Ok(())
 }
 
@@ -172,10 +144,28 @@ fn query_of(alloc: Global, schema: &Schema, text: &str) -> Result<Query, Fail>
 }
 
 // Whether what is collected and what is selected are what the row says.
+fn check_node(
+    rt: &impl Abort,
+    alloc: Global,
+    segment: &Segment,
+    row: &Row,
+    node: &Node,
+) -> Result<(), Fail>
+    requires texts { length segment.now.texts ≡ 3 }
+    requires fits { FitsColumns segment.now.texts (kind_view (kind_of node.now)) }
+    requires limits { IsWithinLimits (segment.now.blocks ∷ []) }
+{
+    let tally = collected_by(rt, alloc, segment, 3, row.docs, node)?;
+    let found = shown(alloc, &tally.into_buckets()?)?;
+    assert!(rt; found.as_str() == row.wanted, "{}", row.query);
+    let whole = selected_by(rt, alloc, segment, row.docs, node, &Key::Whole)?;
+    assert!(rt; whole.as_slice() == row.whole, "{}", row.query);
+    Ok(())
+}
+
 fn check(
     rt: &impl Abort,
     alloc: Global,
-    kind: &Box<dyn FacetKind>,
     schema: &Schema,
     segment: &Segment,
     row: &Row,
@@ -186,28 +176,16 @@ fn check(
 {
     let query = query_of(alloc, schema, row.query)?;
     let node = node_of(alloc, Kind::Query(query), &STATS)?;
-    let tally = collected_by(rt, alloc, kind, segment, row.docs, &node)?;
-    let found = shown(alloc, &tally.into_buckets()?)?;
-    assert_eq!(rt; found.as_str(), row.wanted, "{}", row.query);
-    let whole = selected_by(rt, alloc, kind, segment, row.docs, &node, &Key::Whole)?;
-    assert_eq!(rt; whole.as_slice(), row.whole, "{}", row.query);
-    Ok(())
+    check_node(rt, alloc, segment, row, &node)
 }
 
 #[test]
 fn buckets_of_queries(rt: HostRuntime) -> Result<(), Fail> {
     let alloc = rt.alloc();
-    let mut kinds: Vec<Box<dyn FacetKind>> = Vec::new(alloc);
-    kinds.push(Box::new(alloc, TermsKind)?)?;
-    kinds.push(Box::new(alloc, QueryKind)?)?;
-    kinds.push(Box::new(alloc, RangeKind)?)?;
-    assert!(rt; covers(&kinds));
-    let schema = Schema::read(alloc, &Value::from_str(alloc, FIELDS)?)?;
-    assert_eq!(rt; schema.fields(), 3);
+    let schema = schema_of(&rt, alloc, FIELDS, 3)?;
     let segment = segment_of(&rt, alloc, &schema, FOUR)?;
-    let kind = the_kind(&kinds, KindName::Query);
     for row in &ROWS {
-        check(&rt, alloc, kind, &schema, &segment, row)?;
+        check(&rt, alloc, &schema, &segment, row)?;
     }
     Ok(())
 }

@@ -4,14 +4,12 @@ ghost use Rattle.fc_spec.specs.scripts.WorldLimits.{IsWithinLimits};
 
 use super::asking::{collected, node_of, segment_from, selected, terms_of};
 use super::ranges::{check_bucket, count_of};
-use super::terms::{CAT, N};
+use super::terms::{CAT, FIELDS, N};
 use fc_base::{FieldId, Name, Val};
 use fc_facet::{Kind, Range};
-use fc_kind::FacetKind;
 use fc_partial::{Key, Tally};
-use fc_range::RangeKind;
+use fc_request::Node;
 use fc_segment::Segment;
-use fc_terms::TermsKind;
 use std::alloc::Global;
 use std::fmt::Write;
 use std::process::Abort;
@@ -150,48 +148,79 @@ fn below(alloc: Global, positions: &[u32], documents: u32) -> Result<Vec<u32>, F
     Ok(docs)
 }
 
+// Whether a bucket has these positions, and is counted so.
+fn check_key(
+    rt: &impl Abort,
+    alloc: Global,
+    segment: &Segment,
+    docs: &[u32],
+    node: &Node,
+    key: &Key,
+    wanted: &[u32],
+    count: Option<u64>,
+) -> Result<(), Fail>
+    requires { length segment.now.texts ≡ 3 }
+{
+    let found = selected(rt, alloc, segment, 3, docs, node, key)?;
+    check_bucket(rt, &found, wanted, count)
+}
+
 // Looks at a bucket of what was collected, and at which documents are selected. Gives whether it has a document.
 fn check_one(
     rt: &impl Abort,
     alloc: Global,
-    kind: &Box<dyn FacetKind>,
     segment: &Segment,
     facet: Facet,
     docs: &[u32],
     bucket: u32,
+    node: &Node,
     tally: &Tally,
 ) -> Result<bool, Fail>
     requires { length segment.now.texts ≡ 3 }
 {
-    let node = node_of(alloc, kind_of(alloc, facet)?, &[])?;
     let key = key_of(alloc, facet, bucket)?;
-    let found = selected(rt, alloc, kind, segment, docs, &node, &key)?;
     let wanted = plainly(alloc, facet, docs, bucket)?;
-    check_bucket(rt, &found, &wanted, count_of(tally, &key))?;
+    let count = count_of(tally, &key);
+    check_key(rt, alloc, segment, docs, node, &key, &wanted, count)?;
     Ok(!wanted.is_empty())
+}
+
+// The same of each bucket. Gives how many have a document.
+fn check_buckets(
+    rt: &impl Abort,
+    alloc: Global,
+    segment: &Segment,
+    facet: Facet,
+    docs: &[u32],
+    node: &Node,
+    tally: &Tally,
+) -> Result<usize, Fail>
+    requires { length segment.now.texts ≡ 3 }
+{
+    let mut buckets: usize = 0;
+    for bucket in 0..bucket_count(facet, segment.doc_count()) {
+        if check_one(rt, alloc, segment, facet, docs, bucket, node, tally)? {
+            buckets = buckets.saturating_add(1);
+        }
+    }
+    Ok(buckets)
 }
 
 // Whether a domain is counted, and its documents are selected, as they are one after another.
 fn check(
     rt: &impl Abort,
     alloc: Global,
-    kind: &Box<dyn FacetKind>,
     segment: &Segment,
     facet: Facet,
     docs: &[u32],
+    node: &Node,
 ) -> Result<(), Fail>
     requires texts { length segment.now.texts ≡ 3 }
     requires limits { IsWithinLimits (segment.now.blocks ∷ []) }
 {
-    let node = node_of(alloc, kind_of(alloc, facet)?, &[])?;
-    let tally = collected(rt, alloc, kind, segment, docs, &node)?;
-    let mut buckets: usize = 0;
-    for bucket in 0..bucket_count(facet, segment.doc_count()) {
-        if check_one(rt, alloc, kind, segment, facet, docs, bucket, &tally)? {
-            buckets = buckets.saturating_add(1);
-        }
-    }
-    assert_eq!(rt; tally.into_buckets()?.len(), buckets);
+    let tally = collected(rt, alloc, segment, 3, docs, node)?;
+    let buckets = check_buckets(rt, alloc, segment, facet, docs, node, &tally)?;
+    assert!(rt; tally.into_buckets()?.len() == buckets);
     Ok(())
 }
 
@@ -199,41 +228,52 @@ fn check(
 fn check_sets(
     rt: &impl Abort,
     alloc: Global,
-    kind: &Box<dyn FacetKind>,
     segment: &Segment,
     facet: Facet,
+    node: &Node,
 ) -> Result<(), Fail>
     requires texts { length segment.now.texts ≡ 3 }
     requires limits { IsWithinLimits (segment.now.blocks ∷ []) }
 {
     let all = all_below(alloc, segment.doc_count())?;
-    check(rt, alloc, kind, segment, facet, &all)?;
+    check(rt, alloc, segment, facet, &all, node)?;
     for positions in SETS {
         let docs = below(alloc, positions, segment.doc_count())?;
-        check(rt, alloc, kind, segment, facet, &docs)?;
+        check(rt, alloc, segment, facet, &docs, node)?;
+    }
+    Ok(())
+}
+
+fn check_facet(rt: &impl Abort, alloc: Global, segment: &Segment, facet: Facet) -> Result<(), Fail>
+    requires texts { length segment.now.texts ≡ 3 }
+    requires limits { IsWithinLimits (segment.now.blocks ∷ []) }
+{
+    let node = node_of(alloc, kind_of(alloc, facet)?, &[])?;
+    check_sets(rt, alloc, segment, facet, &node)
+}
+
+// The same of these facets of the segment whose last document stands at a position.
+fn check_all(rt: &impl Abort, alloc: Global, last: u32, facets: &[Facet]) -> Result<(), Fail> {
+    let block = block_of(alloc, last)?;
+    let segment = segment_from(rt, alloc, FIELDS, 3, &block)?;
+    for facet in facets {
+        check_facet(rt, alloc, &segment, *facet)?;
     }
     Ok(())
 }
 
 #[test]
 fn terms_about_words(rt: HostRuntime) -> Result<(), Fail> {
-    let alloc = rt.alloc();
-    let kind: Box<dyn FacetKind> = Box::new(alloc, TermsKind)?;
     for last in LAST {
-        let segment = segment_from(&rt, alloc, &block_of(alloc, last)?)?;
-        check_sets(&rt, alloc, &kind, &segment, Facet::Texts)?;
-        check_sets(&rt, alloc, &kind, &segment, Facet::Longs)?;
+        check_all(&rt, rt.alloc(), last, &[Facet::Texts, Facet::Longs])?;
     }
     Ok(())
 }
 
 #[test]
 fn gaps_about_words(rt: HostRuntime) -> Result<(), Fail> {
-    let alloc = rt.alloc();
-    let kind: Box<dyn FacetKind> = Box::new(alloc, RangeKind)?;
     for last in LAST {
-        let segment = segment_from(&rt, alloc, &block_of(alloc, last)?)?;
-        check_sets(&rt, alloc, &kind, &segment, Facet::Gaps)?;
+        check_all(&rt, rt.alloc(), last, &[Facet::Gaps])?;
     }
     Ok(())
 }

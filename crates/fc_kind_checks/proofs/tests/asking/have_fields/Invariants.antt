@@ -4,7 +4,7 @@ use Rattle.fc_kind.specs.Columns.{HaveFields}
 use Rattle.fc_kind_checks.proofs.tests.asking.have_fields.Given as goal
 
 abbrev pub invariant-loop-stat : goal.invariant-loop-stat
-invariant-loop-stat l = (texts : List Bool) → 3 ≤ length texts → HaveFields texts (map stat_view l.rest) → HaveFields texts (map stat_view l.stats)
+invariant-loop-stat l = (texts : List Bool) → l.fields ≤ length texts → HaveFields texts (map stat_view l.rest) → HaveFields texts (map stat_view l.stats)
 
 abbrev pub decreases-loop-stat : goal.decreases-loop-stat
 decreases-loop-stat l = length l.rest
