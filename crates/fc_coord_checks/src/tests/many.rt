@@ -1,10 +1,8 @@
 // 64 shards of which one has everything.
 use super::messages::{Asked, Inner, Tag, Top};
-use super::searches::{Sent, request_of, tell};
-use fc_base::Name;
+use super::searches::{Sent, line_of, request_of, tell};
 use fc_coord::Coord;
 use fc_refine::Taken;
-use fc_reply::reply_line;
 use std::alloc::Global;
 use std::process::Abort;
 use std::test::Fail;
@@ -44,6 +42,9 @@ const NONE: &[Top] = &[Top {
     nodes: &[],
 }];
 
+const LINE: &str =
+    "{\"facets\":{\"c\":{\"buckets\":[{\"count\":3,\"val\":\"a\"}]},\"count\":3},\"generations\":[1],\"session\":\"a\"}\n";
+
 // The shard that has everything.
 const OWNER: u32 = 37;
 
@@ -55,20 +56,19 @@ fn first_round(rt: &impl Abort, alloc: Global, coord: &mut Coord) -> Result<(), 
             asked: &[],
             tops,
         };
-        assert_eq!(rt; tell(rt, alloc, coord, &sent, "first")?, Taken::More);
+        assert!(rt; tell(rt, alloc, coord, &sent, "first")? == Taken::More);
     }
     Ok(())
 }
 
 // Every other shard is asked, the last first.
 fn second_round(rt: &impl Abort, alloc: Global, coord: &mut Coord) -> Result<(), Fail> {
-    assert_eq!(rt; coord.round(), 2);
-    assert!(rt; !coord.awaits(OWNER));
+    assert!(rt; coord.round() == 2 && !coord.awaits(OWNER));
     let mut taken = Taken::More;
     for back in 0..64_u32 {
         let shard = 63 - back;
         if shard != OWNER {
-            assert_eq!(rt; taken, Taken::More);
+            assert!(rt; taken == Taken::More);
             let sent = Sent {
                 shard,
                 asked: WANTED,
@@ -77,7 +77,7 @@ fn second_round(rt: &impl Abort, alloc: Global, coord: &mut Coord) -> Result<(),
             taken = tell(rt, alloc, coord, &sent, "second")?;
         }
     }
-    assert_eq!(rt; taken, Taken::Ready);
+    assert!(rt; taken == Taken::Ready);
     Ok(())
 }
 
@@ -88,13 +88,7 @@ fn one_has_everything(rt: HostRuntime) -> Result<(), Fail> {
     let mut coord = Coord::begin(alloc, &request, 64)?;
     first_round(&rt, alloc, &mut coord)?;
     second_round(&rt, alloc, &mut coord)?;
-    assert!(rt; coord.ready());
-    let session = Name::new(alloc, "a")?;
-    let line = reply_line(alloc, &coord.into_reply()?, &[1], &session)?;
-    let line = String::from_utf8_lossy(alloc, &line)?;
-    assert_eq!(rt;
-        line.as_str(),
-        "{\"facets\":{\"c\":{\"buckets\":[{\"count\":3,\"val\":\"a\"}]},\"count\":3},\"generations\":[1],\"session\":\"a\"}\n"
-    );
+    let line = line_of(&rt, alloc, coord, "one has everything")?;
+    assert!(rt; line.as_str() == LINE);
     Ok(())
 }

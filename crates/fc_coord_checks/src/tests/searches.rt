@@ -61,7 +61,7 @@ pub(super) fn request_of(alloc: Global, text: &str) -> Result<Request, Fail>
 fn check_awaited(rt: &impl Abort, coord: &Coord, shards: u32, sent: &[Sent], name: &str) {
     for shard in 0..shards {
         let awaited = sent.iter().any(|one| one.shard == shard);
-        assert_eq!(rt; coord.awaits(shard), awaited, "{name}: shard {shard}");
+        assert!(rt; coord.awaits(shard) == awaited, "{name}: shard {shard}");
     }
 }
 
@@ -73,20 +73,16 @@ pub(super) fn tell(
     one: &Sent,
     name: &str,
 ) -> Result<Taken, Fail> {
-    assert!(rt; coord.awaits(one.shard), "{name}: shard {}", one.shard);
+    let shard = one.shard;
+    assert!(rt; coord.awaits(shard), "{name}: shard {shard}");
     assert!(rt;
-        same_ask(alloc, coord.ask(one.shard), one.asked)?,
-        "{name}: {:?}",
-        coord.ask(one.shard)
+        same_ask(alloc, coord.ask(shard), one.asked)?,
+        "{name}: shard {shard}"
     );
     let message = message(alloc, one.tops)?;
-    assert!(rt;
-        coord.fits(one.shard, &message),
-        "{name}: shard {}",
-        one.shard
-    );
+    assert!(rt; coord.fits(shard, &message), "{name}: shard {shard}");
     assert!(rt; !coord.spent());
-    Ok(coord.take(one.shard, message)?)
+    Ok(coord.take(shard, message)?)
 }
 
 // The messages of a round, from one of them on and round about.
@@ -100,19 +96,39 @@ fn run_round(
 ) -> Result<Taken, Fail> {
     let mut taken = Taken::More;
     for step in 0..sent.len() {
-        assert_eq!(rt; taken, Taken::More, "{name}");
+        assert!(rt; taken == Taken::More, "{name}");
         let at = (step + turn % sent.len()) % sent.len();
         taken = tell(rt, alloc, coord, &sent[at], name)?;
     }
     Ok(taken)
 }
 
-fn line_of(rt: &impl Abort, alloc: Global, coord: Coord, name: &str) -> Result<String, Fail> {
+pub(super) fn line_of(
+    rt: &impl Abort,
+    alloc: Global,
+    coord: Coord,
+    name: &str,
+) -> Result<String, Fail> {
     assert!(rt; coord.ready(), "{name}");
     let reply = coord.into_reply()?;
     let session = Name::new(alloc, "a")?;
     let line = reply_line(alloc, &reply, &[1], &session)?;
     Ok(String::from_utf8_lossy(alloc, &line)?)
+}
+
+// That of a search.
+fn wanted_line(alloc: Global, facets: &str) -> Result<String, Fail> {
+    Ok(format!(in alloc; "{{\"facets\":{facets},\"generations\":[1],\"session\":\"a\"}}\n")?)
+}
+
+// Whether this round stands open, and awaits exactly the shards of these messages.
+fn check_round(rt: &impl Abort, coord: &Coord, search: &Search, round: u32, sent: &[Sent]) {
+    assert!(rt;
+        !coord.ready() && coord.round() == round,
+        "{}: {round}",
+        search.name
+    );
+    check_awaited(rt, coord, search.shards, sent, search.name);
 }
 
 // The search with its rounds turned by so much: whom it asks for what, and its line.
@@ -123,16 +139,11 @@ fn run_turned(rt: &impl Abort, alloc: Global, search: &Search, turn: usize) -> R
     let mut round = 0_u32;
     for sent in search.rounds {
         round = round.saturating_add(1);
-        assert!(rt; !coord.ready(), "{}", search.name);
-        assert_eq!(rt; coord.round(), round, "{}", search.name);
-        check_awaited(rt, &coord, search.shards, sent, search.name);
+        check_round(rt, &coord, search, round, sent);
         let _taken = run_round(rt, alloc, &mut coord, sent, turn, search.name)?;
     }
     let line = line_of(rt, alloc, coord, search.name)?;
-    let wanted = format!(in alloc;
-        "{{\"facets\":{},\"generations\":[1],\"session\":\"a\"}}\n",
-        search.facets
-    )?;
+    let wanted = wanted_line(alloc, search.facets)?;
     assert!(rt; line.as_str() == wanted.as_str(), "{}: {line}", search.name);
     Ok(())
 }

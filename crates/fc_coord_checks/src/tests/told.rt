@@ -15,6 +15,7 @@ use fc_refine::{Ask, Want};
 use fc_request::{BlockStep, Domain, Kind, Node, Sort, SortKey, Terms};
 use fc_told::ToldBucket;
 use std::alloc::Global;
+use std::process::Abort;
 use std::test::Fail;
 
 // A value, its count and its sum.
@@ -161,33 +162,63 @@ fn all_told(alloc: Global) -> Result<ToldBucket, Fail> {
     Ok(told)
 }
 
-#[test]
-fn lists(rt: HostRuntime) -> Result<(), Fail> {
-    let alloc = rt.alloc();
-    let told = all_told(alloc)?;
-    for (shard, texts) in &LISTED {
-        let lists = told.listed(alloc, 0, &[*shard])?;
-        assert_eq!(rt; lists.len(), 1);
-        assert_eq!(rt; lists[0].len(), texts.len());
-        for (val, text) in lists[0].iter().zip(*texts) {
-            assert_eq!(rt; **val, Val::Text(Name::new(alloc, text)?));
-        }
+fn is_text(alloc: Global, val: &Val, text: &str) -> Result<bool, Fail> {
+    Ok(*val == Val::Text(Name::new(alloc, text)?))
+}
+
+// What one shard listed.
+fn check_listed(
+    rt: &impl Abort,
+    alloc: Global,
+    told: &ToldBucket,
+    shard: u32,
+    texts: &[&str],
+) -> Result<(), Fail> {
+    let lists = told.listed(alloc, 0, &[shard])?;
+    assert!(rt; lists.len() == 1);
+    assert!(rt; lists[0].len() == texts.len());
+    for (val, text) in lists[0].iter().zip(texts) {
+        assert!(rt; is_text(alloc, val, text)?);
     }
     Ok(())
 }
+
+#[test]
+fn lists(rt: HostRuntime) -> Result<(), Fail> {
+    let told = all_told(rt.alloc())?;
+    for (shard, texts) in &LISTED {
+        check_listed(&rt, rt.alloc(), &told, *shard, texts)?;
+    }
+    Ok(())
+}
+
+// Roots of one value, and whether they fit beside what was told first.
+const ROOTS: [(u64, Row, bool); 4] = [
+    (u64::MAX - 9, ("b", 1, 0), true),
+    (u64::MAX - 8, ("b", 1, 0), false),
+    (1, ("a", 1, i64::MAX - 7), true),
+    (1, ("a", 1, i64::MAX - 6), false),
+];
+
+// The same of answers to what asks for a value.
+const ANSWERS: [(Row, bool); 2] = [
+    (("b", 1, i64::MAX - 3), true),
+    (("b", 1, i64::MAX - 2), false),
+];
 
 #[test]
 fn sums(rt: HostRuntime) -> Result<(), Fail> {
     let alloc = rt.alloc();
     let told = told(alloc)?;
     let (nodes, more) = asking(alloc, "b")?;
-    let first = Ask::First;
-    assert!(rt; told.fits(&nodes, &first, &root(alloc, u64::MAX - 9, &[("b", 1, 0)])?));
-    assert!(rt; !told.fits(&nodes, &first, &root(alloc, u64::MAX - 8, &[("b", 1, 0)])?));
-    assert!(rt; told.fits(&nodes, &first, &root(alloc, 1, &[("a", 1, i64::MAX - 7)])?));
-    assert!(rt; !told.fits(&nodes, &first, &root(alloc, 1, &[("a", 1, i64::MAX - 6)])?));
-    assert!(rt; told.fits(&nodes, &more, &one(alloc, ("b", 1, i64::MAX - 3))?));
-    assert!(rt; !told.fits(&nodes, &more, &one(alloc, ("b", 1, i64::MAX - 2))?));
+    for (count, row, fits) in ROOTS {
+        let message = root(alloc, count, &[row])?;
+        assert!(rt; told.fits(&nodes, &Ask::First, &message) == fits);
+    }
+    for (row, fits) in ANSWERS {
+        let message = one(alloc, row)?;
+        assert!(rt; told.fits(&nodes, &more, &message) == fits);
+    }
     Ok(())
 }
 
@@ -199,11 +230,8 @@ fn statistics(rt: HostRuntime) -> Result<(), Fail> {
     let bucket = told.child(0, &key).ok_or("there")?;
     for (shard, count, sum) in &[(0, 3, 7), (1, 1, -9)] {
         let stats = bucket.told_by(*shard).ok_or("told")?;
-        assert_eq!(rt; stats.count, *count);
-        assert_eq!(rt;
-            stats.values.as_slice(),
-            [StatValue::Number(*sum)].as_slice()
-        );
+        let values = [StatValue::Number(*sum)];
+        assert!(rt; stats.count == *count && stats.values.as_slice() == values.as_slice());
     }
     assert!(rt; bucket.told_by(2).is_none());
     assert!(rt; told.child(1, &key).is_none());
