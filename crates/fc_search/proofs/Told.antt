@@ -1,0 +1,216 @@
+-- A message that is told: it fits, and what follows.
+use Rattle.std.proofs.Common.{◌≡◌, ℕ, ◌<◌, List, [], ◌∷◌, ◌++◌, append-nil, length, true, false, cond, None, Some, is_some, IsTrue, refl, sym, ◌∙◌, ap, subst, arith}
+use Rattle.std.specs.Prelude.{slice_set}
+use Rattle.std.specs.List.{AllByRecursion, list_any}
+use Rattle.std.proofs.lemmas.Bool.{false≢true}
+use Rattle.fc_spec.specs.words.Lists.{numbers_below}
+use Rattle.fc_spec.specs.documents.World.{World}
+use Rattle.fc_spec.specs.requests.Request.{Nodes, Request}
+use Rattle.fc_spec.specs.messages.Message.{Partials, Ask, first, more}
+use Rattle.fc_spec.specs.messages.MessageShape.{is_shaped}
+use Rattle.fc_spec.specs.messages.Held.{Told, told_by}
+use Rattle.fc_spec.specs.messages.Lacks.{Lack}
+use Rattle.fc_spec.specs.messages.Rounds.{SentMessage, told_in, wants_of}
+use Rattle.fc_spec.specs.laws.LacksLaws.{AreOfOthers, TellOnce}
+use Rattle.fc_spec.specs.laws.Merging.{IsAnswer}
+use Rattle.fc_spec.specs.laws.SumsLaw.{SumsFit}
+use Rattle.fc_spec.specs.scripts.WorldLimits.{IsWithinLimits}
+use Rattle.fc_spec.proofs.messages.HeldFurther.{all_append}
+use Rattle.fc_spec.proofs.messages.RoundComplete.{told_in-append}
+use Rattle.fc_coord.specs.State.{State, ask_at, ask_for, begun, goes_on, heard, is_awaited, is_fitting, is_shaped_for, lacks_next, taken, told_for, told_of}
+use Rattle.fc_coord.specs.Keeps.{Begins, Keeps, Round, ask_in, lacking_at, roots}
+use Rattle.fc_coord.proofs.AskLists.{not_ready}
+use Rattle.fc_coord.proofs.Beginning.{length-asks_for}
+use Rattle.fc_coord.proofs.Hearing.{asks_name_keys, fits_is_exact, heard_keeps, length-heard}
+use Rattle.fc_coord.proofs.Kept.{waits}
+use Rattle.fc_told.specs.Named as named
+use Rattle.fc_phase.specs.Asked.{NamesKeys, asked_count}
+use Rattle.fc_search.specs.Hearing.{IsHearing, ShardAnswer, WasTold, answers_from, awaited_answers, rounds_left}
+use Rattle.fc_search.specs.SearchLaws.{AreTellingLaws}
+use Rattle.fc_search.proofs.AskedAgain.{kept_asked, made_asked, round_asks, some_wanted}
+use Rattle.fc_search.proofs.Awaited.{IsFirst, first_awaited, none_awaited, some_awaited}
+use Rattle.fc_search.proofs.Begun.{fewer_begun}
+
+-- in a round that began with so many left: the answers that are still to be told are those that are awaited; behind the last one fewer rounds are left
+abbrev pub IsInRound : Request → World → ℕ → State → List ShardAnswer → Type 0
+IsInRound r W left s [] = rounds_left s < left
+IsInRound r W left s (a ∷ rest) = (awaited_answers r W s ≡ a ∷ rest) × (rounds_left s ≡ left)
+
+-- ---- no shard tells a bucket twice
+
+once_in_round : (laws : AreTellingLaws) (r : Request) (n : ℕ) (before here : List Told) (round : Round) (i : ℕ) (m : Partials) → TellOnce (before ++ here) → Begins r n before round → AreOfOthers i here
+    → TellOnce ((before ++ here) ++ told_by r.nodes i (ask_in r n before round i) m)
+once_in_round laws r n before here roots i m once begins others = (laws.first_once r.nodes (before ++ here) i m once (subst (λ B. AreOfOthers i (B ++ here)) (sym begins) others)).0
+once_in_round laws r n before here (lacking_at e) i m once begins others = (laws.rounds_once r n before here e i m once begins.0 others).0
+
+once_told : (laws : AreTellingLaws) (s : State) (A : List Told) (i : ℕ) (ask : Ask) (m : Partials) → Keeps s A → ask_at s.asks i ≡ Some ask → TellOnce (A ++ told_by s.request.nodes i ask m)
+once_told laws s A i ask m k at =
+    let a = k.asked i ask at in
+    subst TellOnce (λ j. (sym k.told j) ++ told_by s.request.nodes i (sym a.own j) m) (once_in_round laws s.request (length s.asks) k.before k.here k.asking i m (subst TellOnce k.told k.once) k.begins a.untold)
+
+-- ---- the message that is told next
+
+module _ (laws : AreTellingLaws) (r : Request) (W : World) (limits : IsWithinLimits W) (s : State) (sent : List SentMessage) (told : WasTold r W s sent) (left : ℕ) (a : ShardAnswer) (rest : List ShardAnswer) (here : IsInRound r W left s (a ∷ rest)) where
+  abbrev A : List Told
+  A = told_in r.nodes sent
+
+  pub next : IsFirst r W 0 s.asks a rest
+  next = first_awaited r W 0 s.asks a rest here.0
+
+  place : a.shard ≡ next.place
+  place = let shard = next.shard in omega (arith, shard)
+
+  at : ask_at s.asks a.shard ≡ Some next.ask
+  at = ap (ask_at s.asks) place ∙ next.asked
+
+  abbrev one : SentMessage
+  one = record { round = s.round; shard = a.shard; ask = next.ask; message = a.message }
+
+  answers : AllByRecursion (IsAnswer r W) (sent ++ one ∷ [])
+  answers = all_append (IsAnswer r W) sent (one ∷ []) told.answers (next.message, tt)
+
+  own : told_of s a.shard a.message ≡ told_by r.nodes a.shard next.ask a.message
+  own = ap (λ o. told_for s.request.nodes a.shard o a.message) at ∙ ap (λ (x : Request). told_by x.nodes a.shard next.ask a.message) told.request
+
+  told_is : told_in r.nodes (sent ++ one ∷ []) ≡ A ++ told_of s a.shard a.message
+  told_is = told_in-append r.nodes sent (one ∷ []) ∙ ap (λ T. A ++ T) (append-nil (told_by r.nodes a.shard next.ask a.message) ∙ sym own)
+
+  once : TellOnce (A ++ told_of s a.shard a.message)
+  once = subst (λ T. TellOnce (A ++ T)) (sym (ap (λ o. told_for s.request.nodes a.shard o a.message) at)) (once_told laws s A a.shard next.ask a.message told.kept at)
+
+  sums : SumsFit (A ++ told_of s a.shard a.message)
+  sums = subst SumsFit told_is (laws.fit r W (sent ++ one ∷ []) limits answers (subst TellOnce (sym told_is) once))
+
+  shaped : IsTrue (is_shaped_for s.request (ask_at s.asks a.shard) a.message)
+  shaped =
+      ap (λ o. is_shaped_for s.request o a.message) at ∙ ap (λ x. is_shaped x next.ask a.message) told.request ∙ ap (is_shaped r next.ask) next.message ∙ laws.shaped r W a.shard next.ask
+
+  pub awaited : IsTrue (is_awaited s a.shard)
+  awaited = ap is_some at
+
+  pub fitting : IsTrue (is_fitting s a.shard a.message)
+  fitting = (fits_is_exact s A a.shard a.message laws.exact told.kept awaited).1 (shaped, sums)
+
+  -- ---- the state behind it
+
+  unready : s.ready ≡ false
+  unready = not_ready s.ready s.asks a.shard (λ ready. (told.kept.ended ready).0) awaited
+
+  abbrev h : State
+  h = heard s a.shard a.message
+
+  abbrev B : List Told
+  B = A ++ told_of s a.shard a.message
+
+  others : awaited_answers r W h ≡ rest
+  others = ap (λ i. answers_from r W 0 (slice_set s.asks i None)) place ∙ next.others
+
+  shards : length h.asks ≡ length W
+  shards = length-heard s.asks a.shard ∙ told.shards
+
+  -- what follows in a state that keeps all that was told
+  abbrev Follows : List ShardAnswer → State → Type 0
+  Follows after x = Keeps x B → WasTold r W x (sent ++ one ∷ []) × IsInRound r W left x after
+
+  -- others are awaited
+  waiting : (b : ShardAnswer) (bs : List ShardAnswer) → awaited_answers r W h ≡ b ∷ bs → Follows (b ∷ bs) (goes_on h B)
+  waiting b bs e = subst (Follows (b ∷ bs)) (waits h B some) (λ k. (
+    record {
+      request = told.request;
+      shards = shards;
+      kept = subst (Keeps h) (sym told_is) k;
+      answers = answers;
+      fresh = told.fresh;
+      asks = kept_asked (λ ask. 0 < asked_count ask) s.asks a.shard told.asks;
+      goes_on = λ unready. some;
+    },
+    (e, here.1),
+  ))
+    where
+      some : list_any is_some h.asks ≡ true
+      some = some_awaited r W 0 h.asks b bs e
+
+  -- the round has ended
+  told_begun : (all : List Lack) → lacks_next h B ≡ all → Keeps h B → Keeps (begun h all) B → WasTold r W (begun h all) (sent ++ one ∷ [])
+  told_begun [] e hk k = record {
+    request = told.request;
+    shards = shards;
+    kept = subst (Keeps (begun h [])) (sym told_is) k;
+    answers = answers;
+    fresh = told.fresh;
+    asks = kept_asked (λ ask. 0 < asked_count ask) s.asks a.shard told.asks;
+    goes_on = λ unready. absurd (false≢true (sym unready));
+  }
+  told_begun (l ∷ ls) e hk k = record {
+    request = told.request;
+    shards = length-asks_for (length h.asks) (l ∷ ls) ∙ shards;
+    kept = subst (Keeps (begun h (l ∷ ls))) (sym told_is) k;
+    answers = answers;
+    fresh = told.fresh;
+    asks = made_asked (λ ask. 0 < asked_count ask) (λ i. ask_for (wants_of i (l ∷ ls))) (λ i ask f. some_wanted (wants_of i (l ∷ ls)) ask f) (numbers_below (length h.asks));
+    goes_on = λ unready. round_asks h B l ls hk e;
+  }
+
+  ended : awaited_answers r W h ≡ [] → Keeps h B → Follows [] (goes_on h B)
+  ended e hk = subst (Follows []) (sym (ap (λ b. cond b h (begun h (lacks_next h B))) none)) (λ k. (told_begun (lacks_next h B) refl hk k, fewer))
+    where
+      none : list_any is_some h.asks ≡ false
+      none = none_awaited r W 0 h.asks e
+
+      fewer : rounds_left (begun h (lacks_next h B)) < left
+      fewer = let less = fewer_begun h B hk none unready in let same : rounds_left h ≡ left = here.1 in omega (arith, less, same)
+
+  follows : (after : List ShardAnswer) → awaited_answers r W h ≡ after → Keeps h B → Follows after (goes_on h B)
+  follows [] e hk = ended e hk
+  follows (b ∷ bs) e hk = waiting b bs e
+
+  -- the coordinator as it is then
+  pub told_more : (new : State) → Keeps new B → new ≡ taken s A a.shard a.message → WasTold r W new (sent ++ one ∷ []) × IsInRound r W left new rest
+  told_more new k is = subst (Follows rest) (sym is) (follows rest others (heard_keeps s A a.shard a.message laws.more laws.exact told.kept awaited fitting)) k
+
+-- ---- in a round
+
+-- a search under way, in a round that began with so many left
+abbrev pub IsUnderWay : Request → World → ℕ → State → List ShardAnswer → Type 0
+IsUnderWay r W left s rest = (sent : List SentMessage) × WasTold r W s sent × IsInRound r W left s rest
+
+-- the round begins: some answers are awaited
+pub round_begins : (r : Request) (W : World) (s : State) → IsHearing r W s → s.ready ≡ false → IsUnderWay r W (rounds_left s) s (awaited_answers r W s)
+round_begins r W s (sent, told) unready = (sent, told, go (awaited_answers r W s) refl)
+  where
+    go : (all : List ShardAnswer) → awaited_answers r W s ≡ all → IsInRound r W (rounds_left s) s all
+    go [] e = absurd (false≢true (sym (none_awaited r W 0 s.asks e) ∙ told.goes_on unready))
+    go (a ∷ rest) e = (e, refl)
+
+-- the next message can be told
+pub told_awaited : (laws : AreTellingLaws) (r : Request) (W : World) (limits : IsWithinLimits W) (left : ℕ) (s : State) (a : ShardAnswer) (rest : List ShardAnswer) (i : ℕ) (m : Partials) → IsUnderWay r W left s (a ∷ rest) → i ≡ a.shard → m ≡ a.message
+    → (s.spent ≡ false) × IsTrue (is_awaited s i) × IsTrue (is_fitting s i m)
+told_awaited laws r W limits left s a rest i m (sent, told, here) shard message = (
+  told.fresh,
+  subst (λ k. IsTrue (is_awaited s k)) (sym shard) (awaited laws r W limits s sent told left a rest here),
+  subst (λ k. IsTrue (is_fitting s k m)) (sym shard) (subst (λ x. IsTrue (is_fitting s a.shard x)) (sym message) (fitting laws r W limits s sent told left a rest here)),
+)
+
+-- and the search is under way then too; of the new state this is known for whatever was told
+pub told_then : (laws : AreTellingLaws) (r : Request) (W : World) (limits : IsWithinLimits W) (left : ℕ) (s new : State) (a : ShardAnswer) (rest : List ShardAnswer) (i : ℕ) (m : Partials) → IsUnderWay r W left s (a ∷ rest) → i ≡ a.shard → m ≡ a.message
+    → ((A : List Told) → Keeps s A → Keeps new (A ++ told_of s i m)) → ((A : List Told) → Keeps s A → new ≡ taken s A i m) → IsUnderWay r W left new rest
+told_then laws r W limits left s new a rest i m (sent, told, here) shard message kept state =
+    let A = told_in r.nodes sent in
+    let k : Keeps new (A ++ told_of s a.shard a.message) = subst (λ T. Keeps new (A ++ T)) (λ j. told_of s (shard j) (message j)) (kept A told.kept) in
+    let is : new ≡ taken s A a.shard a.message = state A told.kept ∙ (λ j. taken s A (shard j) (message j)) in
+    let all = told_more laws r W limits s sent told left a rest here new k is in
+    (sent ++ one laws r W limits s sent told left a rest here ∷ [], all.0, all.1)
+
+-- ---- what is asked
+
+phase_names : (nodes : Nodes) (ask : Ask) → named.NamesKeys nodes ask → NamesKeys nodes ask
+phase_names nodes first names = names
+phase_names nodes (more wants) names = names
+
+-- whoever is awaited is asked for buckets that are there, one at least
+pub asked_well : (r : Request) (W : World) (s : State) (i : ℕ) (ask : Ask) → IsHearing r W s → ask_at s.asks i ≡ Some ask → (0 < asked_count ask) × NamesKeys r.nodes ask
+asked_well r W s i ask (sent, told) at = (told.asks i ask at, subst (λ (x : Request). NamesKeys x.nodes ask) told.request (phase_names s.request.nodes ask (asks_name_keys s (told_in r.nodes sent) i ask told.kept at)))
+
+-- there is an ask for each shard
+pub asks_there : (r : Request) (W : World) (s : State) → IsHearing r W s → length s.asks ≡ length W
+asks_there r W s (sent, told) = told.shards

@@ -1,0 +1,45 @@
+-- A search under way: what its coordinator was told are answers of the shards of a world.
+use Rattle.std.specs.Prelude.{◌≡◌, ℕ, suc, ◌+◌, ◌-◌, ◌<◌, List, [], ◌∷◌, length, true, false, is_some, Option, None, Some, if◌then◌else◌}
+use Rattle.std.specs.List.{AllByRecursion, list_any}
+use Rattle.fc_spec.specs.documents.World.{World}
+use Rattle.fc_spec.specs.requests.Request.{Request}
+use Rattle.fc_spec.specs.messages.Message.{Partials, Ask}
+use Rattle.fc_spec.specs.messages.Answer.{answer}
+use Rattle.fc_spec.specs.messages.Lacks.{terms_depth}
+use Rattle.fc_spec.specs.messages.Rounds.{SentMessage, told_in}
+use Rattle.fc_spec.specs.laws.Merging.{IsAnswer}
+use Rattle.fc_coord.specs.State.{State, ask_at}
+use Rattle.fc_coord.specs.Keeps.{Keeps}
+use Rattle.fc_phase.specs.Asked.{asked_count}
+
+-- the answer of a shard
+pub record ShardAnswer : Type 0 where
+  pub shard : ℕ
+  pub message : Partials
+
+-- the answers to asks of shards, of which the first has the number i: of each shard that is asked something
+abbrev pub answers_from : Request → World → ℕ → List (Option Ask) → List ShardAnswer
+answers_from r W i [] = []
+answers_from r W i (None ∷ asks) = answers_from r W (suc i) asks
+answers_from r W i (Some ask ∷ asks) = record { shard = i; message = answer r W i ask } ∷ answers_from r W (suc i) asks
+
+-- the answers that are awaited, in the order of the shards
+abbrev pub awaited_answers : Request → World → State → List ShardAnswer
+awaited_answers r W s = answers_from r W 0 s.asks
+
+-- the coordinator of the request was told these answers of the world's shards, and keeps what they tell; who is asked for buckets is asked for one at least; and until the reply can be made some shard is awaited
+pub record WasTold (r : Request) (W : World) (s : State) (sent : List SentMessage) : Type 0 where
+  pub request : s.request ≡ r
+  pub shards : length s.asks ≡ length W
+  pub kept : Keeps s (told_in r.nodes sent)
+  pub answers : AllByRecursion (IsAnswer r W) sent
+  pub fresh : s.spent ≡ false
+  pub asks : (i : ℕ) (ask : Ask) → ask_at s.asks i ≡ Some ask → 0 < asked_count ask
+  pub goes_on : s.ready ≡ false → list_any is_some s.asks ≡ true
+
+abbrev pub IsHearing : Request → World → State → Type 0
+IsHearing r W s = (sent : List SentMessage) × WasTold r W s sent
+
+-- how many rounds there are at most from this one on; none once the reply can be made
+abbrev pub rounds_left : State → ℕ
+rounds_left s = if s.ready then 0 else suc (terms_depth s.request.nodes + 1 - s.round)

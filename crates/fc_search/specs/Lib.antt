@@ -1,0 +1,5 @@
+pub mod Askable
+pub mod Hearing
+pub mod Picks
+pub mod SearchLaws
+pub mod Seats

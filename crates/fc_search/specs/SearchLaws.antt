@@ -1,0 +1,33 @@
+-- The laws that the promises of a search stand on.
+use Rattle.fc_spec.specs.documents.Schema.{Schema}
+use Rattle.fc_spec.specs.requests.Request.{Request}
+use Rattle.fc_spec.specs.requests.ValidRequests.{IsValidRequest}
+use Rattle.fc_spec.specs.laws.LacksLaws.{FirstTellOnce, RoundsTellOnce}
+use Rattle.fc_spec.specs.laws.Merging.{MergesIntoReply}
+use Rattle.fc_spec.specs.laws.RefinedPaths.{AreRefinedPathsExact}
+use Rattle.fc_spec.specs.laws.RequestLaws.{ValidExcludeOutermost, ValidHaveFewDepths}
+use Rattle.fc_spec.specs.laws.ShapedAnswers.{AnswersAreShaped}
+use Rattle.fc_spec.specs.laws.ShardAlone.{AnswersFromItsBlocks}
+use Rattle.fc_spec.specs.laws.SumsLaw.{AnswersFit}
+use Rattle.fc_spec.specs.laws.WithoutLimits.{IsSingleWithoutLimits}
+use Rattle.fc_refine.specs.CountableRanges.{AreCountable}
+use Rattle.fc_told.specs.Telling.{FitsExactly, TellsMore}
+
+-- of answers that are told: they are their shards' own, have the right shape, and no bucket is told twice, so that they fit
+pub record AreTellingLaws : Type 0 where
+  pub alone : AnswersFromItsBlocks
+  pub shaped : AnswersAreShaped
+  pub first_once : FirstTellOnce
+  pub rounds_once : RoundsTellOnce
+  pub fit : AnswersFit
+  pub more : TellsMore
+  pub exact : FitsExactly
+
+-- of valid requests, and of what answers merge into
+pub record AreReplyLaws : Type 0 where
+  pub countable : (s : Schema) (r : Request) → IsValidRequest s r → AreCountable r.nodes
+  pub few : ValidHaveFewDepths
+  pub outermost : ValidExcludeOutermost
+  pub merges : MergesIntoReply
+  pub refined : AreRefinedPathsExact
+  pub single : IsSingleWithoutLimits

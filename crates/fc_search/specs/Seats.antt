@@ -1,0 +1,42 @@
+-- The seats of a round.
+use Rattle.std.specs.Prelude.{◌≡◌, ℕ, ◌-◌, ◌<◌, List, length, false, true, Some, option_map, is_some, slice_index_or}
+use Rattle.fc_partial.specs.BucketView.{message_view}
+use Rattle.fc_phase.specs.Futures.{phase_of}
+use Rattle.fc_phase.specs.Phases.{Phase, answer_of, units_of}
+use Rattle.fc_search.specs.Hearing.{ShardAnswer}
+use Rattle.fc_search.specs.declared.seat.Seat.{Seat}
+
+abbrev pub phase_in : {B : Type 0} {Q : B → Type 0} → Seat B Q → Phase
+phase_in seat = phase_of seat.future
+
+-- what comes of it
+abbrev pub seat_answer : {B : Type 0} {Q : B → Type 0} → Seat B Q → ShardAnswer
+seat_answer seat = record { shard = seat.shard; message = answer_of (phase_in seat) }
+
+-- the units that its future has still to do
+abbrev pub units_left : {B : Type 0} {Q : B → Type 0} → Seat B Q → ℕ
+units_left seat = units_of (phase_in seat) - (phase_in seat).done
+
+-- its message is not there yet
+abbrev pub Waits : {B : Type 0} {Q : B → Type 0} → Seat B Q → Type 0
+Waits seat = is_some seat.message ≡ false
+
+-- its message is there: the answer
+abbrev pub HasTold : {B : Type 0} {Q : B → Type 0} → Seat B Q → Type 0
+HasTold seat = option_map message_view seat.message ≡ Some (answer_of (phase_in seat))
+
+-- its future goes on until its message is there
+pub record IsSat {B : Type 0} {Q : B → Type 0} (seat : Seat B Q) : Type 0 where
+  pub waits : Waits seat → (phase_in seat).spent ≡ false
+  pub told : is_some seat.message ≡ true → HasTold seat
+
+-- the seat at this place waits
+pub record WaitsAt {B : Type 0} {Q : B → Type 0} (seats : List (Seat B Q)) (place : ℕ) : Type 0 where
+  pub there : place < length seats
+  pub waits : (d : Seat B Q) → Waits (slice_index_or seats place d)
+
+-- what a turn makes of a seat: the same answer comes of it, and fewer units are left
+pub record IsTurned {B : Type 0} {Q : B → Type 0} (before after : Seat B Q) : Type 0 where
+  pub answer : seat_answer after ≡ seat_answer before
+  pub fewer : units_left after < units_left before
+  pub sat : IsSat after

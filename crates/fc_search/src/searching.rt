@@ -1,0 +1,60 @@
+// The reply of a search.
+ghost use Rattle.std.specs.Prelude.{◌≡◌, ◌≤◌, All, IfOk, IsTrue, None, length, map};
+ghost use Rattle.std.specs.Arc.{arc_value};
+ghost use Rattle.fc_spec.specs.documents.World.{single};
+ghost use Rattle.fc_spec.specs.laws.RefinedPaths.{AreFacetsOf, IsBucketOf, val_in};
+ghost use Rattle.fc_spec.specs.replies.Distributed.{distributed};
+ghost use Rattle.fc_spec.specs.replies.Exact.{exact};
+ghost use Rattle.fc_spec.specs.requests.Paths.{at_root};
+ghost use Rattle.fc_spec.specs.requests.Shape.{no_limits};
+ghost use Rattle.fc_spec.specs.requests.ValidRequests.{IsValidRequest};
+ghost use Rattle.fc_spec.specs.scripts.WorldLimits.{IsWithinLimits};
+ghost use Rattle.fc_request.specs.RequestView.{IsRoot, request_view};
+ghost use Rattle.fc_reply.specs.ReplyView.{reply_view};
+ghost use Rattle.fc_kind.specs.Names.{Covers};
+ghost use Rattle.fc_search.specs.Askable.{world_of};
+
+use crate::Turns;
+use crate::laws::reply_laws;
+use crate::round::run_round;
+use fc_base::WantMemory;
+use fc_coord::Coord;
+use fc_kind::FacetKind;
+use fc_reply::Reply;
+use fc_request::Request;
+use fc_store::Generation;
+use std::alloc::Global;
+use std::sync::Arc;
+
+/// The distributed reply to a request over the generations of 1 to 64 shards, in the order of the shards, whatever `turns`
+/// answers. Before each turn of a future `turns` is asked once which of the shards that are not done does it. The buckets on refined paths are exact
+/// over all shards, and without limits the reply is that of a single index with all the blocks.
+pub fn search<T: Turns>(
+    alloc: Global,
+    generations: &[Arc<Generation>],
+    request: &Request,
+    kinds: &[Box<dyn FacetKind>],
+    turns: &mut T,
+) -> Result<Reply, WantMemory>
+    requires covers { Covers (map name kinds.now) }
+    requires some { 1 ≤ length generations.now }
+    requires root { IsRoot request.now.root }
+    requires valid { All (λ generation. IsValidRequest generation.schema (request_view request.now)) (map arc_value generations.now) }
+    requires limits { IsWithinLimits (world_of (map arc_value generations.now)) }
+    ensures distributed { IfOk result (λ reply. reply_view reply
+        ≡ distributed (request_view request.now) (world_of (map arc_value generations.now))) }
+    ensures root { IfOk result (λ reply. val_in (reply_view reply) ≡ None) }
+    ensures refined { IfOk result (λ reply. IsBucketOf (request_view request.now) (world_of (map arc_value generations.now)) at_root
+        (AreFacetsOf (request_view request.now) (world_of (map arc_value generations.now)) (request_view request.now).nodes at_root)
+        (reply_view reply)) }
+    ensures single_index { IfOk result (λ reply. IsTrue (no_limits (request_view request.now).nodes)
+        → reply_view reply ≡ exact (request_view request.now) (single (world_of (map arc_value generations.now)))) }
+{
+    reply_laws();
+    let mut coord = Coord::begin(alloc, request, generations.len() as u32)?;
+    while !coord.ready() {
+        run_round(alloc, generations, request, kinds, turns, &mut coord)?;
+    }
+    let reply = coord.into_reply()?;
+    Ok(reply)
+}

@@ -1,0 +1,54 @@
+// The future of a shard in a round, and its message.
+ghost use Rattle.std.specs.Prelude.{◌≡◌, OnOk, false, map};
+ghost use Rattle.fc_kind.specs.Names.{Covers};
+ghost use Rattle.fc_partial.specs.BucketView.{message_view};
+ghost use Rattle.fc_phase.specs.Phases.{answer_of};
+ghost use Rattle.fc_search.specs.Seats.{HasTold, IsTurned, Waits, phase_in};
+
+use fc_base::WantMemory;
+use fc_partial::Message;
+use fc_phase::{PhaseFuture, Turn};
+
+/// A shard that is asked something in a round: its future, and its message once that is there.
+#[derive(Drop)]
+pub(crate) struct Seat<'a> {
+    pub(crate) shard: u32,
+    pub(crate) future: PhaseFuture<'a>,
+    pub(crate) message: Option<Message>,
+}
+
+impl Seat<'_> {
+    /// Its future does a turn.
+    pub(crate) fn turn(&mut self) -> Result<(), WantMemory>
+        requires covers { Covers (map (λ b. name (b.vtable, b.value)) self.old.future.kinds.now) }
+        requires waits { Waits self.old }
+        requires fresh { (phase_in self.old).spent ≡ false }
+        ensures turned { OnOk result (IsTurned self.old self.new) }
+        ensures kinds { OnOk result (self.new.future.kinds.now ≡ self.old.future.kinds.now) }
+    {
+        let turn = self.future.turn()?;
+        match turn {
+            Turn::Pending => Ok(()),
+            Turn::Done(message) => {
+                self.message = Some(message);
+                Ok(())
+            }
+        }
+    }
+
+    /// The message, once it is there.
+    pub(crate) fn into_message(self) -> Message
+        requires { HasTold self }
+        ensures { message_view result ≡ answer_of (phase_in self.entry) }
+    {
+        let Seat {
+            shard: _,
+            future: _,
+            message,
+        } = self;
+        match message {
+            Some(message) => message,
+            None => unreachable!(),
+        }
+    }
+}
