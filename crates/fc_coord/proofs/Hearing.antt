@@ -15,7 +15,7 @@ use Rattle.fc_spec.specs.laws.LacksLaws.{names_keys, IsThere, IsFitting, TellOnc
 use Rattle.fc_spec.specs.laws.SumsLaw.{SumsFit}
 use Rattle.fc_told.specs.Adding.{all_added}
 use Rattle.fc_told.specs.Fitting.{all_fit}
-use Rattle.fc_told.specs.Named.{NamesKeys}
+use Rattle.fc_refine.specs.Named.{NamesKeys}
 use Rattle.fc_told.specs.Telling.{TellsMore, FitsExactly}
 use Rattle.fc_spec.proofs.words.Members.{Member, filter_member, member_of_filter, all_from_members, each_member}
 use Rattle.fc_spec.proofs.words.AlikeLists.{member_map}
@@ -167,7 +167,7 @@ once_more r n before here (lacking_at e) i m once begins others = (rounds_tell_o
 -- ---- the state
 
 -- the told part of what is kept
-once_told : (s : State) (A : List Told) (i : ℕ) (m : Partials) → Keeps s A → (ask : Ask) → ask_at s.asks i ≡ Some ask → TellOnce (A ++ told_by s.request.nodes i ask m)
+pub once_told : (s : State) (A : List Told) (i : ℕ) (m : Partials) → Keeps s A → (ask : Ask) → ask_at s.asks i ≡ Some ask → TellOnce (A ++ told_by s.request.nodes i ask m)
 once_told s A i m k ask at =
     let a = k.asked i ask at in
     subst TellOnce (λ j. (sym k.told j) ++ told_by s.request.nodes i (sym a.own j) m) (once_more s.request (length s.asks) k.before k.here k.asking i m (subst TellOnce k.told k.once) k.begins a.untold)

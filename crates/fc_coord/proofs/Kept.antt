@@ -15,7 +15,7 @@ use Rattle.fc_spec.specs.messages.Lacks.{Lack, wanted, lacks, terms_depth}
 use Rattle.fc_spec.specs.messages.Rounds.{next_lacks}
 use Rattle.fc_lacks.specs.Lacking.{LackingIsUntold}
 use Rattle.fc_told.specs.Trees.{Tree}
-use Rattle.fc_told.specs.Named.{NamesKeys}
+use Rattle.fc_refine.specs.Named.{NamesKeys}
 use Rattle.fc_told.specs.Telling.{Tells, TellsMore, FitsExactly, SumsOfTellers, TellersFit}
 use Rattle.fc_spec.proofs.words.NumbersBelow.{member_below}
 use Rattle.fc_spec.proofs.words.Members.{Member, filter_member}

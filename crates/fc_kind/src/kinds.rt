@@ -1,8 +1,11 @@
 // Lists of kinds of facet.
-ghost use Rattle.std.specs.Prelude.{◌≡◌, ◌↔◌, IsSome, IsTrue, IfSome, map};
+ghost use Rattle.std.specs.Prelude.{◌≡◌, ◌↔◌, IfOk, IsSome, IsTrue, IfSome, map};
 ghost use Rattle.fc_kind.specs.Names.{Covers, Has};
+ghost use Rattle.fc_kind.specs.declared.name.KindName.TheVariants.{Query, Range, Terms};
 
 use crate::{FacetKind, KindName};
+use fc_base::WantMemory;
+use std::alloc::Global;
 
 // The first of the kinds that has the name.
 fn find<K: FacetKind>(kinds: &[K], wanted: KindName) -> Option<&K>
@@ -41,4 +44,23 @@ pub fn the_kind(kinds: &[Box<dyn FacetKind>], wanted: KindName) -> &Box<dyn Face
         Some(kind) => kind,
         None => unreachable!(),
     }
+}
+
+/// A list of one kind of each name.
+pub fn kinds_of(
+    alloc: Global,
+    terms: Box<dyn FacetKind>,
+    range: Box<dyn FacetKind>,
+    query: Box<dyn FacetKind>,
+) -> Result<Vec<Box<dyn FacetKind>>, WantMemory>
+    requires terms { name terms ≡ Terms }
+    requires range { name range ≡ Range }
+    requires query { name query ≡ Query }
+    ensures { IfOk result (λ kinds. Covers (map name kinds.items)) }
+{
+    let mut kinds = Vec::new(alloc);
+    kinds.push(terms)?;
+    kinds.push(range)?;
+    kinds.push(query)?;
+    Ok(kinds)
 }

@@ -10,7 +10,7 @@ mod statistics;
 
 pub use adding::add_documents;
 pub use kind::FacetKind;
-pub use kinds::{covers, the_kind};
+pub use kinds::{covers, kinds_of, the_kind};
 pub use law::collecting_joins;
 pub use name::{KindName, name_of};
 pub use statistics::{document_values, set_stats};

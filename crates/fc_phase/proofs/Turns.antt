@@ -19,7 +19,8 @@ use Rattle.fc_levels.specs.Facets.{nested_view}
 use Rattle.fc_levels.specs.Jobs.{AreCounted, left_after, opened, top_buckets, units, units_each}
 use Rattle.fc_levels.specs.Levels.{put}
 use Rattle.fc_levels.proofs.CountedJobs.{jobs_are_counted}
-use Rattle.fc_phase.specs.Asked.{FitsTop, NamesKeys, answer_from}
+use Rattle.fc_refine.specs.Named.{NamesKeys}
+use Rattle.fc_phase.specs.Asked.{FitsTop, answer_from}
 use Rattle.fc_phase.specs.Built.{CanAnswer, IsBuilt, IsCountedUp, IsJob, IsTopJob, blocks_in, done_in, ended}
 use Rattle.fc_phase.specs.FirstJobs.{FirstJobs}
 use Rattle.fc_phase.specs.Going.{UnitDone, ended_by}

@@ -17,7 +17,8 @@ use Rattle.fc_refine.specs.declared.ask.Ask.TheVariants.{First, More}
 use Rattle.fc_refine.specs.declared.ask.Step.{Step}
 use Rattle.fc_refine.specs.declared.ask.Want.{Want}
 use Rattle.fc_jobs.specs.Walked.{domain_set, walked}
-use Rattle.fc_phase.specs.Asked.{NamesKeys, asked_count, top_set}
+use Rattle.fc_refine.specs.Named.{NamesKeys}
+use Rattle.fc_phase.specs.Asked.{asked_count, top_set}
 use Rattle.fc_phase.proofs.AskedNodes.{named_at, path_is, split_named, within_more}
 
 -- the first steps of a way that names keys do

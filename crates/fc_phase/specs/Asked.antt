@@ -1,11 +1,9 @@
 -- The top buckets of an answer, by their numbers, over the segments' lists of blocks V.
-use Rattle.std.specs.Prelude.{◌≡◌, ℕ, zero, suc, ◌+◌, List, [], ◌∷◌, length, map, drop, Bool, IsTrue, Some}
-use Rattle.std.specs.List.{AllByRecursion}
+use Rattle.std.specs.Prelude.{◌≡◌, ℕ, zero, suc, ◌+◌, List, [], ◌∷◌, length, map, drop, Bool, Some}
 use Rattle.fc_spec.specs.documents.Document.{Block}
 use Rattle.fc_spec.specs.documents.Sets.{places_at}
 use Rattle.fc_spec.specs.documents.World.{World}
-use Rattle.fc_spec.specs.laws.LacksLaws.{names_keys}
-use Rattle.fc_spec.specs.messages.Message.{Ask, first, more, Partials, no_partials, partial, Want, Way, way_of}
+use Rattle.fc_spec.specs.messages.Message.{Ask, first, more, Partials, no_partials, partial, Want, Way}
 use Rattle.fc_spec.specs.messages.Target.{facet_at}
 use Rattle.fc_spec.specs.requests.Buckets.{Key, whole}
 use Rattle.fc_spec.specs.requests.DomainSets.{base_set}
@@ -44,11 +42,6 @@ asked_key (more wants) i = key_at wants i
 abbrev pub IsAskedFacet : (root : Nested) → Request → Ask → ℕ → Nested → Type 0
 IsAskedFacet root r first i n = n ≡ root
 IsAskedFacet root r (more wants) i n = facet_at (node_at wants i) (nodes_from r.nodes (path_at wants i)) ≡ Some n
-
--- each step of each way names a facet among the nodes, and one of its keys
-abbrev pub NamesKeys : Nodes → Ask → Type 0
-NamesKeys nodes first = Unit {0}
-NamesKeys nodes (more wants) = AllByRecursion (λ w. IsTrue (names_keys nodes (way_of w))) wants
 
 -- the bucket around it and its facet are those of the one before it
 abbrev pub HasSameDomain : Ask → ℕ → Type 0

@@ -6,7 +6,7 @@ use Rattle.fc_spec.specs.words.Lists.{joined}
 use Rattle.fc_request.specs.RequestView.{request_view}
 use Rattle.fc_refine.specs.AskView.{ask_view}
 use Rattle.fc_segment.specs.Segmented.{Segmented}
-use Rattle.fc_phase.specs.Asked.{NamesKeys}
+use Rattle.fc_refine.specs.Named.{NamesKeys}
 use Rattle.fc_phase.specs.Built.{IsBuilt, IsCountedUp, blocks_in}
 use Rattle.fc_phase.specs.Phases.{Phase, left_of}
 use Rattle.fc_phase.specs.declared.building.Building.{Building}

@@ -15,7 +15,8 @@ ghost use Rattle.fc_levels.specs.Facets.{nested_view};
 ghost use Rattle.fc_levels.specs.Steps.{AreValid, IsValidNode};
 ghost use Rattle.fc_jobs.specs.Walked.{nodes_from};
 ghost use Rattle.fc_phase.specs.Asked as asked;
-ghost use Rattle.fc_phase.specs.Asked.{HasSameDomain, IsAskedFacet, NamesKeys};
+ghost use Rattle.fc_refine.specs.Named.{NamesKeys};
+ghost use Rattle.fc_phase.specs.Asked.{HasSameDomain, IsAskedFacet};
 
 use fc_base::WantMemory;
 use fc_partial::Key;

@@ -7,7 +7,8 @@ ghost use Rattle.fc_spec.specs.scripts.WorldLimits.{IsWithinLimits};
 ghost use Rattle.fc_request.specs.RequestView.{IsRoot, request_view};
 ghost use Rattle.fc_refine.specs.AskView.{ask_view};
 ghost use Rattle.fc_kind.specs.Names.{Covers};
-ghost use Rattle.fc_phase.specs.Asked.{NamesKeys, asked_count};
+ghost use Rattle.fc_refine.specs.Named.{NamesKeys};
+ghost use Rattle.fc_phase.specs.Asked.{asked_count};
 ghost use Rattle.fc_phase.specs.Futures.{IsBegun, phase_of};
 ghost use Rattle.fc_phase.specs.Phases.{Turned, left_of};
 

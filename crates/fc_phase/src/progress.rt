@@ -8,7 +8,7 @@ ghost use Rattle.fc_refine.specs.AskView.{ask_view};
 ghost use Rattle.fc_kind.specs.Names.{Covers};
 ghost use Rattle.fc_levels.specs.Jobs.{units_each};
 ghost use Rattle.fc_phase.specs.Asked as asked;
-ghost use Rattle.fc_phase.specs.Asked.{NamesKeys};
+ghost use Rattle.fc_refine.specs.Named.{NamesKeys};
 ghost use Rattle.fc_phase.specs.Built.{CanAnswer, blocks_in};
 ghost use Rattle.fc_phase.specs.FirstJobs.{FirstJobs};
 ghost use Rattle.fc_phase.specs.Phases.{Turned};

@@ -9,7 +9,8 @@ ghost use Rattle.fc_domain.specs.FieldsFit.{BaseFits, ChangeFits};
 ghost use Rattle.fc_kind.specs.Names.{Covers};
 ghost use Rattle.fc_refine.specs.AskView.{ask_view};
 ghost use Rattle.fc_jobs.specs.FacetFits.{AllFit};
-ghost use Rattle.fc_phase.specs.Asked.{NamesKeys, asked_count, top_set};
+ghost use Rattle.fc_refine.specs.Named.{NamesKeys};
+ghost use Rattle.fc_phase.specs.Asked.{asked_count, top_set};
 ghost use Rattle.fc_phase.specs.Stepping.{IsFacetStep, IsTopStep, StandsAtFacet, StandsAtTop};
 
 use crate::jobs::{FacetJob, TopJob};

@@ -16,7 +16,7 @@ use Rattle.fc_refine.specs.declared.ask.Want.{Want}
 use Rattle.fc_request.specs.FacetNode.{has_buckets, kind_of, kind_view}
 use Rattle.fc_request.specs.NodeView.{inner_view, nodes_view}
 use Rattle.fc_request.specs.declared.node.Node.{Node}
-use Rattle.fc_phase.specs.Asked.{NamesKeys}
+use Rattle.fc_refine.specs.Named.{NamesKeys}
 use Rattle.fc_jobs.proofs.NodesThere.{facet_there}
 
 -- a facet among nodes, and a key of its own

@@ -7,7 +7,8 @@ use Rattle.fc_request.specs.declared.request.Request.{Request}
 use Rattle.fc_refine.specs.AskView.{ask_view}
 use Rattle.fc_refine.specs.declared.ask.Ask.{Ask}
 use Rattle.fc_store.specs.Generated.{Generated}
-use Rattle.fc_phase.specs.Asked.{NamesKeys, asked_count}
+use Rattle.fc_refine.specs.Named.{NamesKeys}
+use Rattle.fc_phase.specs.Asked.{asked_count}
 
 -- the request and the ask are such as may be asked of this generation
 pub record CanAsk (g : Generated) (request : Request) (ask : Ask) : Type 0 where

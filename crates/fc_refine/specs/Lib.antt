@@ -12,3 +12,4 @@ pub mod Parts
 pub mod Gathered
 pub mod Listings
 pub mod CandidateView
+pub mod Named

@@ -44,7 +44,7 @@ use Rattle.fc_refine.specs.Along.{nodes_along}
 use Rattle.fc_refine.specs.AskView.{want_view, wants_view, way_view}
 use Rattle.fc_refine.specs.declared.ask.Step as ask
 use Rattle.fc_refine.specs.declared.ask.Want.{Want}
-use Rattle.fc_told.specs.Named.{NamesKeys}
+use Rattle.fc_refine.specs.Named.{NamesKeys}
 use Rattle.fc_told.specs.Adding.{all_added, bucket_added, changed_at, with_teller, sum_of, sizes_added, changed_branch, changed_fork, numbers_added, forks_of, rows_added, partials_added}
 use Rattle.fc_told.specs.Parts.{tellers_view, branches_view, forks_view}
 use Rattle.fc_told.specs.Trees as trees

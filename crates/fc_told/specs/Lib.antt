@@ -6,4 +6,3 @@ pub mod TreeView
 pub mod Parts
 pub mod SumTests
 pub mod ListedView
-pub mod Named

@@ -13,7 +13,7 @@ ghost use Rattle.fc_refine.specs.AskView.{ask_view, want_view, wants_view, way_v
 ghost use Rattle.fc_request.specs.NodeView.{nodes_view};
 ghost use Rattle.fc_told.specs.Adding as adding;
 ghost use Rattle.fc_told.specs.Adding.{all_added, bucket_added, changed_at, changed_branch, changed_fork, numbers_added, partials_added, rows_added};
-ghost use Rattle.fc_told.specs.Named.{NamesKeys};
+ghost use Rattle.fc_refine.specs.Named.{NamesKeys};
 ghost use Rattle.fc_told.specs.Parts.{forks_view};
 ghost use Rattle.fc_told.specs.Trees.{Branches};
 ghost use Rattle.fc_told.specs.TreeView as tree;

@@ -7,7 +7,7 @@ ghost use Rattle.fc_partial.specs.View.{key_view};
 ghost use Rattle.fc_refine.specs.AskView.{ask_view};
 ghost use Rattle.fc_request.specs.FacetNode.{kind_of};
 ghost use Rattle.fc_request.specs.NodeView.{nodes_view};
-ghost use Rattle.fc_told.specs.Named.{NamesKeys};
+ghost use Rattle.fc_refine.specs.Named.{NamesKeys};
 
 use fc_base::{FieldId, Name, Stat, StatKind, Val};
 use fc_partial::{Key, Message, PartialBucket, PartialNode, StatValue, Stats};

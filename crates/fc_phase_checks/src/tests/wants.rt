@@ -12,7 +12,8 @@ ghost use Rattle.fc_partial.specs.View.{key_view};
 ghost use Rattle.fc_refine.specs.AskView.{ask_view, want_view};
 ghost use Rattle.fc_request.specs.FacetNode.{has_buckets, kind_of, kind_view};
 ghost use Rattle.fc_request.specs.NodeView.{nodes_view};
-ghost use Rattle.fc_phase.specs.Asked.{NamesKeys, asked_count};
+ghost use Rattle.fc_refine.specs.Named.{NamesKeys};
+ghost use Rattle.fc_phase.specs.Asked.{asked_count};
 
 use fc_base::{Name, Val};
 use fc_partial::Key;

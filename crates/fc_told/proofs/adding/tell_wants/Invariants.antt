@@ -5,7 +5,7 @@ use Rattle.fc_partial.specs.BucketView.{buckets_view}
 use Rattle.fc_refine.specs.AskView.{wants_view}
 use Rattle.fc_request.specs.NodeView.{nodes_view}
 use Rattle.fc_told.specs.Adding.{all_added}
-use Rattle.fc_told.specs.Named.{NamesKeys}
+use Rattle.fc_refine.specs.Named.{NamesKeys}
 use Rattle.fc_told.specs.TreeView.{tree_view}
 use Rattle.fc_told.proofs.adding.tell_wants.Given as goal
 

@@ -14,7 +14,7 @@ use Rattle.fc_request.specs.FacetNode.{has_buckets, kind_of, kind_view}
 use Rattle.fc_request.specs.NodeView.{nodes_view}
 use Rattle.fc_request.specs.declared.node.Node.{Node}
 use Rattle.fc_request.proofs.Nodes.{facet_is}
-use Rattle.fc_told.specs.Named.{NamesKeys}
+use Rattle.fc_refine.specs.Named.{NamesKeys}
 use Rattle.fc_coord_checks.proofs.tests.told.asking.Goals as goal
 
 abbrev step : ℕ → Key → message.Step
