@@ -1,8 +1,9 @@
 // Generations of a shard.
-ghost use Rattle.std.specs.Prelude.{◌≡◌, ◌+◌, ◌<◌, ◌++◌, [], map, All, IfOk};
+ghost use Rattle.std.specs.Prelude.{◌≡◌, ◌+◌, ◌<◌, ◌≤◌, ◌++◌, [], length, map, All, IfOk};
 ghost use Rattle.std.specs.Arc.{arc_value};
 ghost use Rattle.fc_spec.specs.documents.Schema.{texts_held};
 ghost use Rattle.fc_spec.specs.documents.ValidBlocks.{IsBlockOf};
+ghost use Rattle.fc_spec.specs.words.Lists.{joined};
 ghost use Rattle.fc_docs.specs.View.{batch_view};
 ghost use Rattle.fc_store.specs.Generated.{blocks_of};
 ghost use Rattle.fc_store.specs.Charters.{IsBatchOf};
@@ -73,6 +74,31 @@ impl Generation {
         Ok(Arc::new(alloc, next)?)
     }
 
+    /// The generation after an earlier one and a commit of each of these batches: its blocks, and then those of the batches, in
+    /// order. They make one segment, whatever their number.
+    pub fn after(
+        alloc: Global,
+        earlier: &Generation,
+        batches: Vec<Batch>,
+    ) -> Result<Arc<Generation>, WantMemory>
+        requires number { earlier.now.number + length batches.items ≤ 4096 }
+        requires batches { IsBatchOf earlier.now.schema (joined (map batch_view batches.items)) }
+        ensures { IfOk result (λ generation. arc_value generation
+            ≡ record earlier.now {
+              number = earlier.now.number + length batches.items;
+              blocks = earlier.now.blocks ++ joined (map batch_view batches.items);
+            }) }
+    {
+        let number = earlier.number + batches.len() as u64;
+        let all = in_one(alloc, batches)?;
+        let after = Generation {
+            schema: Arc::try_clone(&earlier.schema)?,
+            number,
+            segments: segments_with(alloc, earlier, &all)?,
+        };
+        Ok(Arc::new(alloc, after)?)
+    }
+
     /// How many commits of the shard it holds.
     pub fn number(&self) -> u64
         ensures { result ≡ self.now.number }
@@ -117,6 +143,17 @@ fn segments_with(
     let mut segments = shared(alloc, earlier.segments())?;
     segments.push(Arc::new(alloc, segment)?)?;
     Ok(segments)
+}
+
+// A batch of the blocks of all of them.
+fn in_one(alloc: Global, batches: Vec<Batch>) -> Result<Batch, WantMemory>
+    ensures { IfOk result (λ all. batch_view all ≡ joined (map batch_view batches.items)) }
+{
+    let mut blocks = Vec::new(alloc);
+    for mut batch in batches {
+        blocks.append(&mut batch.blocks)?;
+    }
+    Ok(Batch { blocks })
 }
 
 // Shares segments, with room for one more.
