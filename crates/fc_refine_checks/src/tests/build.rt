@@ -120,11 +120,11 @@ pub(super) fn only<'a>(rt: &impl Abort, request: &'a Request) -> &'a Node
     ensures only { outermost request.now ≡ result.now ∷ [] }
 {
     let nodes = &request.root.nodes;
-    assert_eq!(rt; nodes.len(), 1);
+    assert!(rt; nodes.len() == 1);
     &nodes[0]
 }
 
-fn key(alloc: Global, text: &str) -> Result<Key, Fail>
+pub(super) fn key(alloc: Global, text: &str) -> Result<Key, Fail>
     ensures { IfOk result (λ key. IsTrue (is_value_or_missing (key_view key))) }
 {
     if text.is_empty() {

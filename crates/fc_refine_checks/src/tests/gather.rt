@@ -13,7 +13,7 @@ ghost use Rattle.fc_refine_checks.specs.Small.{AreSmallParts, are_small, are_sma
 
 use super::build::{Bucket, only, tally};
 use fc_partial::{Key, Message, PartialBucket, PartialNode, StatValue, Stats};
-use fc_refine::{Ask, Candidates, offered, shaped, top};
+use fc_refine::{Ask, Candidate, Candidates, offered, shaped, top};
 use fc_request::{Kind, Node, Request};
 use std::alloc::Global;
 use std::process::Abort;
@@ -64,9 +64,9 @@ pub(super) fn part<'a>(
         (node_view result.now) None) }
 {
     assert!(rt; shaped(request, &Ask::First, message));
-    assert_eq!(rt; message.buckets.len(), 1);
+    assert!(rt; message.buckets.len() == 1);
     let root = &message.buckets[0];
-    assert_eq!(rt; root.nodes.len(), 1);
+    assert!(rt; root.nodes.len() == 1);
     &root.nodes[0]
 }
 
@@ -161,7 +161,7 @@ pub(super) fn messages(
 }
 
 // The candidates of what shards told.
-pub(super) fn gather<'a>(
+fn gather<'a>(
     rt: &impl Abort,
     alloc: Global,
     request: &'a Request,
@@ -182,4 +182,16 @@ pub(super) fn gather<'a>(
         )?;
     }
     Ok(candidates)
+}
+
+// The candidates that are chosen of what shards told.
+pub(super) fn chosen(
+    rt: &impl Abort,
+    alloc: Global,
+    request: &Request,
+    messages: &[(u32, Message)],
+) -> Result<Vec<Candidate>, Fail>
+    requires { AsksTerms request.now }
+{
+    Ok(gather(rt, alloc, request, messages)?.chosen()?)
 }

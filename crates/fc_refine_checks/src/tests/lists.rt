@@ -1,38 +1,37 @@
 // What a shard lists of its tally.
-use super::build::{Asked, Bucket, only, request, tally};
-use fc_base::Val;
-use fc_partial::{Key, PartialBucket, StatValue};
+use super::build::{Asked, Bucket, key, only, request, tally};
+use fc_partial::{PartialBucket, StatValue, Stats};
 use fc_refine::top;
 use fc_request::{Sort, SortKey};
+use std::alloc::Global;
 use std::process::Abort;
 use std::test::Fail;
 
-// Whether the key is that of the bucket that is awaited.
-fn is_key(key: &Key, text: &str) -> bool {
-    match key {
-        Key::Value(Val::Text(name)) => name.text() == text,
-        Key::Missing => text.is_empty(),
-        _ => false,
-    }
+// Whether these are the count, the sum and the least value.
+pub(super) fn are_stats(stats: &Stats, count: u64, sum: i64, least: Option<i64>) -> bool {
+    let values = [StatValue::Number(sum), StatValue::Extreme(least)];
+    stats.count == count && stats.values.as_slice() == values.as_slice()
 }
 
-pub(super) fn check(rt: &impl Abort, row: usize, listed: &[PartialBucket], awaited: &[Bucket]) {
-    assert_eq!(rt; listed.len(), awaited.len(), "row {row}");
+// Whether it is the bucket that is awaited.
+fn is_bucket(alloc: Global, bucket: &PartialBucket, awaited: Bucket) -> Result<bool, Fail> {
+    let (text, count, sum, least) = awaited;
+    let key = key(alloc, text)?;
+    Ok(bucket.key == key && are_stats(&bucket.stats, count, sum, least) && bucket.nodes.is_empty())
+}
+
+pub(super) fn check(
+    rt: &impl Abort,
+    alloc: Global,
+    row: usize,
+    listed: &[PartialBucket],
+    awaited: &[Bucket],
+) -> Result<(), Fail> {
+    assert!(rt; listed.len() == awaited.len(), "row {row}");
     for (bucket, one) in listed.iter().zip(awaited) {
-        let (text, count, sum, least) = *one;
-        assert!(rt;
-            is_key(&bucket.key, text),
-            "row {row}: {:?} at {text}",
-            &bucket.key
-        );
-        assert_eq!(rt; bucket.stats.count, count, "row {row}: {text}");
-        assert_eq!(rt;
-            bucket.stats.values.as_slice(),
-            [StatValue::Number(sum), StatValue::Extreme(least)].as_slice(),
-            "row {row}: {text}"
-        );
-        assert!(rt; bucket.nodes.is_empty(), "row {row}: {text}");
+        assert!(rt; is_bucket(alloc, bucket, *one)?, "row {row}: {}", one.0);
     }
+    Ok(())
 }
 
 const ASKED: Asked = Asked {
@@ -77,23 +76,52 @@ const TOPS: [(SortKey, bool, Option<u64>, &[usize]); 12] = [
     (SortKey::Count, true, Some(0), &[4]),
 ];
 
+// What a shard that has these buckets lists, at most so many values.
+fn listed(
+    rt: &impl Abort,
+    alloc: Global,
+    asked: Asked,
+    buckets: &[Bucket],
+    at_most: Option<u64>,
+) -> Result<Vec<PartialBucket>, Fail> {
+    let request = request(alloc, asked)?;
+    let node = only(rt, &request);
+    Ok(top(alloc, node, tally(rt, alloc, node, buckets)?, at_most)?)
+}
+
+fn buckets_at(
+    rt: &impl Abort,
+    alloc: Global,
+    places: &[usize],
+) -> Result<Vec<Bucket<'static>>, Fail> {
+    let mut buckets = Vec::new(alloc);
+    for place in places {
+        assert!(rt; *place < 5);
+        buckets.push(BUCKETS[*place])?;
+    }
+    Ok(buckets)
+}
+
+fn check_top(
+    rt: &impl Abort,
+    alloc: Global,
+    row: usize,
+    sort: Sort,
+    at_most: Option<u64>,
+    places: &[usize],
+) -> Result<(), Fail> {
+    let listed = listed(rt, alloc, Asked { sort, ..ASKED }, &BUCKETS, at_most)?;
+    check(rt, alloc, row, &listed, &buckets_at(rt, alloc, places)?)
+}
+
 #[test]
 fn tops(rt: HostRuntime) -> Result<(), Fail> {
-    let alloc = rt.alloc();
     for (row, (by, descending, at_most, places)) in TOPS.iter().enumerate() {
         let sort = Sort {
             by: *by,
             descending: *descending,
         };
-        let request = request(alloc, Asked { sort, ..ASKED })?;
-        let node = only(&rt, &request);
-        let listed = top(alloc, node, tally(&rt, alloc, node, &BUCKETS)?, *at_most)?;
-        let mut awaited = Vec::new(alloc);
-        for place in *places {
-            assert!(rt; *place < 5);
-            awaited.push(BUCKETS[*place])?;
-        }
-        check(&rt, row, &listed, &awaited);
+        check_top(&rt, rt.alloc(), row, sort, *at_most, places)?;
     }
     Ok(())
 }
@@ -101,7 +129,6 @@ fn tops(rt: HostRuntime) -> Result<(), Fail> {
 // The first of two values by index, of a facet that would list both.
 #[test]
 fn first_of_two(rt: HostRuntime) -> Result<(), Fail> {
-    let alloc = rt.alloc();
     let asked = Asked {
         limit: None,
         sort: Sort {
@@ -110,10 +137,7 @@ fn first_of_two(rt: HostRuntime) -> Result<(), Fail> {
         },
         ..ASKED
     };
-    let request = request(alloc, asked)?;
-    let node = only(&rt, &request);
     let both = [("a", 1, 0, None), ("b", 1, 0, None)];
-    let listed = top(alloc, node, tally(&rt, alloc, node, &both)?, Some(1))?;
-    check(&rt, 0, &listed, &both[..1]);
-    Ok(())
+    let listed = listed(&rt, rt.alloc(), asked, &both, Some(1))?;
+    check(&rt, rt.alloc(), 0, &listed, &both[..1])
 }

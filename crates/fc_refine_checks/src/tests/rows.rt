@@ -1,11 +1,13 @@
 // Worked rows: what shards list, and which candidates it makes.
+ghost use Rattle.fc_refine_checks.specs.Asked.{AsksTerms};
+
 use super::build::{Asked, Bucket, only, request};
-use super::gather::{gather, messages, part};
-use super::lists::check;
-use fc_base::Val;
-use fc_partial::StatValue;
+use super::gather::{chosen, messages, part};
+use super::lists::{are_stats, check};
+use fc_base::{Name, Val};
+use fc_partial::Message;
 use fc_refine::Candidate;
-use fc_request::{Sort, SortKey};
+use fc_request::{Request, Sort, SortKey};
 use std::alloc::Global;
 use std::process::Abort;
 use std::test::Fail;
@@ -22,31 +24,39 @@ struct Row {
     chosen: &'static [Chosen<'static>],
 }
 
+fn is_candidate(alloc: Global, candidate: &Candidate, awaited: &Chosen) -> Result<bool, Fail> {
+    let ((text, count, sum, least), shards) = *awaited;
+    let val = Val::Text(Name::new(alloc, text)?);
+    Ok(
+        candidate.val == val
+            && are_stats(&candidate.stats, count, sum, least)
+            && candidate.shards.as_slice() == shards,
+    )
+}
+
 pub(super) fn check_candidate(
     rt: &impl Abort,
+    alloc: Global,
     row: usize,
     candidate: &Candidate,
     awaited: &Chosen,
-) {
-    let ((text, count, sum, least), shards) = *awaited;
-    match &candidate.val {
-        Val::Text(name) => assert!(rt; name.text() == text, "row {row}: {name:?} at {text}"),
-        Val::Long(_) => assert!(rt; false, "row {row}: {text}"),
-    }
-    assert_eq!(rt; candidate.stats.count, count, "row {row}: {text}");
-    assert_eq!(rt;
-        candidate.stats.values.as_slice(),
-        [StatValue::Number(sum), StatValue::Extreme(least)].as_slice(),
-        "row {row}: {text}"
-    );
-    assert_eq!(rt; candidate.shards.as_slice(), shards, "row {row}: {text}");
+) -> Result<(), Fail> {
+    assert!(rt; is_candidate(alloc, candidate, awaited)?, "row {row}: {}", awaited.0.0);
+    Ok(())
 }
 
-pub(super) fn check_chosen(rt: &impl Abort, row: usize, chosen: &[Candidate], awaited: &[Chosen]) {
-    assert_eq!(rt; chosen.len(), awaited.len(), "row {row}");
+pub(super) fn check_chosen(
+    rt: &impl Abort,
+    alloc: Global,
+    row: usize,
+    chosen: &[Candidate],
+    awaited: &[Chosen],
+) -> Result<(), Fail> {
+    assert!(rt; chosen.len() == awaited.len(), "row {row}");
     for (candidate, one) in chosen.iter().zip(awaited) {
-        check_candidate(rt, row, candidate, one);
+        check_candidate(rt, alloc, row, candidate, one)?;
     }
+    Ok(())
 }
 
 const BY_COUNT: Sort = Sort {
@@ -403,17 +413,63 @@ const ROWS: &[Row] = &[
     },
 ];
 
+// Whether each shard lists what is awaited of it.
+fn check_lists(
+    rt: &impl Abort,
+    alloc: Global,
+    at: usize,
+    request: &Request,
+    messages: &[(u32, Message)],
+    lists: &[&[Bucket]],
+) -> Result<(), Fail>
+    requires { AsksTerms request.now }
+{
+    let node = only(rt, request);
+    assert!(rt; messages.len() == lists.len());
+    for ((_, message), listed) in messages.iter().zip(lists) {
+        check(
+            rt,
+            alloc,
+            at,
+            &part(rt, request, node, message).buckets,
+            listed,
+        )?;
+    }
+    Ok(())
+}
+
+// Whether each shard lists what is awaited of it, and what is awaited is chosen of the lists.
+fn check_told(
+    rt: &impl Abort,
+    alloc: Global,
+    at: usize,
+    request: &Request,
+    row: &Row,
+    messages: &[(u32, Message)],
+) -> Result<(), Fail>
+    requires { AsksTerms request.now }
+{
+    check_lists(rt, alloc, at, request, messages, row.lists)?;
+    let chosen = chosen(rt, alloc, request, messages)?;
+    check_chosen(rt, alloc, at, &chosen, row.chosen)
+}
+
+fn check_asked(
+    rt: &impl Abort,
+    alloc: Global,
+    at: usize,
+    request: &Request,
+    row: &Row,
+) -> Result<(), Fail>
+    requires { AsksTerms request.now }
+{
+    let messages = messages(rt, alloc, request, row.shards)?;
+    check_told(rt, alloc, at, request, row, &messages)
+}
+
 fn check_row(rt: &impl Abort, alloc: Global, at: usize, row: &Row) -> Result<(), Fail> {
     let request = request(alloc, row.asked)?;
-    let node = only(rt, &request);
-    let messages = messages(rt, alloc, &request, row.shards)?;
-    assert_eq!(rt; messages.len(), row.lists.len());
-    for ((_, message), listed) in messages.iter().zip(row.lists) {
-        check(rt, at, &part(rt, &request, node, message).buckets, listed);
-    }
-    let chosen = gather(rt, alloc, &request, &messages)?.chosen()?;
-    check_chosen(rt, at, &chosen, row.chosen);
-    Ok(())
+    check_asked(rt, alloc, at, &request, row)
 }
 
 #[test]

@@ -1,8 +1,14 @@
 // Many shards, and shards in every order.
+ghost use Rattle.fc_refine_checks.specs.Asked.{AsksTerms};
+
 use super::build::{Asked, Bucket, request};
-use super::gather::{gather, message, messages};
+use super::gather::{chosen, message, messages};
 use super::rows::{Chosen, ONE, check_candidate, check_chosen};
+use fc_partial::Message;
+use fc_refine::Candidate;
+use fc_request::Request;
 use std::alloc::Global;
+use std::process::Abort;
 use std::test::Fail;
 
 // The value that this shard alone has: of two digits, so that they stand in the order of the shards.
@@ -11,36 +17,81 @@ fn value_of(alloc: Global, shard: u32) -> Result<String, Fail> {
     Ok(format!(in alloc; "v{number}")?)
 }
 
+// What the shard tells that has a value of its own, and one in common with all.
+fn own_message(
+    rt: &impl Abort,
+    alloc: Global,
+    request: &Request,
+    shard: u32,
+) -> Result<Message, Fail>
+    requires { AsksTerms request.now }
+{
+    let own = value_of(alloc, shard)?;
+    let has = [("all", 2, -1, Some(-1)), (own.as_str(), 1, 1, None)];
+    message(rt, alloc, request, &has)
+}
+
+fn own_messages(
+    rt: &impl Abort,
+    alloc: Global,
+    request: &Request,
+) -> Result<Vec<(u32, Message)>, Fail>
+    requires { AsksTerms request.now }
+{
+    let mut messages = Vec::new(alloc);
+    for shard in 0..64 {
+        messages.push((shard, own_message(rt, alloc, request, shard)?))?;
+    }
+    Ok(messages)
+}
+
+fn chosen_of_own(rt: &impl Abort, alloc: Global, request: &Request) -> Result<Vec<Candidate>, Fail>
+    requires { AsksTerms request.now }
+{
+    let messages = own_messages(rt, alloc, request)?;
+    chosen(rt, alloc, request, &messages)
+}
+
+fn chosen_of_many(rt: &impl Abort, alloc: Global) -> Result<Vec<Candidate>, Fail> {
+    let asked = Asked {
+        limit: Some(2),
+        ..ONE
+    };
+    let request = request(alloc, asked)?;
+    chosen_of_own(rt, alloc, &request)
+}
+
+fn all_shards(alloc: Global) -> Result<Vec<u32>, Fail> {
+    let mut shards = Vec::new(alloc);
+    for shard in 0..64 {
+        shards.push(shard)?;
+    }
+    Ok(shards)
+}
+
+fn check_alone(
+    rt: &impl Abort,
+    alloc: Global,
+    shard: u32,
+    candidate: &Candidate,
+) -> Result<(), Fail> {
+    let own = value_of(alloc, shard)?;
+    let own_shard = [shard];
+    let alone = ((own.as_str(), 1, 1, None), own_shard.as_slice());
+    check_candidate(rt, alloc, 1, candidate, &alone)
+}
+
 // 64 shards, each with a value of its own and one in common.
 #[test]
 fn many(rt: HostRuntime) -> Result<(), Fail> {
     let alloc = rt.alloc();
-    let request = request(
-        alloc,
-        Asked {
-            limit: Some(2),
-            ..ONE
-        },
-    )?;
-    let mut messages = Vec::new(alloc);
-    let mut shards = Vec::new(alloc);
-    for shard in 0..64 {
-        let own = value_of(alloc, shard)?;
-        let has = [("all", 2, -1, Some(-1)), (own.as_str(), 1, 1, None)];
-        messages.push((shard, message(&rt, alloc, &request, &has)?))?;
-        shards.push(shard)?;
-    }
-    let chosen = gather(&rt, alloc, &request, &messages)?.chosen()?;
-    assert_eq!(rt; chosen.len(), 65);
-    check_candidate(
-        &rt,
-        0,
-        &chosen[0],
-        &(("all", 128, -64, Some(-1)), shards.as_slice()),
-    );
+    let chosen = chosen_of_many(&rt, alloc)?;
+    assert!(rt; chosen.len() == 65);
+    let shards = all_shards(alloc)?;
+    let all = (("all", 128, -64, Some(-1)), shards.as_slice());
+    check_candidate(&rt, alloc, 0, &chosen[0], &all)?;
     for (shard, candidate) in shards.iter().zip(&chosen[1..]) {
-        let own = value_of(alloc, *shard)?;
-        check_candidate(&rt, 1, candidate, &((own.as_str(), 1, 1, None), &[*shard]));
+        check_alone(&rt, alloc, *shard, candidate)?;
     }
     Ok(())
 }
@@ -67,16 +118,29 @@ const ORDERS: [(usize, usize, usize); 6] = [
     (2, 1, 0),
 ];
 
+fn check_order(
+    rt: &impl Abort,
+    alloc: Global,
+    row: usize,
+    request: &Request,
+    order: (usize, usize, usize),
+) -> Result<(), Fail>
+    requires { AsksTerms request.now }
+{
+    let (a, b, c) = order;
+    assert!(rt; a < 3 && b < 3 && c < 3);
+    let shards = [SHARDS[a], SHARDS[b], SHARDS[c]];
+    let messages = messages(rt, alloc, request, &shards)?;
+    let chosen = chosen(rt, alloc, request, &messages)?;
+    check_chosen(rt, alloc, row, &chosen, CHOSEN)
+}
+
 #[test]
 fn orders(rt: HostRuntime) -> Result<(), Fail> {
     let alloc = rt.alloc();
     let request = request(alloc, Asked { limit: None, ..ONE })?;
-    for (row, (a, b, c)) in ORDERS.iter().enumerate() {
-        assert!(rt; *a < 3 && *b < 3 && *c < 3);
-        let shards = [SHARDS[*a], SHARDS[*b], SHARDS[*c]];
-        let messages = messages(&rt, alloc, &request, &shards)?;
-        let chosen = gather(&rt, alloc, &request, &messages)?.chosen()?;
-        check_chosen(&rt, row, &chosen, CHOSEN);
+    for (row, order) in ORDERS.iter().enumerate() {
+        check_order(&rt, alloc, row, &request, *order)?;
     }
     Ok(())
 }
