@@ -3,6 +3,8 @@ pub mod AskedAgain
 pub mod OwnLimits
 pub mod SeatTurns
 pub mod SeatLists
+pub mod Untold
+pub mod WaitingSeats
 pub mod Begun
 pub mod Told
 pub mod Replied

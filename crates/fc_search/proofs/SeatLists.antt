@@ -1,9 +1,8 @@
 -- Seats in a list.
-use Rattle.std.proofs.Common.{◌≡◌, ℕ, ◌+◌, ◌<◌, List, [], ◌∷◌, ◌++◌, append_assoc, append-nil, map, length, drop, take, get_or, All, true, false, Option, Some, is_some, sum_by, sym, ◌∙◌, ap, arith}
-use Rattle.std.specs.Prelude.{slice_get, slice_set}
+use Rattle.std.proofs.Common.{◌≡◌, ℕ, ◌+◌, ◌<◌, List, [], ◌∷◌, ◌++◌, append_assoc, append-nil, map, length, drop, take, All, true, false, Option, Some, is_some, sym, ◌∙◌, ap, arith}
+use Rattle.std.specs.Prelude.{slice_get}
 use Rattle.std.proofs.lemmas.List.{drop_all, length-map, map-append}
 use Rattle.std.proofs.Math.Seq.{take-length}
-use Rattle.std.proofs.lemmas.List.Sums.{sum_by-set}
 use Rattle.fc_spec.specs.documents.Document.{Block}
 use Rattle.fc_spec.specs.documents.World.{World}
 use Rattle.fc_spec.specs.requests.Request as definition
@@ -16,7 +15,7 @@ use Rattle.fc_coord.specs.State.{ask_at}
 use Rattle.fc_phase.specs.Futures.{IsBegun}
 use Rattle.fc_phase.specs.Phases.{Phase, answer_of}
 use Rattle.fc_search.specs.Hearing.{ShardAnswer, answers_from}
-use Rattle.fc_search.specs.Seats.{HasTold, IsSat, phase_in, seat_answer, units_left}
+use Rattle.fc_search.specs.Seats.{HasTold, IsSat, phase_in, seat_answer}
 use Rattle.fc_search.specs.declared.seat.Seat.{Seat}
 use Rattle.fc_search.proofs.Awaited.{next_answer, no_answer}
 
@@ -47,13 +46,6 @@ seats_whole r W asks i seats all whole was =
     sym (append-nil (map seat_answer seats)) ∙ ap (λ others. map seat_answer seats ++ answers_from r W i others) (sym (drop_all i asks (omega (arith, whole)))) ∙ was
 
 -- ---- their turns
-
--- a seat that has fewer units left: all of them have
-pub fewer_in_all : {B : Type 0} {Q : B → Type 0} (seats : List (Seat B Q)) (i : ℕ) (before after d : Seat B Q) → i < length seats → before ≡ get_or seats i d → units_left after < units_left before → sum_by units_left (slice_set seats i after) < sum_by units_left seats
-fewer_in_all seats i before after d there is fewer =
-    let whole = sum_by-set units_left seats i after d there in
-    let own = ap units_left is in
-    omega (arith, whole, own, fewer)
 
 -- where no seat waits each has its message
 pub all_told : {B : Type 0} {Q : B → Type 0} (seats : List (Seat B Q)) → All IsSat seats → All (λ seat. is_some seat.message ≡ true) seats → All HasTold seats

@@ -15,14 +15,14 @@ same_answer : {B : Type 0} {Q : B → Type 0} (before after : Seat B Q) → afte
 same_answer before after shard answer = λ j. record { shard = shard j; message = answer j }
 
 -- one unit more is done of the same units
-fewer_left : (before after : Phase) → units_of after ≡ units_of before → after.done ≡ before.done + 1 → before.done < units_of before → units_of after - after.done < units_of before - before.done
-fewer_left before after units done less = omega (arith, units, done, less)
+one_less : (before after : Phase) → units_of after ≡ units_of before → after.done ≡ before.done + 1 → before.done < units_of before → units_of after - after.done + 1 ≡ units_of before - before.done
+one_less before after units done less = omega (arith, units, done, less)
 
 -- more is to do
 turned_pending : {B : Type 0} {Q : B → Type 0} (before after : Seat B Q) → after.shard ≡ before.shard → after.message ≡ before.message → Waits before → (phase_in before).spent ≡ false → TurnsTo (phase_in before) (phase_in after) Pending → IsTurned before after
 turned_pending before after shard message waits fresh (room, is, left) = record {
   answer = same_answer before after shard (ap answer_of is);
-  fewer = fewer_left (phase_in before) (phase_in after) (ap units_of is) (ap (λ (p : Phase). p.done) is) (omega (arith, room));
+  one = one_less (phase_in before) (phase_in after) (ap units_of is) (ap (λ (p : Phase). p.done) is) (omega (arith, room));
   sat = record {
     waits = λ w. ap (λ (p : Phase). p.spent) is ∙ fresh;
     told = λ there. absurd (false≢true (sym waits ∙ ap is_some (sym message) ∙ there));
@@ -33,7 +33,7 @@ turned_pending before after shard message waits fresh (room, is, left) = record 
 turned_done : {B : Type 0} {Q : B → Type 0} (before after : Seat B Q) (m : Message) → after.shard ≡ before.shard → after.message ≡ Some m → TurnsTo (phase_in before) (phase_in after) (Done m) → IsTurned before after
 turned_done before after m shard message (answer, last, is, left) = record {
   answer = same_answer before after shard (ap answer_of is);
-  fewer = fewer_left (phase_in before) (phase_in after) (ap units_of is) (ap (λ (p : Phase). p.done) is) (omega (arith, last));
+  one = one_less (phase_in before) (phase_in after) (ap units_of is) (ap (λ (p : Phase). p.done) is) (omega (arith, last));
   sat = record {
     waits = λ w. absurd (false≢true (sym w ∙ ap is_some message));
     told = λ there. ap (option_map message_view) message ∙ ap Some (answer ∙ sym (ap answer_of is));

@@ -5,26 +5,26 @@ use Rattle.std.specs.List.{AllByRecursion, list_any}
 use Rattle.std.proofs.lemmas.Bool.{false≢true}
 use Rattle.fc_spec.specs.words.Lists.{numbers_below}
 use Rattle.fc_spec.specs.documents.World.{World}
-use Rattle.fc_spec.specs.requests.Request.{Nodes, Request}
-use Rattle.fc_spec.specs.messages.Message.{Partials, Ask, first, more}
+use Rattle.fc_spec.specs.requests.Request.{Request}
+use Rattle.fc_spec.specs.messages.Message.{Partials, Ask}
 use Rattle.fc_spec.specs.messages.MessageShape.{is_shaped}
 use Rattle.fc_spec.specs.messages.Held.{Told, told_by}
 use Rattle.fc_spec.specs.messages.Lacks.{Lack}
 use Rattle.fc_spec.specs.messages.Rounds.{SentMessage, told_in, wants_of}
-use Rattle.fc_spec.specs.laws.LacksLaws.{AreOfOthers, TellOnce}
+use Rattle.fc_spec.specs.laws.LacksLaws.{TellOnce}
 use Rattle.fc_spec.specs.laws.Merging.{IsAnswer}
 use Rattle.fc_spec.specs.laws.SumsLaw.{SumsFit}
 use Rattle.fc_spec.specs.scripts.WorldLimits.{IsWithinLimits}
 use Rattle.fc_spec.proofs.messages.HeldFurther.{all_append}
 use Rattle.fc_spec.proofs.messages.RoundComplete.{told_in-append}
 use Rattle.fc_coord.specs.State.{State, ask_at, ask_for, begun, goes_on, heard, is_awaited, is_fitting, is_shaped_for, lacks_next, taken, told_for, told_of}
-use Rattle.fc_coord.specs.Keeps.{Begins, Keeps, Round, ask_in, lacking_at, roots}
+use Rattle.fc_coord.specs.Keeps.{Keeps}
 use Rattle.fc_coord.proofs.AskLists.{not_ready}
 use Rattle.fc_coord.proofs.Beginning.{length-asks_for}
-use Rattle.fc_coord.proofs.Hearing.{asks_name_keys, fits_is_exact, heard_keeps, length-heard}
+use Rattle.fc_coord.proofs.Hearing.{asks_name_keys, fits_is_exact, heard_keeps, length-heard, once_told}
 use Rattle.fc_coord.proofs.Kept.{waits}
-use Rattle.fc_told.specs.Named as named
-use Rattle.fc_phase.specs.Asked.{NamesKeys, asked_count}
+use Rattle.fc_refine.specs.Named.{NamesKeys}
+use Rattle.fc_phase.specs.Asked.{asked_count}
 use Rattle.fc_search.specs.Hearing.{IsHearing, ShardAnswer, WasTold, answers_from, awaited_answers, rounds_left}
 use Rattle.fc_search.specs.SearchLaws.{AreTellingLaws}
 use Rattle.fc_search.proofs.AskedAgain.{kept_asked, made_asked, round_asks, some_wanted}
@@ -35,18 +35,6 @@ use Rattle.fc_search.proofs.Begun.{fewer_begun}
 abbrev pub IsInRound : Request → World → ℕ → State → List ShardAnswer → Type 0
 IsInRound r W left s [] = rounds_left s < left
 IsInRound r W left s (a ∷ rest) = (awaited_answers r W s ≡ a ∷ rest) × (rounds_left s ≡ left)
-
--- ---- no shard tells a bucket twice
-
-once_in_round : (laws : AreTellingLaws) (r : Request) (n : ℕ) (before here : List Told) (round : Round) (i : ℕ) (m : Partials) → TellOnce (before ++ here) → Begins r n before round → AreOfOthers i here
-    → TellOnce ((before ++ here) ++ told_by r.nodes i (ask_in r n before round i) m)
-once_in_round laws r n before here roots i m once begins others = (laws.first_once r.nodes (before ++ here) i m once (subst (λ B. AreOfOthers i (B ++ here)) (sym begins) others)).0
-once_in_round laws r n before here (lacking_at e) i m once begins others = (laws.rounds_once r n before here e i m once begins.0 others).0
-
-once_told : (laws : AreTellingLaws) (s : State) (A : List Told) (i : ℕ) (ask : Ask) (m : Partials) → Keeps s A → ask_at s.asks i ≡ Some ask → TellOnce (A ++ told_by s.request.nodes i ask m)
-once_told laws s A i ask m k at =
-    let a = k.asked i ask at in
-    subst TellOnce (λ j. (sym k.told j) ++ told_by s.request.nodes i (sym a.own j) m) (once_in_round laws s.request (length s.asks) k.before k.here k.asking i m (subst TellOnce k.told k.once) k.begins a.untold)
 
 -- ---- the message that is told next
 
@@ -76,7 +64,7 @@ module _ (laws : AreTellingLaws) (r : Request) (W : World) (limits : IsWithinLim
   told_is = told_in-append r.nodes sent (one ∷ []) ∙ ap (λ T. A ++ T) (append-nil (told_by r.nodes a.shard next.ask a.message) ∙ sym own)
 
   once : TellOnce (A ++ told_of s a.shard a.message)
-  once = subst (λ T. TellOnce (A ++ T)) (sym (ap (λ o. told_for s.request.nodes a.shard o a.message) at)) (once_told laws s A a.shard next.ask a.message told.kept at)
+  once = subst (λ T. TellOnce (A ++ T)) (sym (ap (λ o. told_for s.request.nodes a.shard o a.message) at)) (once_told s A a.shard a.message told.kept next.ask at)
 
   sums : SumsFit (A ++ told_of s a.shard a.message)
   sums = subst SumsFit told_is (laws.fit r W (sent ++ one ∷ []) limits answers (subst TellOnce (sym told_is) once))
@@ -203,13 +191,9 @@ told_then laws r W limits left s new a rest i m (sent, told, here) shard message
 
 -- ---- what is asked
 
-phase_names : (nodes : Nodes) (ask : Ask) → named.NamesKeys nodes ask → NamesKeys nodes ask
-phase_names nodes first names = names
-phase_names nodes (more wants) names = names
-
 -- whoever is awaited is asked for buckets that are there, one at least
 pub asked_well : (r : Request) (W : World) (s : State) (i : ℕ) (ask : Ask) → IsHearing r W s → ask_at s.asks i ≡ Some ask → (0 < asked_count ask) × NamesKeys r.nodes ask
-asked_well r W s i ask (sent, told) at = (told.asks i ask at, subst (λ (x : Request). NamesKeys x.nodes ask) told.request (phase_names s.request.nodes ask (asks_name_keys s (told_in r.nodes sent) i ask told.kept at)))
+asked_well r W s i ask (sent, told) at = (told.asks i ask at, subst (λ (x : Request). NamesKeys x.nodes ask) told.request (asks_name_keys s (told_in r.nodes sent) i ask told.kept at))
 
 -- there is an ask for each shard
 pub asks_there : (r : Request) (W : World) (s : State) → IsHearing r W s → length s.asks ≡ length W

@@ -3,3 +3,4 @@ pub mod Hearing
 pub mod Picks
 pub mod SearchLaws
 pub mod Seats
+pub mod Waiting

@@ -2,7 +2,6 @@
 use Rattle.fc_spec.specs.documents.Schema.{Schema}
 use Rattle.fc_spec.specs.requests.Request.{Request}
 use Rattle.fc_spec.specs.requests.ValidRequests.{IsValidRequest}
-use Rattle.fc_spec.specs.laws.LacksLaws.{FirstTellOnce, RoundsTellOnce}
 use Rattle.fc_spec.specs.laws.Merging.{MergesIntoReply}
 use Rattle.fc_spec.specs.laws.RefinedPaths.{AreRefinedPathsExact}
 use Rattle.fc_spec.specs.laws.RequestLaws.{ValidExcludeOutermost, ValidHaveFewDepths}
@@ -13,12 +12,10 @@ use Rattle.fc_spec.specs.laws.WithoutLimits.{IsSingleWithoutLimits}
 use Rattle.fc_refine.specs.CountableRanges.{AreCountable}
 use Rattle.fc_told.specs.Telling.{FitsExactly, TellsMore}
 
--- of answers that are told: they are their shards' own, have the right shape, and no bucket is told twice, so that they fit
+-- of answers that are told: they are their shards' own, have the right shape, and fit where no bucket is told twice
 pub record AreTellingLaws : Type 0 where
   pub alone : AnswersFromItsBlocks
   pub shaped : AnswersAreShaped
-  pub first_once : FirstTellOnce
-  pub rounds_once : RoundsTellOnce
   pub fit : AnswersFit
   pub more : TellsMore
   pub exact : FitsExactly

@@ -1,5 +1,5 @@
 -- The seats of a round.
-use Rattle.std.specs.Prelude.{◌≡◌, ℕ, ◌-◌, ◌<◌, List, length, false, true, Some, option_map, is_some, slice_index_or}
+use Rattle.std.specs.Prelude.{◌≡◌, ℕ, ◌+◌, ◌-◌, false, true, Some, option_map, is_some}
 use Rattle.fc_partial.specs.BucketView.{message_view}
 use Rattle.fc_phase.specs.Futures.{phase_of}
 use Rattle.fc_phase.specs.Phases.{Phase, answer_of, units_of}
@@ -30,13 +30,8 @@ pub record IsSat {B : Type 0} {Q : B → Type 0} (seat : Seat B Q) : Type 0 wher
   pub waits : Waits seat → (phase_in seat).spent ≡ false
   pub told : is_some seat.message ≡ true → HasTold seat
 
--- the seat at this place waits
-pub record WaitsAt {B : Type 0} {Q : B → Type 0} (seats : List (Seat B Q)) (place : ℕ) : Type 0 where
-  pub there : place < length seats
-  pub waits : (d : Seat B Q) → Waits (slice_index_or seats place d)
-
--- what a turn makes of a seat: the same answer comes of it, and fewer units are left
+-- what a turn makes of a seat: the same answer comes of it, and one unit less is left
 pub record IsTurned {B : Type 0} {Q : B → Type 0} (before after : Seat B Q) : Type 0 where
   pub answer : seat_answer after ≡ seat_answer before
-  pub fewer : units_left after < units_left before
+  pub one : units_left after + 1 ≡ units_left before
   pub sat : IsSat after

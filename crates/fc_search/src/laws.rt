@@ -3,9 +3,8 @@ ghost use Rattle.fc_search.specs.SearchLaws.{AreReplyLaws, AreTellingLaws};
 
 use fc_reading::valid_requests_are_countable;
 use fc_spec::{
-    answers_are_shaped, answers_fit, answers_merge, buckets_are_told_once, refined_paths_are_exact,
-    shards_answer_alone, valid_requests_exclude_outermost, valid_requests_have_few_rounds,
-    without_limits,
+    answers_are_shaped, answers_fit, answers_merge, refined_paths_are_exact, shards_answer_alone,
+    valid_requests_exclude_outermost, valid_requests_have_few_rounds, without_limits,
 };
 use fc_told::trees_tell;
 
@@ -15,7 +14,6 @@ pub(crate) fn telling_laws()
 {
     shards_answer_alone();
     answers_are_shaped();
-    buckets_are_told_once();
     answers_fit();
     trees_tell();
 }

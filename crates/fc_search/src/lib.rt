@@ -2,6 +2,7 @@
 //! answer.
 #![tactic(auto)]
 
+mod driving;
 mod laws;
 mod round;
 mod searching;

@@ -8,8 +8,9 @@ ghost use Rattle.fc_search.specs.Askable.{AreAskable, world_of};
 ghost use Rattle.fc_search.specs.Hearing.{IsHearing, rounds_left};
 
 use crate::Turns;
+use crate::driving::drive;
 use crate::laws::telling_laws;
-use crate::seats::{drive, seats_of};
+use crate::seats::seats_of;
 use fc_base::WantMemory;
 use fc_coord::Coord;
 use fc_kind::FacetKind;

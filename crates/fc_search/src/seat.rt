@@ -1,5 +1,5 @@
 // The future of a shard in a round, and its message.
-ghost use Rattle.std.specs.Prelude.{◌≡◌, OnOk, false, map};
+ghost use Rattle.std.specs.Prelude.{◌≡◌, IfOk, OnOk, false, is_some, map};
 ghost use Rattle.fc_kind.specs.Names.{Covers};
 ghost use Rattle.fc_partial.specs.BucketView.{message_view};
 ghost use Rattle.fc_phase.specs.Phases.{answer_of};
@@ -18,20 +18,21 @@ pub(crate) struct Seat<'a> {
 }
 
 impl Seat<'_> {
-    /// Its future does a turn.
-    pub(crate) fn turn(&mut self) -> Result<(), WantMemory>
+    /// Its future does a turn. Whether its message is there then.
+    pub(crate) fn turn(&mut self) -> Result<bool, WantMemory>
         requires covers { Covers (map (λ b. name (b.vtable, b.value)) self.old.future.kinds.now) }
         requires waits { Waits self.old }
         requires fresh { (phase_in self.old).spent ≡ false }
         ensures turned { OnOk result (IsTurned self.old self.new) }
+        ensures told { IfOk result (λ told. told ≡ is_some self.new.message) }
         ensures kinds { OnOk result (self.new.future.kinds.now ≡ self.old.future.kinds.now) }
     {
         let turn = self.future.turn()?;
         match turn {
-            Turn::Pending => Ok(()),
+            Turn::Pending => Ok(false),
             Turn::Done(message) => {
                 self.message = Some(message);
-                Ok(())
+                Ok(true)
             }
         }
     }

@@ -1,17 +1,17 @@
-// The seats of a round, and their turns.
-ghost use Rattle.std.specs.Prelude.{◌≡◌, ◌<◌, All, IfOk, OnOk, is_some, length, map, true, vec_len};
+// The seats of a round.
+ghost use Rattle.std.specs.Prelude.{◌≡◌, ◌<◌, All, IfOk, map};
 ghost use Rattle.std.specs.Arc.{arc_value};
 ghost use Rattle.fc_request.specs.RequestView.{request_view};
 ghost use Rattle.fc_refine.specs.AskView.{ask_view};
 ghost use Rattle.fc_coord.specs.CoordView.{state_view};
 ghost use Rattle.fc_kind.specs.Names.{Covers};
-ghost use Rattle.fc_phase.specs.Asked.{NamesKeys, asked_count};
+ghost use Rattle.fc_refine.specs.Named.{NamesKeys};
+ghost use Rattle.fc_phase.specs.Asked.{asked_count};
 ghost use Rattle.fc_phase.specs.Futures.{IsBegun, phase_of};
 ghost use Rattle.fc_search.specs.Askable.{AreAskable, IsAskable, world_of};
 ghost use Rattle.fc_search.specs.Hearing.{IsHearing, awaited_answers};
-ghost use Rattle.fc_search.specs.Seats.{HasTold, IsSat, WaitsAt, seat_answer};
+ghost use Rattle.fc_search.specs.Seats.{IsSat, seat_answer};
 
-use crate::Turns;
 use crate::laws::telling_laws;
 use crate::seat::Seat;
 use fc_base::WantMemory;
@@ -78,54 +78,4 @@ pub(crate) fn seats_of<'a>(
         })?;
     }
     Ok(seats)
-}
-
-// The places of the seats that wait.
-fn waiting(alloc: Global, seats: &[Seat<'_>]) -> Result<Vec<usize>, WantMemory>
-    ensures wait { IfOk result (λ places. All (WaitsAt seats.now) places.items) }
-    ensures none { IfOk result (λ places. vec_len places ≡ 0 → All (λ seat. is_some seat.message ≡ true) seats.now) }
-{
-    let mut places = Vec::with_capacity(alloc, seats.len())?;
-    for (place, seat) in seats.iter().enumerate() {
-        if seat.message.is_none() {
-            places.push(place)?;
-        }
-    }
-    Ok(places)
-}
-
-// The shards at these places.
-fn shards_at(alloc: Global, seats: &[Seat<'_>], places: &[usize]) -> Result<Vec<u32>, WantMemory>
-    requires { All (WaitsAt seats.now) places.now }
-    ensures { IfOk result (λ shards. length shards.items ≡ length places.now) }
-{
-    let mut shards = Vec::with_capacity(alloc, places.len())?;
-    for place in places {
-        shards.push(seats[*place].shard)?;
-    }
-    Ok(shards)
-}
-
-/// The futures do their turns, one at a time, as `turns` says, until each message is there. `turns` is asked once for
-/// each turn.
-pub(crate) fn drive<T: Turns>(
-    alloc: Global,
-    seats: &mut [Seat<'_>],
-    turns: &mut T,
-) -> Result<(), WantMemory>
-    requires covers { All (λ seat. Covers (map (λ b. name (b.vtable, b.value)) seat.future.kinds.now)) seats.old }
-    requires sat { All IsSat seats.old }
-    ensures told { OnOk result (All HasTold seats.new) }
-    ensures answers { OnOk result (map seat_answer seats.new ≡ map seat_answer seats.old) }
-{
-    loop {
-        let places = waiting(alloc, seats)?;
-        if places.is_empty() {
-            return Ok(());
-        }
-        let shards = shards_at(alloc, seats, &places)?;
-        let picked = turns.next(&shards);
-        let place = places[picked];
-        seats[place].turn()?;
-    }
 }
