@@ -5,7 +5,10 @@ mod complaint;
 
 use complaint::complaint;
 use fc_io::{StdSink, StdSource};
+use fc_kind::kinds_of;
+use fc_range::{QueryKind, RangeKind};
 use fc_run::{Status, run};
+use fc_terms::TermsKind;
 use std::alloc::Global;
 use std::io;
 use std::process::ExitCode;
@@ -18,14 +21,27 @@ fn words_of(rt: &HostRuntime) -> io::Result<Vec<String>> {
     Ok(words)
 }
 
-/// Words that can't be had end as want of memory does.
+/// Words and kinds that can't be had end as want of memory does.
 fn run_program(rt: &HostRuntime) -> Status {
+    let alloc = rt.alloc();
     let Ok(words) = words_of(rt) else {
+        return Status::Memory;
+    };
+    let Ok(terms) = Box::new(alloc, TermsKind) else {
+        return Status::Memory;
+    };
+    let Ok(range) = Box::new(alloc, RangeKind) else {
+        return Status::Memory;
+    };
+    let Ok(query) = Box::new(alloc, QueryKind) else {
+        return Status::Memory;
+    };
+    let Ok(kinds) = kinds_of(alloc, terms, range, query) else {
         return Status::Memory;
     };
     let mut source = StdSource::new(rt.reader());
     let mut sink = StdSink::new(io::writer(rt));
-    run(rt.alloc(), &words, &mut source, &mut sink)
+    run(alloc, &words, &mut source, &mut sink, &kinds)
 }
 
 fn main(rt: HostRuntime) -> ExitCode {

@@ -1,6 +1,13 @@
 pub mod PartsText
 pub mod ScriptText
-pub mod Answerable
+pub mod Rising
+pub mod Limits
+pub mod Runs
+pub mod BatchSteps
+pub mod Commits
+pub mod Carried
+pub mod NextShard
+pub mod NumberedGenerations
+pub mod PhaseSteps
 pub mod Printed
 pub mod Leaving
-pub mod WorldSteps

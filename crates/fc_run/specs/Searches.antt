@@ -1,5 +1,5 @@
--- What the searches of a script that was read write, and what is asked of them.
-use Rattle.std.specs.Prelude.{ℕ, ◌<◌, List, length, map, All, IfOk, Vec}
+-- What the searches of a script that was read write.
+use Rattle.std.specs.Prelude.{ℕ, List, map, Vec}
 use Rattle.std.specs.Arc.{arc_value}
 use Rattle.std.specs.List.{flat_map}
 use Rattle.std.specs.declared.alloc.Global.{Global}
@@ -9,13 +9,9 @@ use Rattle.fc_spec.specs.documents.Val.{Text}
 use Rattle.fc_spec.specs.documents.World.{World}
 use Rattle.fc_spec.specs.scripts.Outputs.{Replies}
 use Rattle.fc_spec.specs.scripts.PhaseEnds.{line_in}
-use Rattle.fc_spec.specs.scripts.WorldLimits.{IsWithinLimits}
 use Rattle.fc_docs.specs.declared.block.Batch.{Batch}
-use Rattle.fc_request.specs.RequestView.{request_view}
-use Rattle.fc_refine.specs.CountableRanges.{AreCountable}
 use Rattle.fc_lines.specs.LineView.{asked_view}
 use Rattle.fc_script.specs.PartsView.{batches_view, session_at}
-use Rattle.fc_script.specs.SoundScripts.{CutLists}
 use Rattle.fc_script.specs.declared.script.Phase.{Phase}
 use Rattle.fc_script.specs.declared.script.Search.{Search}
 use Rattle.fc_run.specs.Replies.{world_at}
@@ -37,14 +33,3 @@ search_lines reply W g sessions searches = flat_map (λ q. line_in reply W g (se
 -- the lines of a phase: its searches over its commits
 abbrev pub phase_lines : Replies → List (List documents.Batch) → (sessions : List Text) → Phase → Text
 phase_lines reply shards sessions p = search_lines reply (world_at shards p.commits.items) p.commits.items sessions p.searches.items
-
--- its session is one of so many, and the gaps of its request, where it has no fault, can be counted
-pub record IsAnswerable (sessions : ℕ) (q : Search) : Type 0 where
-  pub session : q.session < sessions
-  pub request : IfOk q.request (λ r. AreCountable (request_view r).nodes)
-
--- its numbers of commits are within the batches of their shards, and those are within the limits
-pub record IsAnswerablePhase (shards : List Shard) (sessions : List Text) (p : Phase) : Type 0 where
-  pub commits : CutLists (lists_in shards) p.commits.items
-  pub within : IsWithinLimits (world_at (shards_view shards) p.commits.items)
-  pub searches : All (IsAnswerable (length sessions)) p.searches.items

@@ -1,9 +1,10 @@
 // From the bytes of a script to the bytes of its answer.
-ghost use Rattle.std.specs.Prelude.{◌≡◌, ◌↔◌, ◌≤◌, false};
+ghost use Rattle.std.specs.Prelude.{◌≡◌, ◌↔◌, ◌≤◌, false, map};
 ghost use Rattle.std.specs.Io.KnownBytes.{IsAtEnd};
 ghost use Rattle.fc_spec.specs.scripts.AskedScripts.{asked_script};
 ghost use Rattle.fc_spec.specs.scripts.Outputs.{IsOutputBy};
 ghost use Rattle.fc_io.specs.Faults.{Rose};
+ghost use Rattle.fc_kind.specs.Names.{Covers};
 ghost use Rattle.fc_run.specs.Outcome.{single_without_limits, takes, Ends, IfDone, IsOneOutput, IsRefinedOutput, Leaves, OnDone, OnRead, OnUsage, OnWrite, WroteFor};
 ghost use Rattle.fc_run.specs.declared.status.Status.TheVariants.{Usage};
 
@@ -11,7 +12,9 @@ use crate::run_text::{RunText, run_text_of, too_long};
 use crate::status::Status;
 use fc_base::WantMemory;
 use fc_io::{AllRead, Sink, Source, WriteEnd, read_all, write_all};
+use fc_kind::FacetKind;
 use fc_script::SCRIPT_BYTES;
+use fc_search::RoundRobin;
 use std::alloc::Global;
 
 // Writes the answer, where there is one.
@@ -33,7 +36,8 @@ fn give<K: Sink>(sink: &mut K, answer: &Result<RunText, WantMemory>) -> Status
 
 /// Reads a script from `source` and writes its answer to `sink`: one line for each search, in script order, its reply
 /// or the error of its request; or the one line of the script's first fault, and then nothing else. `words` are those of
-/// the command; the first is the program's name. Exactly the lists of one word are taken.
+/// the command; the first is the program's name. Exactly the lists of one word are taken. `kinds` holds a kind of facet of
+/// each name.
 ///
 /// Every script is taken. Today each search uses the commits of each shard up to the end of its phase; the clauses
 /// promise legal generations, and which of them a search uses only where `one_output` leaves no choice.
@@ -45,7 +49,9 @@ pub fn run<S: Source, K: Sink>(
     words: &[String],
     source: &mut S,
     sink: &mut K,
+    kinds: &[Box<dyn FacetKind>],
 ) -> Status
+    requires covers { Covers (map name kinds.now) }
     ensures usage { (result ≡ Usage) ↔ (takes words.now ≡ false) }
     ensures unread { OnUsage result (S.left source.new ≡ S.left source.old) }
     ensures uncounted { OnUsage result (S.faults source.new ≡ S.faults source.old) }
@@ -70,7 +76,10 @@ pub fn run<S: Source, K: Sink>(
         return Status::Usage;
     }
     match read_all(alloc, source, SCRIPT_BYTES) {
-        Ok(AllRead::Bytes(bytes)) => give(sink, &run_text_of(alloc, bytes)),
+        Ok(AllRead::Bytes(bytes)) => {
+            let mut turns = RoundRobin::new();
+            give(sink, &run_text_of(alloc, bytes, kinds, &mut turns))
+        }
         Ok(AllRead::TooLong) => give(sink, &too_long(alloc)),
         Ok(AllRead::ReadFault) => Status::Read,
         Err(WantMemory) => Status::Memory,

@@ -2,10 +2,14 @@
 #![tactic(auto)]
 
 mod call;
+mod commits;
 mod laws;
 mod replies;
 mod run_text;
+mod shards;
 mod status;
+mod uncommitted;
 
 pub use call::run;
+pub use run_text::{RunText, run_text_of};
 pub use status::Status;

@@ -1,11 +1,10 @@
 -- What the parts of a script write is the text of its searches at the ends of their phases.
-use Rattle.std.proofs.Common.{◌≡◌, ℕ, suc, zero, ◌+◌, ◌<◌, ◌≤◌, List, [], ◌∷◌, ◌++◌, map, take, Bool, true, false, ◌==◌, count_by, slice_index, Ok, Err, refl, sym, ◌∙◌, ap, arith, zero-add}
+use Rattle.std.proofs.Common.{◌≡◌, ℕ, suc, zero, ◌+◌, ◌<◌, ◌≤◌, List, [], ◌∷◌, ◌++◌, map, take, Bool, true, false, ◌==◌, count_by, slice_index, refl, sym, ◌∙◌, ap, arith, zero-add}
 use Rattle.std.specs.List.{filter, flat_map, range_with_len}
 use Rattle.std.proofs.lemmas.Bool.{eqb-true}
 use Rattle.std.proofs.lemmas.List.Concat.{flat_map-append}
 use Rattle.std.proofs.lemmas.List.FromFn.{get_or-map-range_with_len}
 use Rattle.fc_spec.specs.documents.Document.{Batch}
-use Rattle.fc_spec.specs.documents.Val.{Text}
 use Rattle.fc_spec.specs.words.Lists.{joined, numbers_below}
 use Rattle.fc_spec.specs.scripts.AskedScripts.{Asked, AskedScript}
 use Rattle.fc_spec.specs.scripts.Outputs.{Replies}

@@ -1,5 +1,0 @@
-//! Tests that cross crates: whole runs and scripts.
-#![tactic(auto)]
-
-#[cfg(test)]
-mod tests;

@@ -1,0 +1,30 @@
+-- The generations of a shard, batch by batch.
+use Rattle.std.proofs.Common.{◌≡◌, ℕ, ◌+◌, ◌-◌, ◌<◌, ◌≤◌, List, ◌++◌, length, take, drop, get_or, flat_map, sym, ◌∙◌, ap, subst, arith, take-add}
+use Rattle.std.specs.Prelude.{All}
+use Rattle.std.proofs.lemmas.Grind.{flat_map-append}
+use Rattle.std.proofs.lemmas.List.{get_or-map, length-map, take-map}
+use Rattle.std.proofs.lemmas.List.Folds.{flat_map-map}
+use Rattle.fc_spec.specs.documents.Document as documents
+use Rattle.fc_spec.specs.words.Lists.{joined}
+use Rattle.fc_docs.specs.View.{batch_view}
+use Rattle.fc_docs.specs.declared.block.Batch.{Batch}
+use Rattle.fc_script.specs.PartsView.{batches_view}
+
+joined_views : (n : ℕ) (batches : List Batch) → joined (take n (batches_view batches)) ≡ flat_map batch_view (take n batches)
+joined_views n batches = ap joined (take-map batch_view n batches) ∙ flat_map-map (λ bs. bs) batch_view (take n batches)
+
+-- the blocks of the first batches, and then those of the batches up to a later number
+pub blocks_begin : (batches : List Batch) (from commits : ℕ) (blocks : List documents.Block) → from ≤ commits → blocks ≡ joined (take from (batches_view batches))
+    → blocks ++ flat_map batch_view (take (commits - from) (drop from batches)) ≡ joined (take commits (batches_view batches))
+blocks_begin batches from commits blocks below is =
+    let rest = take (commits - from) (drop from batches) in
+    let all : from + (commits - from) ≡ commits = omega arith in
+    ap (λ bs. bs ++ flat_map batch_view rest) (is ∙ joined_views from batches)
+    ∙ sym (flat_map-append batch_view (take from batches) rest)
+    ∙ ap (flat_map batch_view) (sym (take-add from (commits - from) batches) ∙ ap (λ n. take n batches) all)
+    ∙ sym (joined_views commits batches)
+
+-- what holds of all batches holds of one
+pub batch_valid : (P : documents.Batch → Type 0) (batches : List Batch) (i : ℕ) (b : Batch) → i < length batches → b ≡ get_or batches i b → All P (batches_view batches) → P (batch_view b)
+batch_valid P batches i b below is all =
+    subst P (get_or-map batch_view batches i b (batch_view b) below ∙ ap batch_view (sym is)) (all i (batch_view b) (let long = length-map batches batch_view in omega (arith, below, long)))

@@ -1,0 +1,121 @@
+-- The shards of a script, carried on from phase to phase.
+use Rattle.std.proofs.Common.{◌≡◌, ℕ, suc, ◌<◌, ◌≤◌, List, [], ◌∷◌, length, map, take, get_or, refl, sym, ◌∙◌, ap, subst, arith, Vec, Global}
+use Rattle.std.specs.Prelude.{All, slice_index}
+use Rattle.std.specs.Arc.{arc_value}
+use Rattle.std.specs.List.{zip}
+use Rattle.std.proofs.lemmas.List.{length-map}
+use Rattle.std.proofs.lemmas.Simd.{map-map}
+use Rattle.std.proofs.lemmas.List.Elements.{All-cons, All-head, All-nil, All-tail}
+use Rattle.fc_spec.specs.documents.Schema.{Schema}
+use Rattle.fc_spec.specs.documents.Totals.{document_total, documents_in}
+use Rattle.fc_spec.specs.scripts.WorldLimits.{IsWithinLimits}
+use Rattle.fc_spec.specs.words.Lists.{joined}
+use Rattle.fc_spec.proofs.documents.BlockTotals.{document_total-append}
+use Rattle.fc_docs.specs.declared.block.Batch.{Batch}
+use Rattle.fc_script.specs.PartsView.{batches_view}
+use Rattle.fc_script.specs.SoundScripts.{CutLists}
+use Rattle.fc_run.specs.Generations.{AreCommittable, IsCommittable, generations_at}
+use Rattle.fc_run.specs.Replies.{world_at}
+use Rattle.fc_run.specs.Searches.{lists_in, shards_view, Shard}
+use Rattle.fc_run.specs.Progress.{CanCarry, CanCarryAll, Progress, all_carried, all_progress_at, progress_at, progress_of}
+use Rattle.fc_run.specs.declared.commits.Committed.{Committed}
+use Rattle.fc_run.proofs.scripts.Commits.{Fits, can_carry, carried_is, few_documents}
+
+-- shard by shard
+abbrev pub AllFit : Schema → List (List Batch) → List ℕ → Type 0
+AllFit s [] numbers = Unit {0}
+AllFit s (l ∷ lists) [] = Unit {0}
+AllFit s (l ∷ lists) (n ∷ numbers) = Fits s l n × AllFit s lists numbers
+
+fit_below : (s : Schema) (shards : List Shard) (commits : List ℕ) → All (IsCommittable s) (shards_view shards)
+    → ((i : ℕ) → i < length (lists_in shards) → slice_index commits i ≤ length (get_or (lists_in shards) i []))
+    → document_total (joined (world_at (shards_view shards) commits)) ≤ 1_048_576 → AllFit s (lists_in shards) commits
+fit_below s [] commits valid cut few = tt
+fit_below s (shard ∷ shards) [] valid cut few = tt
+fit_below s (shard ∷ shards) (n ∷ commits) valid cut few =
+    let batches = (arc_value {X = Vec Batch Global} shard).items in
+    let both = document_total-append (joined (take n (batches_view batches))) (joined (world_at (shards_view shards) commits)) in (
+      record { shard = All-head (IsCommittable s) (batches_view batches) (shards_view shards) valid; there = cut 0 (omega arith); few = omega (arith, both, few) },
+      fit_below s shards commits (All-tail (IsCommittable s) (batches_view batches) (shards_view shards) valid) (λ i below. cut (suc i) (omega (arith, below))) (omega (arith, both, few)),
+    )
+
+pub all_fit : (s : Schema) (shards : List Shard) (commits : List ℕ) → AreCommittable s (shards_view shards) → CutLists (lists_in shards) commits → IsWithinLimits (world_at (shards_view shards) commits)
+    → AllFit s (lists_in shards) commits
+all_fit s shards commits valid cut within = fit_below s shards commits valid cut.each (few_documents (documents_in (joined (world_at (shards_view shards) commits))) within.few)
+
+-- none of the numbers is above that of the other list at its place
+abbrev pub Below : List ℕ → List ℕ → Type 0
+Below before commits = (i : ℕ) → slice_index before i ≤ slice_index commits i
+
+pub can_carry_all : (s : Schema) (lists : List (List Batch)) (before commits : List ℕ) → AllFit s lists commits → Below before commits → CanCarryAll (all_progress_at s lists before) commits
+can_carry_all s [] before commits fit below = All-nil (λ x. CanCarry x.0 x.1)
+can_carry_all s (l ∷ lists) [] commits fit below = All-nil (λ x. CanCarry x.0 x.1)
+can_carry_all s (l ∷ lists) (m ∷ before) [] fit below = All-nil (λ x. CanCarry x.0 x.1)
+can_carry_all s (l ∷ lists) (m ∷ before) (n ∷ commits) fit below =
+    All-cons (λ x. CanCarry x.0 x.1) (progress_at s l m, n) (zip (all_progress_at s lists before) commits)
+    (can_carry s l m n (below 0) fit.0)
+    (can_carry_all s lists before commits fit.1 (λ i. below (suc i)))
+
+pub all_carried_is : (s : Schema) (lists : List (List Batch)) (before commits : List ℕ) → AllFit s lists commits → Below before commits → length before ≡ length lists
+    → all_carried (all_progress_at s lists before) commits ≡ all_progress_at s lists commits
+all_carried_is s [] before commits fit below same = refl
+all_carried_is s (l ∷ lists) [] commits fit below same = absurd (omega arith)
+all_carried_is s (l ∷ lists) (m ∷ before) [] fit below same = refl
+all_carried_is s (l ∷ lists) (m ∷ before) (n ∷ commits) fit below same =
+    (λ i. carried_is s l m n (below 0) fit.0 i ∷ all_carried_is s lists before commits fit.1 (λ k. below (suc k)) (omega (arith, same)) i)
+
+-- what they are
+pub progress_count : (s : Schema) (lists : List (List Batch)) (numbers : List ℕ) → length numbers ≡ length lists → length (all_progress_at s lists numbers) ≡ length lists
+progress_count s [] numbers same = refl
+progress_count s (l ∷ lists) [] same = absurd (omega arith)
+progress_count s (l ∷ lists) (n ∷ numbers) same = ap (λ k. suc k) (progress_count s lists numbers (omega (arith, same)))
+
+pub progress_generations : (s : Schema) (shards : List Shard) (numbers : List ℕ) → map (λ (p : Progress). p.generation) (all_progress_at s (lists_in shards) numbers) ≡ generations_at s (shards_view shards) numbers
+progress_generations s [] numbers = refl
+progress_generations s (shard ∷ shards) [] = refl
+progress_generations s (shard ∷ shards) (n ∷ numbers) =
+    ap (λ rest. (progress_at s (arc_value {X = Vec Batch Global} shard).items n).generation ∷ rest) (progress_generations s shards numbers)
+
+pub progress_numbers : (s : Schema) (lists : List (List Batch)) (numbers : List ℕ) → length numbers ≡ length lists → map (λ (p : Progress). p.generation.number) (all_progress_at s lists numbers) ≡ numbers
+progress_numbers s [] [] same = refl
+progress_numbers s [] (n ∷ numbers) same = absurd (omega arith)
+progress_numbers s (l ∷ lists) [] same = absurd (omega arith)
+progress_numbers s (l ∷ lists) (n ∷ numbers) same = ap (λ rest. n ∷ rest) (progress_numbers s lists numbers (omega (arith, same)))
+
+-- the shards of a phase, each with its number of commits
+pub record PhaseShards (s : Schema) (shards : List Shard) (own : List Committed) (commits : List ℕ) : Type 0 where
+  pub are : map progress_of own ≡ all_progress_at s (lists_in shards) commits
+  pub count : length own ≡ length shards
+  pub numbers : map (λ c. (progress_of c).generation.number) own ≡ commits
+  pub generations : map (λ c. (progress_of c).generation) own ≡ generations_at s (shards_view shards) commits
+
+pub phase_shards : (s : Schema) (shards : List Shard) (own : List Committed) (commits : List ℕ) → map progress_of own ≡ all_progress_at s (lists_in shards) commits → length commits ≡ length shards
+    → PhaseShards s shards own commits
+phase_shards s shards own commits are same = record {
+  are = are;
+  count = sym (length-map own progress_of) ∙ ap length are ∙ progress_count s (lists_in shards) commits lists ∙ length-map shards items;
+  numbers = sym (map-map (λ (p : Progress). p.generation.number) progress_of own) ∙ ap (map (λ (p : Progress). p.generation.number)) are ∙ progress_numbers s (lists_in shards) commits lists;
+  generations = sym (map-map (λ (p : Progress). p.generation) progress_of own) ∙ ap (map (λ (p : Progress). p.generation)) are ∙ progress_generations s shards commits;
+}
+  where
+    items : Shard → List Batch
+    items x = (arc_value {X = Vec Batch Global} x).items
+
+    lists : length commits ≡ length (lists_in shards)
+    lists = same ∙ sym (length-map shards items)
+
+-- from the shards of the phase before
+module _ (s : Schema) (shards : List Shard) (own : List Committed) (before asked commits : List ℕ) (are : map progress_of own ≡ all_progress_at s (lists_in shards) before)
+    (same : length before ≡ length shards) (fit : AllFit s (lists_in shards) commits) (below : Below before commits) (is : asked ≡ commits) where
+  pub later_can : CanCarryAll (map progress_of own) asked
+  later_can = subst (CanCarryAll (map progress_of own)) (sym is) (subst (λ ps. CanCarryAll ps commits) (sym are) (can_carry_all s (lists_in shards) before commits fit below))
+
+  pub later_are : (after : List Committed) → map progress_of after ≡ all_carried (map progress_of own) asked → length commits ≡ length shards → PhaseShards s shards after commits
+  later_are after made count =
+      phase_shards s shards after commits
+      (
+      made
+      ∙ (λ i. all_carried (are i) (is i))
+      ∙ all_carried_is s (lists_in shards) before commits fit below (same ∙ sym (length-map shards (λ x. (arc_value {X = Vec Batch Global} x).items)))
+      )
+      count

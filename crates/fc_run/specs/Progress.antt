@@ -1,0 +1,65 @@
+-- Commits of a shard's batches, and what is left of them.
+use Rattle.std.specs.Prelude.{ℕ, ◌+◌, ◌-◌, ◌≤◌, List, ◌++◌, length, map, take, drop, All, Vec}
+use Rattle.std.specs.Arc.{arc_value}
+use Rattle.std.specs.List.{zip}
+use Rattle.std.specs.declared.alloc.Global.{Global}
+use Rattle.fc_spec.specs.documents.Schema.{Schema}
+use Rattle.fc_spec.specs.words.Lists.{joined}
+use Rattle.fc_docs.specs.declared.block.Batch.{Batch}
+use Rattle.fc_script.specs.PartsView.{batches_view}
+use Rattle.fc_store.specs.Charters.{IsBatchOf}
+use Rattle.fc_store.specs.Generated.{Generated}
+use Rattle.fc_store.specs.declared.generation.Generation.{Generation}
+use Rattle.fc_run.specs.Generations.{generation_at}
+use Rattle.fc_run.specs.declared.commits.Committed.{Committed}
+use Rattle.fc_run.specs.declared.uncommitted.Uncommitted.{Uncommitted}
+use Rattle.fc_run.specs.declared.uncommitted.Uncommitted.TheVariants.{Own, Shared}
+
+-- the generation after a commit of each of the batches
+abbrev pub generation_after : Generated → List Batch → Generated
+generation_after g batches = record { schema = g.schema; number = g.number + length batches; blocks = g.blocks ++ joined (batches_view batches) }
+
+-- the batches of a shard that are not committed yet
+abbrev pub left_of : Uncommitted → List Batch
+left_of (Own batches) = batches.items
+left_of (Shared batches committed) = drop committed (arc_value {X = Vec Batch Global} batches).items
+
+-- a shard between two commits: its generation, and the batches that are left
+pub record Progress : Type 0 where
+  pub generation : Generated
+  pub left : List Batch
+
+abbrev pub progress_of : Committed → Progress
+progress_of c = record { generation = arc_value {X = Generation} c.generation; left = left_of c.uncommitted }
+
+-- how many commits are missing for so many
+abbrev pub missing_to : Progress → ℕ → ℕ
+missing_to p commits = commits - p.generation.number
+
+-- the shard once it has so many commits
+abbrev pub carried : Progress → ℕ → Progress
+carried p commits = record { generation = generation_after p.generation (take (missing_to p commits) p.left); left = drop (missing_to p commits) p.left }
+
+-- so many can be made: there are as many batches, each of the schema, together few, and they are 4,096 commits at most
+pub record CanCarry (p : Progress) (commits : ℕ) : Type 0 where
+  pub below : p.generation.number ≤ commits
+  pub there : missing_to p commits ≤ length p.left
+  pub number : p.generation.number + missing_to p commits ≤ 4096
+  pub each : All (IsBatchOf p.generation.schema) (batches_view (take (missing_to p commits) p.left))
+  pub all : IsBatchOf p.generation.schema (joined (batches_view (take (missing_to p commits) p.left)))
+
+-- shards, each once it has its number of commits
+abbrev pub all_carried : List Progress → List ℕ → List Progress
+all_carried shards commits = map (λ x. carried x.0 x.1) (zip shards commits)
+
+-- each can be carried on to its number of commits
+abbrev pub CanCarryAll : List Progress → List ℕ → Type 0
+CanCarryAll shards commits = All (λ x. CanCarry x.0 x.1) (zip shards commits)
+
+-- a shard of these batches with so many commits
+abbrev pub progress_at : Schema → List Batch → ℕ → Progress
+progress_at s batches commits = record { generation = generation_at s (batches_view batches) commits; left = drop commits batches }
+
+-- for each shard that of its number
+abbrev pub all_progress_at : Schema → List (List Batch) → List ℕ → List Progress
+all_progress_at s lists numbers = map (λ x. progress_at s x.0 x.1) (zip lists numbers)
