@@ -1,0 +1,5 @@
+mod chance;
+mod grammar;
+mod plain;
+mod worlds;
+mod writer;
