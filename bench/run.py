@@ -17,6 +17,7 @@ CONDITIONS = {
     "*:*": lambda d: True,
     "tags:t1": lambda d: "t1" in d["tags"],
     "price:[500 TO *]": lambda d: any(price >= 500 for price in d["price"]),
+    **{f"-price:{n}": lambda d, n=n: n not in d["price"] for n in range(10)},
 }
 ALL = {"limit": -1, "sort": "index"}
 # What is searched: by a name, the request.
@@ -31,6 +32,10 @@ REQUESTS = {
     "a page": {"filter": ["{!tag=T}tags:t1", "price:[500 TO *]"],
                "facet": {"tags": {"type": "terms", "field": "tags", "domain": {"excludeTags": "T"}},
                          "brand": {"type": "terms", "field": "brand", "missing": True}, "total": "sum(price)"}},
+    "ten filters": {"filter": [f"-price:{n}" for n in range(10)],
+                    "facet": {"brand": {"type": "terms", "field": "brand", **ALL}}},
+    "brands in each price": {"facet": {"price": {"type": "terms", "field": "price", **ALL,
+                                                 "facet": {"brand": {"type": "terms", "field": "brand", **ALL}}}}},
 }
 Cost = collections.namedtuple("Cost", "seconds peak")
 
@@ -113,10 +118,12 @@ def measure(options, folder, shards, every):
     for _ in range(options.runs):
         for case in (whole, part, *one.values(), *many.values()):
             case.run(options.program)
-    report(options, fewer, shards, every, whole, part, one, many)
+    thousand = Case(folder, whole_opening, REQUESTS["brands"], 1001, said["brands"])
+    thousand.run(options.program)
+    report(options, fewer, shards, every, whole, part, one, many, thousand)
 
 
-def report(options, fewer, shards, every, whole, part, one, many):
+def report(options, fewer, shards, every, whole, part, one, many, thousand):
     count, (seconds, peak) = options.documents, whole.least
     ratio = (seconds / count) / (part.least.seconds / fewer)
     commits = f"a commit every {every:,}" if every else "one commit for all"
@@ -128,6 +135,8 @@ def report(options, fewer, shards, every, whole, part, one, many):
     for name in one:
         each = (many[name].least.seconds - one[name].least.seconds) / options.searches
         print(f"  one search     {1000 * each:.2f} ms, {each / seconds:.4f} of the reading (target: at most 0.1): {name}")
+    each = (thousand.least.seconds - one["brands"].least.seconds) / 1000
+    print(f"  one of 1,000   {1000 * each:.2f} ms: brands, in one session")
     sys.stdout.flush()
 
 
@@ -138,7 +147,7 @@ def main():
     options.add_argument("--runs", type=int, default=3, help="each figure is the least of so many runs")
     options.add_argument("--searches", type=int, default=10, help="a search is timed over so many")
     options = options.parse_args()
-    for shards, every in ((1, 1000), (1, None), (4, 1000)):
+    for shards, every in ((1, 1000), (1, None), (4, 1000), (64, None)):
         with tempfile.TemporaryDirectory() as folder:
             measure(options, folder, shards, every)
     print(f"least of {options.runs} runs; load of the machine {os.getloadavg()[0]:.1f} on {os.cpu_count()} processors")
