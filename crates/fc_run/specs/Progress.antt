@@ -36,11 +36,11 @@ progress_of c = record { generation = arc_value {X = Generation} c.generation; l
 abbrev pub missing_to : Progress → ℕ → ℕ
 missing_to p commits = commits - p.generation.number
 
--- the shard once it has so many commits
+-- the shard once it has so many commits, from no more on and with as many batches
 abbrev pub carried : Progress → ℕ → Progress
 carried p commits = record { generation = generation_after p.generation (take (missing_to p commits) p.left); left = drop (missing_to p commits) p.left }
 
--- so many can be made: there are as many batches, each of the schema, together few, and they are 4,096 commits at most
+-- so many can be made: the shard has no more yet, there are as many batches, each of the schema, together few, and they are 4,096 commits at most
 pub record CanCarry (p : Progress) (commits : ℕ) : Type 0 where
   pub below : p.generation.number ≤ commits
   pub there : missing_to p commits ≤ length p.left

@@ -84,7 +84,7 @@ fn compare_run(
     Ok(())
 }
 
-// Places by chance, more than a search has turns.
+// Places by chance. Behind the end of the list the first one that waits has its turn.
 fn turns_of(alloc: Global, chance: &mut Chance) -> Result<FromList, Fail> {
     let mut list = Vec::new(alloc);
     for _turn in 0..2_000 {

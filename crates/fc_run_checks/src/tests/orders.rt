@@ -44,7 +44,7 @@ impl Turns for Counted {
     }
 }
 
-// A script, its line, how many turns its search takes, and who waits at these.
+// A script, its lines, how many turns its searches take, and who waits at these.
 struct Row {
     script: &'static str,
     line: &'static str,
@@ -52,7 +52,7 @@ struct Row {
     noted: u64,
 }
 
-// Each shard has two turns in the first round: for its root and for its list. Who is asked again has one more.
+// A shard of one segment has two turns in the first round: for its root and for its list. Who is asked again has one more.
 const ROWS: &[Row] = &[
     // The second shard offers c alone, and isn't asked for a.
     Row {
@@ -108,6 +108,40 @@ const ROWS: &[Row] = &[
 "##,
         calls: 3,
         noted: 764,
+    },
+    // The commits of one phase make one segment, which takes one turn.
+    Row {
+        script: r##"{"schema":{"shards":1,"fields":{}}}
+{"add":{"doc":{"id":"1"}}}
+{"commit":{}}
+{"add":{"doc":{"id":"2"}}}
+{"commit":{}}
+{"sync":{}}
+{"search":{"request":{},"session":"a"}}
+"##,
+        line: r##"{"facets":{"count":2},"generations":[2],"session":"a"}
+"##,
+        calls: 1,
+        noted: 1,
+    },
+    // Those of two phases make two: the first search takes one turn, the second two.
+    Row {
+        script: r##"{"schema":{"shards":1,"fields":{}}}
+{"add":{"doc":{"id":"1"}}}
+{"commit":{}}
+{"sync":{}}
+{"search":{"request":{},"session":"a"}}
+{"sync":{}}
+{"add":{"doc":{"id":"2"}}}
+{"commit":{}}
+{"sync":{}}
+{"search":{"request":{},"session":"a"}}
+"##,
+        line: r##"{"facets":{"count":1},"generations":[1],"session":"a"}
+{"facets":{"count":2},"generations":[2],"session":"a"}
+"##,
+        calls: 3,
+        noted: 111,
     },
 ];
 
