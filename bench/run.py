@@ -145,7 +145,7 @@ def main():
     options.add_argument("--program", default=os.path.join(TOP, "crates", "fc_main", "out", "fc_main"))
     options.add_argument("--documents", type=int, default=200_000)
     options.add_argument("--runs", type=int, default=3, help="each figure is the least of so many runs")
-    options.add_argument("--searches", type=int, default=10, help="a search is timed over so many")
+    options.add_argument("--searches", type=int, default=100, help="a search is timed over so many")
     options = options.parse_args()
     for shards, every in ((1, 1000), (1, None), (4, 1000), (64, None)):
         with tempfile.TemporaryDirectory() as folder:
