@@ -1,4 +1,4 @@
-//! Tests that cross crates: what a search replies, against the plain program, over worlds by chance.
+//! Tests that cross crates: searches by turns of every order, and, over worlds by chance, against the plain program.
 #![tactic(auto)]
 
 #[cfg(test)]

@@ -1,5 +1,8 @@
 mod chance;
+mod engine;
 mod grammar;
+mod orders;
+mod picks;
 mod plain;
 mod worlds;
 mod writer;

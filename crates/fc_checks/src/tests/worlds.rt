@@ -1,16 +1,15 @@
 // Scripts by chance, each run by the engine in several orders of turns: what is written is what the plain program writes.
-ghost use Rattle.std.specs.Prelude.{IfOk, map};
+ghost use Rattle.std.specs.Prelude.{map};
 ghost use Rattle.fc_kind.specs.Names.{Covers};
 
 use super::chance::Chance;
+use super::engine::{kinds_in, written_in};
 use super::plain::plain_text;
 use super::writer::{Rule, rules_of, script_of};
 use fc_io::{MemSink, MemSource};
-use fc_kind::{FacetKind, kinds_of};
-use fc_range::{QueryKind, RangeKind};
-use fc_run::{RunText, Status, run, run_text_of};
+use fc_kind::FacetKind;
+use fc_run::{Status, run};
 use fc_search::{FromList, RoundRobin, Turns};
-use fc_terms::TermsKind;
 use std::alloc::Global;
 use std::process::Abort;
 use std::test::Fail;
@@ -22,31 +21,6 @@ const WORLDS: u64 = 300;
 struct Case<'a> {
     script: &'a str,
     plain: &'a str,
-}
-
-fn kinds_in(alloc: Global) -> Result<Vec<Box<dyn FacetKind>>, Fail>
-    ensures { IfOk result (λ kinds. Covers (map name kinds.items)) }
-{
-    let terms = Box::new(alloc, TermsKind)?;
-    let range = Box::new(alloc, RangeKind)?;
-    let query = Box::new(alloc, QueryKind)?;
-    Ok(kinds_of(alloc, terms, range, query)?)
-}
-
-// What is written in an order of turns.
-fn written_in<T: Turns>(
-    alloc: Global,
-    script: &str,
-    kinds: &[Box<dyn FacetKind>],
-    turns: &mut T,
-) -> Result<String, Fail>
-    requires { Covers (map name kinds.now) }
-{
-    let bytes = Vec::from_slice(alloc, script.as_bytes())?;
-    let text = match run_text_of(alloc, bytes, kinds, turns)? {
-        RunText::Lines(text) | RunText::Fault(text) => text,
-    };
-    Ok(String::from_utf8_lossy(alloc, &text)?)
 }
 
 fn compare_turns<T: Turns + Drop>(

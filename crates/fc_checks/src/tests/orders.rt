@@ -2,7 +2,7 @@
 ghost use Rattle.std.specs.Prelude.{◌<◌, length, map};
 ghost use Rattle.fc_kind.specs.Names.{Covers};
 
-use super::{kinds_in, text_by};
+use super::engine::{kinds_in, written_in};
 use fc_kind::FacetKind;
 use fc_search::{FromList, Turns};
 use std::alloc::Global;
@@ -151,7 +151,7 @@ fn turns_are_counted(rt: HostRuntime) -> Result<(), Fail> {
     let kinds = kinds_in(alloc)?;
     for row in ROWS {
         let mut turns = Counted { calls: 0, noted: 0 };
-        let line = text_by(alloc, row.script.as_bytes(), &kinds, &mut turns)?;
+        let line = written_in(alloc, row.script, &kinds, &mut turns)?;
         assert!(rt;
             line.as_str() == row.line && turns.calls == row.calls && turns.noted == row.noted,
             "{turns:?}: {line}"
@@ -180,7 +180,7 @@ fn compare_lists(
 {
     for number in 0..16 {
         let mut turns = FromList::new(list_of(alloc, number)?);
-        let line = text_by(alloc, row.script.as_bytes(), kinds, &mut turns)?;
+        let line = written_in(alloc, row.script, kinds, &mut turns)?;
         assert!(rt; line.as_str() == row.line, "{number}: {line}");
     }
     Ok(())
