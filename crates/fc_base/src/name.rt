@@ -33,6 +33,13 @@ impl Name {
         })
     }
 
+    /// The name that is this text, which it takes over.
+    pub fn of(text: String) -> Name
+        ensures { result ≡ string_bytes text }
+    {
+        Name { text }
+    }
+
     /// The UTF-8 bytes of the text.
     pub fn bytes(&self) -> &[u8]
         ensures value { result.now ≡ self.now }

@@ -23,8 +23,8 @@ pub enum StatValue {
 }
 
 impl StatValue {
-    // That of no document.
-    pub(crate) fn neutral(stat: Stat) -> StatValue
+    /// That of no document.
+    pub fn neutral(stat: Stat) -> StatValue
         ensures { stat_value_view result ≡ value_over (stat_view stat) [] }
     {
         match stat.of {
@@ -53,8 +53,8 @@ impl StatValue {
         }
     }
 
-    // What it is over both of two disjoint parts.
-    fn combined(self, of: StatKind, other: StatValue) -> StatValue
+    /// What it is over both of two parts that share no document.
+    pub fn combined(self, of: StatKind, other: StatValue) -> StatValue
         requires { FitsSigned w64
             (amount (stat_value_view self) +ℤ amount (stat_value_view other)) }
         ensures { stat_value_view result
