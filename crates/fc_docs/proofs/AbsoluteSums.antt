@@ -12,9 +12,8 @@ use Rattle.fc_spec.specs.documents.Document.{Document}
 use Rattle.fc_base.specs.declared.value.Val.{Val}
 use Rattle.fc_base.specs.declared.value.Val.TheVariants.{Text, Long}
 use Rattle.fc_base.specs.View.{val_view}
-use Rattle.fc_docs.specs.Fields.{FieldValues, Ascend, EndBelow, document_of, values_at}
+use Rattle.fc_docs.specs.Fields.{FieldValues, Ascend, values_at}
 use Rattle.fc_docs.specs.Sums.{absolute_value, absolute_row, absolute_sum, absolute_kept}
-use Rattle.fc_docs.proofs.FieldLists.{values_of-document_of}
 use Rattle.fc_docs.proofs.Entries.{Entry, here, skip, below, other}
 
 -- the sum of a row, value by value
@@ -30,31 +29,31 @@ row_by_value (Long number ∷ values) =
 
 -- what an entry adds to the sum of the field of this number
 abbrev pub added_by : ℕ → Entry → ℕ
-added_by n e = cond (eqb n e.0.0) (absolute_row (map val_view e.1.items)) 0
+added_by n e = cond (eqb n e.0) (absolute_row e.1) 0
 
 -- what all entries add to it
 abbrev pub added : FieldValues → ℕ → ℕ
 added es n = sum_by (added_by n) es
 
-pub added_here : (e : Entry) (es : FieldValues) (n : ℕ) → n ≡ e.0.0 → added (e ∷ es) n ≡ absolute_row (map val_view e.1.items) + added es n
+pub added_here : (e : Entry) (es : FieldValues) (n : ℕ) → n ≡ e.0 → added (e ∷ es) n ≡ absolute_row e.1 + added es n
 added_here e es n is =
-    let test : eqb n e.0.0 ≡ true = grind (arith, nat_tests) in
-    sum_by-cons (added_by n) e es ∙ ap (λ b. cond b (absolute_row (map val_view e.1.items)) 0 + added es n) test
+    let test : eqb n e.0 ≡ true = grind (arith, nat_tests) in
+    sum_by-cons (added_by n) e es ∙ ap (λ b. cond b (absolute_row e.1) 0 + added es n) test
 
-pub added_elsewhere : (e : Entry) (es : FieldValues) (n : ℕ) → (n ≡ e.0.0 → ⊥) → added (e ∷ es) n ≡ added es n
-added_elsewhere e es n apart = sum_by-cons (added_by n) e es ∙ ap (λ b. cond b (absolute_row (map val_view e.1.items)) 0 + added es n) (other n e.0.0 apart) ∙ omega arith
+pub added_elsewhere : (e : Entry) (es : FieldValues) (n : ℕ) → (n ≡ e.0 → ⊥) → added (e ∷ es) n ≡ added es n
+added_elsewhere e es n apart = sum_by-cons (added_by n) e es ∙ ap (λ b. cond b (absolute_row e.1) 0 + added es n) (other n e.0 apart) ∙ omega arith
 
 added_at : (a : ℕ) (es : FieldValues) (n : ℕ) → Ascend a es → added es n ≡ absolute_row (values_at es n)
 added_at a [] n up = refl
 added_at a (e ∷ es) n up =
-    elim (cases_eq n e.0.0) [
+    elim (cases_eq n e.0) [
       | inl is ↦
-          let none : values_at es n ≡ [] = below (e.0.0 + 1) n es up.1 (omega arith) in
-          let rest : added es n ≡ 0 = added_at (e.0.0 + 1) es n up.1 ∙ ap absolute_row none in
+          let none : values_at es n ≡ [] = below (e.0 + 1) n es up.1 (omega arith) in
+          let rest : added es n ≡ 0 = added_at (e.0 + 1) es n up.1 ∙ ap absolute_row none in
           let first = added_here e es n is in
-          let row : absolute_row (values_at (e ∷ es) n) ≡ absolute_row (map val_view e.1.items) = ap (λ k. absolute_row (values_at (e ∷ es) k)) is ∙ ap absolute_row (here e es) in
+          let row : absolute_row (values_at (e ∷ es) n) ≡ absolute_row e.1 = ap (λ k. absolute_row (values_at (e ∷ es) k)) is ∙ ap absolute_row (here e es) in
           omega arith
-      | inr apart ↦ added_elsewhere e es n apart ∙ added_at (e.0.0 + 1) es n up.1 ∙ ap absolute_row (sym (skip e es n apart))
+      | inr apart ↦ added_elsewhere e es n apart ∙ added_at (e.0 + 1) es n up.1 ∙ ap absolute_row (sym (skip e es n apart))
     ]
 
 -- all entries add to the sum of a field its values
@@ -69,25 +68,27 @@ set_here sums n s past =
     ]
 
 -- of the entries that are left the first adds nothing past the last sum, as all entries do
-pub nothing_past : (sums start : List ℕ) (all left more : FieldValues) (e : Entry) → left ≡ e ∷ more → length sums ≡ length start → length sums ≤ e.0.0 → slice_index sums e.0.0 + added left e.0.0 ≡ slice_index start e.0.0 + added all e.0.0 → added all e.0.0 ≡ 0 → absolute_row (map val_view e.1.items) ≡ 0
+pub nothing_past : (sums start : List ℕ) (all left more : FieldValues) (e : Entry) → left ≡ e ∷ more → length sums ≡ length start → length sums ≤ e.0 → slice_index sums e.0 + added left e.0 ≡ slice_index start e.0 + added all e.0 → added all e.0 ≡ 0 → absolute_row e.1 ≡ 0
 nothing_past sums start all left more e is same_length past so_far none =
-    let first = ap (λ es. added es e.0.0) is ∙ added_here e more e.0.0 refl in
-    let now = get_or_past sums e.0.0 0 past in
-    let before = get_or_past start e.0.0 0 (omega arith) in
+    let first = ap (λ es. added es e.0) is ∙ added_here e more e.0 refl in
+    let now = get_or_past sums e.0 0 past in
+    let before = get_or_past start e.0 0 (omega arith) in
     omega arith
 
 -- what has been added and what is left to be, after one more entry
-pub one_more : (sums : List ℕ) (left more : FieldValues) (e : Entry) (row n : ℕ) → left ≡ e ∷ more → row ≡ absolute_row (map val_view e.1.items) → (length sums ≤ e.0.0 → row ≡ 0) → slice_index (set sums e.0.0 (slice_index sums e.0.0 + row)) n + added more n ≡ slice_index sums n + added left n
-one_more sums left more e row n is row_is past =
-    elim (cases_eq n e.0.0) [
+pub one_more : (sums : List ℕ) (left more : FieldValues) (e : Entry) (n : ℕ) → left ≡ e ∷ more → (length sums ≤ e.0 → absolute_row e.1 ≡ 0)
+    → slice_index (set sums e.0 (slice_index sums e.0 + absolute_row e.1)) n + added more n ≡ slice_index sums n + added left n
+one_more sums left more e n is past =
+    let row = absolute_row e.1 in
+    elim (cases_eq n e.0) [
       | inl here ↦
-          let set_is = set_here sums e.0.0 (slice_index sums e.0.0 + row) (λ beyond. ap (λ k. slice_index sums e.0.0 + k) (past beyond) ∙ omega (arith, get_or_past sums e.0.0 0 beyond)) in
-          let set_at : slice_index (set sums e.0.0 (slice_index sums e.0.0 + row)) n ≡ slice_index sums n + row =
-          ap (λ k. slice_index (set sums e.0.0 (slice_index sums e.0.0 + row)) k) here ∙ set_is ∙ ap (λ k. slice_index sums k + row) (sym here) in
+          let set_is = set_here sums e.0 (slice_index sums e.0 + row) (λ beyond. ap (λ k. slice_index sums e.0 + k) (past beyond) ∙ omega (arith, get_or_past sums e.0 0 beyond)) in
+          let set_at : slice_index (set sums e.0 (slice_index sums e.0 + row)) n ≡ slice_index sums n + row =
+          ap (λ k. slice_index (set sums e.0 (slice_index sums e.0 + row)) k) here ∙ set_is ∙ ap (λ k. slice_index sums k + row) (sym here) in
           let first = ap (λ es. added es n) is ∙ added_here e more n here in
           omega arith
       | inr apart ↦
-          let set_at = get_or-set_other sums e.0.0 n (slice_index sums e.0.0 + row) 0 apart in
+          let set_at = get_or-set_other sums e.0 n (slice_index sums e.0 + row) 0 apart in
           let first = ap (λ es. added es n) is ∙ added_elsewhere e more n apart in
           omega arith
     ]
@@ -131,10 +132,6 @@ sum_outgrown sum limit past = grind (arith, nat_tests)
 
 pub not_more : (sum limit : ℕ) → cond (nat_le sum limit) (Some sum) None ≡ None → limit < sum
 not_more sum limit is = grind (arith, nat_tests)
-
-pub absolute_sum-document_of : (count : ℕ) (es kept : FieldValues) (d : Document) (n : ℕ) → kept ≡ es → EndBelow count es → document_of count es ≡ d → absolute_sum d n ≡ absolute_kept kept n
-absolute_sum-document_of count es kept d n same ends is =
-    ap (λ e. absolute_sum e n) (sym is) ∙ ap absolute_row (values_of-document_of count es n ends) ∙ ap (λ f. absolute_kept f n) (sym same)
 
 pub none_past : (d : Document) (n : ℕ) → length d ≤ n → absolute_sum d n ≡ 0
 none_past d n past = ap absolute_row (get_or_past d n [] past)

@@ -24,6 +24,11 @@ pub document_of-empty : (count : ℕ) (es : FieldValues) → ((n : ℕ) → valu
 document_of-empty count es none =
     sym (fill_by_all (values_at es) (replicate count []) count [] (length-replicate count []) (λ k below. get_or-replicate count k [] [] below ∙ sym (none k)))
 
+pub document_of-same : (count : ℕ) (es new : FieldValues) → ((n : ℕ) → values_at new n ≡ values_at es n) → document_of count new ≡ document_of count es
+document_of-same count es new same =
+    sym (fill_by_all (values_at new) (document_of count es) count [] (length-document_of count es)
+    (λ k within. get_or-map-range_with_len (values_at es) 0 count k k [] within (omega arith) ∙ sym (same k)))
+
 document_of-set : (count n : ℕ) (values : List Val) (old new : FieldValues) → n < count → SetsOnly old new n values → document_of count new ≡ set (document_of count old) n values
 document_of-set count n values old new below sets =
     sym (fill_by_all (values_at new) (set (document_of count old) n values) count [] (length-set _ _ _ ∙ length-document_of count old)

@@ -1,13 +1,17 @@
 pub mod AbsoluteSums
+pub mod ChildrenAside
 pub mod DifferentValues
+pub mod Drafts
 pub mod Entries
 pub mod FieldLists
 pub mod FieldPlaces
 pub mod Items
 pub mod MemberFields
 pub mod MemberValues
+pub mod Parts
 pub mod ReadSoFar
 pub mod Refused
 pub mod ValidBatches
 pub mod ValueCounts
 pub mod WholeDocument
+pub mod WithValues

@@ -145,7 +145,7 @@ last_fails true true false d h = cc
 last_fails true false c d h = cc
 last_fails false b c d h = cc
 
-no_name : (t : Text) → is_field_name t ≡ true → is_underscored t ≡ true → ⊥
+pub no_name : (t : Text) → is_field_name t ≡ true → is_underscored t ≡ true → ⊥
 no_name t good over =
     let failing = rw over at good in
     last_fails (nat_le 1 (length t)) (nat_le (length t) 64) (list_all is_name_byte t) (not (is_digit (slice_index t 0))) failing

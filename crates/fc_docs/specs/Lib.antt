@@ -1,4 +1,5 @@
 pub mod Fields
+pub mod Kept
 pub mod Members
 pub mod Sums
 pub mod View

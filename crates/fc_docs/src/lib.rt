@@ -7,6 +7,6 @@ mod fault;
 mod read;
 
 pub use block::{Batch, Block};
-pub use document::Document;
+pub use document::{Document, Fields};
 pub use fault::DocFault;
 pub use read::read_block;

@@ -1,19 +1,18 @@
 // Reading a block from JSON.
-ghost use Rattle.std.specs.Prelude.{All, IfOk, unwrap_or};
+ghost use Rattle.std.specs.Prelude.{All, IfOk};
 ghost use Rattle.serde_json.specs.View.{view, members_view, items_view};
-ghost use Rattle.serde_json.specs.Data.{null};
-ghost use Rattle.serde_json.specs.Find.{get};
+ghost use Rattle.serde_json.specs.Data.{object};
 ghost use Rattle.fc_spec.specs.words.Walks.{each};
-ghost use Rattle.fc_spec.specs.documents.BlockReading.{block_of, document_of, document_of_members, children_key, all_items, as_child};
+ghost use Rattle.fc_spec.specs.documents.BlockReading.{block_of, document_of, document_of_members, child_documents, all_items, as_child};
 ghost use Rattle.fc_spec.specs.documents.ValidBlocks.{IsBlockOf, IsDocumentOf};
 ghost use Rattle.fc_base.specs.Answers.{Answers};
-ghost use Rattle.fc_docs.specs.Members.{children_given};
 ghost use Rattle.fc_docs.specs.View.{block_view, fault_view, role_view};
 
 mod item;
 mod member;
 mod values;
 
+use crate::document::Draft;
 use crate::{Block, DocFault, Document};
 use fc_base::{FieldId, Refusal, Schema};
 use member::{CHILDREN, Role, field_of};
@@ -32,55 +31,74 @@ const ID: FieldId = FieldId(0);
 /// in the byte order of their keys, each key before its value and each item before their number;
 /// then whether there is an `id`; then the children in their order, each in the same way. (Guide:
 /// Indexing Nested Child Documents)
-pub fn read_block(alloc: Global, schema: &Schema, json: &Value) -> Result<Block, Refusal<DocFault>>
-    ensures answer { Answers block_view fault_view result (block_of schema.now (view json.now)) }
+pub fn read_block(alloc: Global, schema: &Schema, json: Value) -> Result<Block, Refusal<DocFault>>
+    ensures answer { Answers block_view fault_view result (block_of schema.now (view json)) }
     ensures valid { IfOk result (λ block. IsBlockOf schema.now (block_view block)) }
 {
-    let parent = read_document(alloc, schema, Role::Parent, json)?;
-    let children = read_children(alloc, schema, children_in(json)?)?;
-    Ok(Block { children, parent })
-}
-
-// The children of a parent, not yet read.
-fn children_in(json: &Value) -> Result<&[Value], Refusal<DocFault>>
-    ensures { Answers (λ items. all_items (items_view items.now)) fault_view result
-        (children_given (unwrap_or (get children_key (view json.now)) null)) }
-{
-    match json.get(CHILDREN) {
-        None | Some(Value::Null) => Ok(&[]),
-        Some(Value::Array(items)) => Ok(items.as_slice()),
-        Some(_) => Err(Refusal::Fault(DocFault::WrongType)),
+    match json {
+        Value::Object(members) => read_family(alloc, schema, members),
+        _ => Err(Refusal::Fault(DocFault::WrongType)),
     }
 }
 
+// A parent and its children.
+fn read_family(
+    alloc: Global,
+    schema: &Schema,
+    mut members: Map<String, Value>,
+) -> Result<Block, Refusal<DocFault>>
+    ensures answer { Answers block_view fault_view result
+        (block_of schema.now (object (members_view members.entries))) }
+    ensures valid { IfOk result (λ block. IsBlockOf schema.now (block_view block)) }
+{
+    // The key of the children is no field's name.
+    let _fields = schema.fields();
+    let children = members.remove(CHILDREN).unwrap_or(Value::Null);
+    let parent = read_members(alloc, schema, Role::Parent, members)?;
+    let children = read_children(alloc, schema, children)?;
+    Ok(Block { children, parent })
+}
+
+// The children of a parent, which are null or an array.
 fn read_children(
     alloc: Global,
     schema: &Schema,
-    items: &[Value],
+    json: Value,
 ) -> Result<Vec<Document>, Refusal<DocFault>>
     ensures answer { Answers (λ documents. documents.items) fault_view result
-        (each (document_of as_child schema.now) (all_items (items_view items.now))) }
+        (child_documents schema.now (view json)) }
+    ensures valid { IfOk result (λ documents. All (IsDocumentOf schema.now) documents.items) }
+{
+    match json {
+        Value::Null => Ok(Vec::new(alloc)),
+        Value::Array(items) => read_each(alloc, schema, items),
+        _ => Err(Refusal::Fault(DocFault::WrongType)),
+    }
+}
+
+fn read_each(
+    alloc: Global,
+    schema: &Schema,
+    items: Vec<Value>,
+) -> Result<Vec<Document>, Refusal<DocFault>>
+    ensures answer { Answers (λ documents. documents.items) fault_view result
+        (each (document_of as_child schema.now) (all_items (items_view items.items))) }
     ensures valid { IfOk result (λ documents. All (IsDocumentOf schema.now) documents.items) }
 {
     let mut documents = Vec::with_capacity(alloc, items.len())?;
     for item in items {
-        documents.push(read_document(alloc, schema, Role::Child, item)?)?;
+        documents.push(read_child(alloc, schema, item)?)?;
     }
     Ok(documents)
 }
 
-fn read_document(
-    alloc: Global,
-    schema: &Schema,
-    role: Role,
-    json: &Value,
-) -> Result<Document, Refusal<DocFault>>
+fn read_child(alloc: Global, schema: &Schema, json: Value) -> Result<Document, Refusal<DocFault>>
     ensures answer { Answers (λ document. document) fault_view result
-        (document_of (role_view role) schema.now (view json.now)) }
+        (document_of as_child schema.now (view json)) }
     ensures valid { IfOk result (IsDocumentOf schema.now) }
 {
     match json {
-        Value::Object(members) => read_members(alloc, schema, role, members),
+        Value::Object(members) => read_members(alloc, schema, Role::Child, members),
         _ => Err(Refusal::Fault(DocFault::WrongType)),
     }
 }
@@ -89,15 +107,15 @@ fn read_members(
     alloc: Global,
     schema: &Schema,
     role: Role,
-    members: &Map<String, Value>,
+    members: Map<String, Value>,
 ) -> Result<Document, Refusal<DocFault>>
     ensures answer { Answers (λ document. document) fault_view result
-        (document_of_members (role_view role) schema.now (members_view members.now.entries)) }
+        (document_of_members (role_view role) schema.now (members_view members.entries)) }
     ensures valid { IfOk result (IsDocumentOf schema.now) }
 {
-    let mut document = Document::empty(alloc, schema.fields());
+    let mut document = Draft::empty(alloc, schema.fields());
     for (key, json) in members {
-        let Some(field) = field_of(schema, role, key, json)? else {
+        let Some(field) = field_of(schema, role, key.as_str(), &json)? else {
             continue;
         };
         let values = read_values(alloc, schema.field_type(field), json)?;
@@ -106,5 +124,6 @@ fn read_members(
     if document.values(ID).is_empty() {
         return Err(Refusal::Fault(DocFault::NoId));
     }
-    Ok(document)
+    let whole = document.finish(alloc)?;
+    Ok(whole)
 }

@@ -8,6 +8,7 @@ ghost use Rattle.fc_lines.specs.ValidLines.{HasRoot, IsLineOf};
 
 mod reading;
 mod search;
+mod taking;
 
 use crate::fault::LineFault;
 use crate::value::value_on;
@@ -37,5 +38,5 @@ pub fn line_on(alloc: Global, schema: &Schema, text: &[u8]) -> Result<Line, Refu
     ensures root { IfOk result HasRoot }
 {
     let json = value_on(alloc, text)?;
-    read_line(alloc, schema, &json)
+    read_line(alloc, schema, json)
 }

@@ -67,7 +67,7 @@ impl Documents {
     {
         let text = self.text(alloc, number)?;
         let json = Value::from_str(alloc, &text)?;
-        let block = read_block(alloc, schema, &json)?;
+        let block = read_block(alloc, schema, json)?;
         Ok(block)
     }
 

@@ -50,9 +50,9 @@ fn json_of(alloc: Global, text: &str) -> Result<Value, Fail>
     Ok(Value::from_slice(alloc, text.as_bytes())?)
 }
 
-fn batch_of(alloc: Global, schema: &Schema, json: &Value) -> Result<Batch, Fail> {
+fn batch_of(alloc: Global, schema: &Schema, json: Value) -> Result<Batch, Fail> {
     let mut blocks = Vec::new(alloc);
-    if let Some(items) = json.as_array() {
+    if let Value::Array(items) = json {
         for item in items {
             blocks.push(read_block(alloc, schema, item)?)?;
         }
@@ -61,9 +61,8 @@ fn batch_of(alloc: Global, schema: &Schema, json: &Value) -> Result<Batch, Fail>
 }
 
 fn batches_of(alloc: Global, schema: &Schema, text: &str) -> Result<Vec<Batch>, Fail> {
-    let json = json_of(alloc, text)?;
     let mut batches = Vec::new(alloc);
-    if let Some(items) = json.as_array() {
+    if let Value::Array(items) = json_of(alloc, text)? {
         for item in items {
             batches.push(batch_of(alloc, schema, item)?)?;
         }

@@ -1,13 +1,12 @@
 -- A document handed to the builders of its fields, field by field.
 use Rattle.std.proofs.Common.{◌≡◌, ◌≢◌, ℕ, zero, suc, ◌+◌, ◌-◌, ◌<◌, ◌≤◌, ◌⊎◌, inl, inr, cond, List, [], ◌∷◌, ◌++◌, length, get_or, set, map, replicate, All, Vec, refl, sym, ap, ◌∙◌, arith, eq-eqb, ne_eqb}
-use Rattle.std.specs.declared.alloc.Global.{Global}
 use Rattle.std.proofs.lemmas.Bool.{cases_eq, cases_lt}
 use Rattle.std.proofs.lemmas.List.{append-nil, append_assoc, length-append, length-replicate, length_push, get_or-map, get_or-set_same, get_or-set_other, replicate_more, get_or_past}
-use Rattle.fc_base.specs.declared.field.FieldId.{FieldId}
-use Rattle.fc_base.specs.declared.value.Val.{Val as Code}
-use Rattle.fc_base.specs.View.{val_view}
+use Rattle.std.proofs.lemmas.List.Elements.{All-head, All-tail}
+use Rattle.fc_spec.specs.documents.Document.{Document, values_of}
 use Rattle.fc_spec.specs.documents.Val.{Val}
-use Rattle.fc_docs.specs.Fields.{FieldValues, values_at, Ascend}
+use Rattle.fc_docs.specs.Fields.{FieldValues, values_at, Ascend, HaveValues}
+use Rattle.fc_docs.proofs.Entries.{Entry, below, here, skip}
 use Rattle.fc_segment.specs.declared.builder.Builder.{Builder}
 use Rattle.fc_segment.specs.Building.{values_built, padded}
 
@@ -35,78 +34,72 @@ padded-push len rows new row behind is =
     let long : length new ≡ len + 1 = omega (arith, ap length is, length_push (padded len rows) row, length-padded len rows behind) in
     (padded-whole new (len + 1) long ∙ is, long)
 
--- ---- the values of fields, from a field on
-values_below : (least n : ℕ) (es : FieldValues) → Ascend least es → n < least → values_at es n ≡ []
-values_below least n [] ascends below = refl
-values_below least n (e ∷ es) ascends below =
-    ap (λ b. cond b (map val_view e.1.items) (values_at es n)) (ne_eqb n e.0.0 (λ same. omega (arith, ascends.0)))
-    ∙ values_below (e.0.0 + 1) n es ascends.1 (omega (arith, ascends.0))
-
-values_here : (e : FieldId × Vec Code Global) (es : FieldValues) → values_at (e ∷ es) e.0.0 ≡ map val_view e.1.items
-values_here e es = ap (λ b. cond b (map val_view e.1.items) (values_at es e.0.0)) (eq-eqb e.0.0 e.0.0 refl)
-
-values_there : (e : FieldId × Vec Code Global) (es : FieldValues) (n : ℕ) → (n ≡ e.0.0 → ⊥) → values_at (e ∷ es) n ≡ values_at es n
-values_there e es n other = ap (λ b. cond b (map val_view e.1.items) (values_at es n)) (ne_eqb n e.0.0 other)
-
+-- ---- the fields of a document
 abbrev pub Rows : Type 0
 Rows = List (List (List Val))
 
 -- the fields before a bound have got the document, and the others wait for the fields that are left
-pub record Pushed (old new : Rows) (at : ℕ) (es left : FieldValues) : Type 0 where
+pub record Pushed (old new : Rows) (at : ℕ) (d : Document) (left : FieldValues) : Type 0 where
   pub bound : ℕ
   pub ascends : Ascend bound left
-  pub finals : (n : ℕ) → n < bound → padded (at + 1) (get_or new n []) ≡ padded at (get_or old n []) ++ values_at es n ∷ []
+  pub some : HaveValues left
+  pub finals : (n : ℕ) → n < bound → padded (at + 1) (get_or new n []) ≡ padded at (get_or old n []) ++ values_of d n ∷ []
   pub behind : (n : ℕ) → n < bound → length (get_or new n []) ≤ at + 1
   pub untouched : (n : ℕ) → bound ≤ n → get_or new n [] ≡ get_or old n []
-  pub rest : (n : ℕ) → bound ≤ n → values_at es n ≡ values_at left n
+  pub rest : (n : ℕ) → bound ≤ n → values_of d n ≡ values_at left n
 
-module _ (old : Rows) (at : ℕ) (waits : (n : ℕ) → length (get_or old n []) ≤ at) (es : FieldValues) where
-  pub pushed_none : Ascend 0 es → Pushed old old at es es
-  pushed_none ascends = record {
+module _ (old : Rows) (at : ℕ) (waits : (n : ℕ) → length (get_or old n []) ≤ at) (d : Document) where
+  pub pushed_none : (left : FieldValues) → Ascend 0 left → HaveValues left → ((n : ℕ) → values_at left n ≡ values_of d n) → Pushed old old at d left
+  pushed_none left ascends some values = record {
     bound = 0;
     ascends = ascends;
+    some = some;
     finals = λ n none. absurd (omega arith);
     behind = λ n none. absurd (omega arith);
     untouched = λ n from. refl;
-    rest = λ n from. refl;
+    rest = λ n from. sym (values n);
   }
 
   -- a field that the document has no value for
-  passed : (new : Rows) (n : ℕ) → get_or new n [] ≡ get_or old n [] → values_at es n ≡ []
-      → (padded (at + 1) (get_or new n []) ≡ padded at (get_or old n []) ++ values_at es n ∷ []) × (length (get_or new n []) ≤ at + 1)
+  passed : (new : Rows) (n : ℕ) → get_or new n [] ≡ get_or old n [] → values_of d n ≡ []
+      → (padded (at + 1) (get_or new n []) ≡ padded at (get_or old n []) ++ values_of d n ∷ []) × (length (get_or new n []) ≤ at + 1)
   passed new n same none = (
     ap (padded (at + 1)) same ∙ padded-more at (get_or old n []) (waits n) ∙ ap (λ row. padded at (get_or old n []) ++ row ∷ []) (sym none),
     omega (arith, waits n, ap length same),
   )
 
-  module _ (new : Rows) (e : FieldId × Vec Code Global) (left : FieldValues) (so_far : Pushed old new at es (e ∷ left)) where
-    between : (n : ℕ) → so_far.bound ≤ n → n < e.0.0 → values_at es n ≡ []
-    between n from below =
-        so_far.rest n from ∙ values_there e left n (λ same. omega arith) ∙ values_below (e.0.0 + 1) n left so_far.ascends.1 (omega arith)
+  module _ (new : Rows) (e : Entry) (left : FieldValues) (so_far : Pushed old new at d (e ∷ left)) where
+    between : (n : ℕ) → so_far.bound ≤ n → n < e.0 → values_of d n ≡ []
+    between n from before =
+        so_far.rest n from ∙ skip e left n (λ same. omega arith) ∙ below (e.0 + 1) n left so_far.ascends.1 (omega arith)
 
-    pub here_is : values_at es e.0.0 ≡ map val_view e.1.items
-    here_is = so_far.rest e.0.0 so_far.ascends.0 ∙ values_here e left
+    pub here_is : values_of d e.0 ≡ e.1
+    here_is = so_far.rest e.0 so_far.ascends.0 ∙ here e left
 
-    pub still_waits : get_or new e.0.0 [] ≡ get_or old e.0.0 []
-    still_waits = so_far.untouched e.0.0 so_far.ascends.0
+    pub some_here : 0 < length e.1
+    some_here = All-head (λ f. 0 < length f.1) e left so_far.some
+
+    pub still_waits : get_or new e.0 [] ≡ get_or old e.0 []
+    still_waits = so_far.untouched e.0 so_far.ascends.0
 
     -- the next rows, where they differ in this field alone
-    next_pushed : (next : Rows) → ((n : ℕ) → n ≢ e.0.0 → get_or next n [] ≡ get_or new n [])
-        → (padded (at + 1) (get_or next e.0.0 []) ≡ padded at (get_or old e.0.0 []) ++ values_at es e.0.0 ∷ []) × (length (get_or next e.0.0 []) ≤ at + 1)
-        → Pushed old next at es left
+    next_pushed : (next : Rows) → ((n : ℕ) → n ≢ e.0 → get_or next n [] ≡ get_or new n [])
+        → (padded (at + 1) (get_or next e.0 []) ≡ padded at (get_or old e.0 []) ++ values_of d e.0 ∷ []) × (length (get_or next e.0 []) ≤ at + 1)
+        → Pushed old next at d left
     next_pushed next others here = record {
-      bound = e.0.0 + 1;
+      bound = e.0 + 1;
       ascends = so_far.ascends.1;
-      finals = λ n below. (at_field n below (cases_eq n e.0.0)).0;
-      behind = λ n below. (at_field n below (cases_eq n e.0.0)).1;
+      some = All-tail (λ f. 0 < length f.1) e left so_far.some;
+      finals = λ n below. (at_field n below (cases_eq n e.0)).0;
+      behind = λ n below. (at_field n below (cases_eq n e.0)).1;
       untouched = λ n from. others n (λ same. omega arith) ∙ so_far.untouched n (omega (arith, so_far.ascends.0));
-      rest = λ n from. so_far.rest n (omega (arith, so_far.ascends.0)) ∙ values_there e left n (λ same. omega arith);
+      rest = λ n from. so_far.rest n (omega (arith, so_far.ascends.0)) ∙ skip e left n (λ same. omega arith);
     }
       where
-        at_field : (n : ℕ) → n < e.0.0 + 1 → ((n ≡ e.0.0) ⊎ (n ≡ e.0.0 → ⊥))
-            → (padded (at + 1) (get_or next n []) ≡ padded at (get_or old n []) ++ values_at es n ∷ []) × (length (get_or next n []) ≤ at + 1)
+        at_field : (n : ℕ) → n < e.0 + 1 → ((n ≡ e.0) ⊎ (n ≡ e.0 → ⊥))
+            → (padded (at + 1) (get_or next n []) ≡ padded at (get_or old n []) ++ values_of d n ∷ []) × (length (get_or next n []) ≤ at + 1)
         at_field n below (inl same) = (
-          ap (λ m. padded (at + 1) (get_or next m [])) same ∙ here.0 ∙ ap (λ m. padded at (get_or old m []) ++ values_at es m ∷ []) (sym same),
+          ap (λ m. padded (at + 1) (get_or next m [])) same ∙ here.0 ∙ ap (λ m. padded at (get_or old m []) ++ values_of d m ∷ []) (sym same),
           omega (arith, here.1, ap (λ m. length (get_or next m [])) same),
         )
         at_field n below (inr other) = elim (cases_lt n so_far.bound) [
@@ -114,20 +107,16 @@ module _ (old : Rows) (at : ℕ) (waits : (n : ℕ) → length (get_or old n [])
           | inr waiting ↦ passed next n (others n other ∙ so_far.untouched n waiting) (between n waiting (omega arith))
         ]
 
-    pub pushed_empty : e.1.items ≡ [] → Pushed old new at es left
-    pushed_empty none = next_pushed new (λ n other. refl) (passed new e.0.0 still_waits (here_is ∙ ap (map val_view) none))
+    pub pushed_value : e.0 < length new → Pushed old (set new e.0 (padded at (get_or new e.0 []) ++ e.1 ∷ [])) at d left
+    pushed_value within =
+        let row = padded at (get_or new e.0 []) ++ e.1 ∷ [] in
+        let set_here = get_or-set_same new e.0 row [] within in
+        let pushed = padded-push at (get_or old e.0 []) row e.1 (waits e.0) (ap (λ rows. padded at rows ++ e.1 ∷ []) still_waits) in
+        next_pushed (set new e.0 row) (λ n other. get_or-set_other new e.0 n row [] other)
+        (ap (padded (at + 1)) set_here ∙ pushed.0 ∙ ap (λ r. padded at (get_or old e.0 []) ++ r ∷ []) (sym here_is), omega (arith, pushed.1, ap length set_here))
 
-    pub pushed_value : (row : List (List Val)) → e.0.0 < length new → row ≡ padded at (get_or new e.0.0 []) ++ map val_view e.1.items ∷ []
-        → Pushed old (set new e.0.0 row) at es left
-    pushed_value row within is =
-        let here = get_or-set_same new e.0.0 row [] within in
-        let pushed = padded-push at (get_or old e.0.0 []) row (map val_view e.1.items) (waits e.0.0)
-        (is ∙ ap (λ rows. padded at rows ++ map val_view e.1.items ∷ []) still_waits) in
-        next_pushed (set new e.0.0 row) (λ n other. get_or-set_other new e.0.0 n row [] other)
-        (ap (padded (at + 1)) here ∙ pushed.0 ∙ ap (λ r. padded at (get_or old e.0.0 []) ++ r ∷ []) (sym here_is), omega (arith, pushed.1, ap length here))
-
-  pub pushed_all : (new : Rows) → Pushed old new at es [] → (n : ℕ)
-      → (padded (at + 1) (get_or new n []) ≡ padded at (get_or old n []) ++ values_at es n ∷ []) × (length (get_or new n []) ≤ at + 1)
+  pub pushed_all : (new : Rows) → Pushed old new at d [] → (n : ℕ)
+      → (padded (at + 1) (get_or new n []) ≡ padded at (get_or old n []) ++ values_of d n ∷ []) × (length (get_or new n []) ≤ at + 1)
   pushed_all new so_far n = elim (cases_lt n so_far.bound) [
     | inl done ↦ (so_far.finals n done, so_far.behind n done)
     | inr waiting ↦ passed new n (so_far.untouched n waiting) (so_far.rest n waiting)
@@ -143,8 +132,8 @@ pub all_wait : (builders : List Builder) (at : ℕ) → ((n : ℕ) → length (g
 all_wait builders at waits k d inside = omega (arith, waits k, ap length (get_or-map values_built builders k d [] inside))
 
 -- a field with values is one of the document
-pub field_within : (d : List (List Val)) (values : List Val) (f : ℕ) → values ≡ get_or d f [] → (length values ≡ 0 → ⊥) → f < length d
+pub field_within : (d : Document) (values : List Val) (f : ℕ) → values_of d f ≡ values → 0 < length values → f < length d
 field_within d values f is some = elim (cases_lt f (length d)) [
   | inl within ↦ within
-  | inr past ↦ absurd (some (ap length (is ∙ get_or_past d f [] past)))
+  | inr past ↦ absurd (omega (arith, ap length (get_or_past d f [] past), ap length is))
 ]

@@ -123,9 +123,7 @@ fn push_fields(builders: &mut Vec<Builder>, at: u32, document: &Document) -> Res
         ++ values_of document.now n ∷ []) }
 {
     for (field, values) in document.fields() {
-        if !values.is_empty() {
-            push_field(builders, at, *field, values)?;
-        }
+        push_field(builders, at, field, values)?;
     }
     Ok(())
 }

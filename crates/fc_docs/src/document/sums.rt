@@ -6,6 +6,7 @@ ghost use Rattle.fc_base.specs.View.{val_view};
 ghost use Rattle.fc_docs.specs.Fields.{Ascend};
 ghost use Rattle.fc_docs.specs.Sums.{absolute_kept, absolute_row, absolute_value};
 
+use super::Fields;
 use fc_base::{FieldId, Val};
 
 // The most that a sum may be.
@@ -13,17 +14,17 @@ const SUM_LIMIT: u64 = 9_223_372_036_854_775_807;
 
 /// Adds the absolute values of each field's integers to the field's sum, and says whether every sum
 /// stayed within the limit.
-pub(super) fn add_to_sums(fields: &[(FieldId, Vec<Val>)], sums: &mut [u64]) -> bool
-    requires ascending { Ascend 0 fields.now }
+pub(super) fn add_to_sums(fields: Fields<'_>, sums: &mut [u64]) -> bool
+    requires ascending { Ascend 0 fields }
     requires within { All (λ sum. sum ≤ total_limit) sums.old }
-    requires room { (field : ℕ) → length sums.old ≤ field → absolute_kept fields.now field ≡ 0 }
+    requires room { (field : ℕ) → length sums.old ≤ field → absolute_kept fields field ≡ 0 }
     ensures fits { Decides result ((field : ℕ) →
-        slice_index sums.old field + absolute_kept fields.now field ≤ total_limit) }
+        slice_index sums.old field + absolute_kept fields.entry field ≤ total_limit) }
     ensures sums { OnTrue result ((field : ℕ) →
-        slice_index sums.new field ≡ slice_index sums.old field + absolute_kept fields.now field) }
+        slice_index sums.new field ≡ slice_index sums.old field + absolute_kept fields.entry field) }
 {
     for (field, values) in fields {
-        if !add_to_sum(*field, values, sums) {
+        if !add_to_sum(field, values, sums) {
             return false;
         }
     }

@@ -23,29 +23,33 @@ const TERM_LIMIT: usize = 32_766;
 pub(super) fn read_item(
     alloc: Global,
     kind: FieldType,
-    json: &Value,
+    json: Value,
 ) -> Result<Val, Refusal<DocFault>>
     ensures answer { Answers val_view fault_view result
-        (value_of (field_type_view kind) (view json.now)) }
+        (value_of (field_type_view kind) (view json)) }
     ensures valid { IfOk result (λ val. IsTrue (is_value_of (field_type_view kind) (val_view val))) }
 {
     match kind {
         FieldType::Str | FieldType::Strs => text_item(alloc, json),
-        FieldType::Long | FieldType::Longs => long_item(json),
+        FieldType::Long | FieldType::Longs => long_item(&json),
     }
 }
 
-// A text, or a whole number of 64 bits, which stands for its decimal text.
-fn text_item(alloc: Global, json: &Value) -> Result<Val, Refusal<DocFault>>
-    ensures answer { Answers val_view fault_view result (text_item (view json.now)) }
+// A text, which is taken over, or a whole number of 64 bits, which stands for its decimal text.
+fn text_item(alloc: Global, json: Value) -> Result<Val, Refusal<DocFault>>
+    ensures answer { Answers val_view fault_view result (text_item (view json)) }
     ensures valid { IfOk result (λ val. IsTrue (is_value_of string (val_view val))) }
 {
-    if let Some(text) = json.as_str() {
-        check_length(text)?;
-        return Ok(Val::Text(Name::new(alloc, text)?));
+    match json {
+        Value::String(text) => {
+            check_length(text.as_str())?;
+            Ok(Val::Text(Name::of(text)))
+        }
+        other => {
+            let number = other.as_i64().ok_or(DocFault::WrongType)?;
+            Ok(Val::Text(Name::new(alloc, Buffer::new().format(number))?))
+        }
     }
-    let number = json.as_i64().ok_or(DocFault::WrongType)?;
-    Ok(Val::Text(Name::new(alloc, Buffer::new().format(number))?))
 }
 
 // A whole number of 64 bits, or a text that spells one.

@@ -1,5 +1,5 @@
 // The values of one member.
-ghost use Rattle.std.specs.Prelude.{◌≡◌, All, IfOk, IsTrue};
+ghost use Rattle.std.specs.Prelude.{◌≡◌, [], ◌∷◌, All, IfOk, IsTrue};
 ghost use Rattle.serde_json.specs.View.{view, items_view};
 ghost use Rattle.fc_spec.specs.words.Walks.{each};
 ghost use Rattle.fc_spec.specs.documents.BlockReading.{items_in, takes, value_of, values_for, without_nulls};
@@ -13,36 +13,24 @@ use crate::DocFault;
 use fc_base::{FieldType, Refusal, Val};
 use serde_json::Value;
 use std::alloc::Global;
-use std::slice;
 
 /// The different values of a member, in index order.
 pub(super) fn read_values(
     alloc: Global,
     kind: FieldType,
-    json: &Value,
+    json: Value,
 ) -> Result<Vec<Val>, Refusal<DocFault>>
     ensures answer { Answers values_view fault_view result
-        (values_for (field_type_view kind) (view json.now)) }
+        (values_for (field_type_view kind) (view json)) }
     ensures valid { IfOk result (λ values. AreValuesOf (field_type_view kind) (values_view values)) }
 {
-    let mut values = read_items(alloc, kind, items_in(json))?;
+    let mut values = read_given(alloc, kind, json)?;
     if !takes(kind, values.len()) {
         return Err(Refusal::Fault(DocFault::TooManyValues));
     }
     values.sort_unstable();
     values.dedup();
     Ok(values)
-}
-
-// None of null, those of an array, or else the value itself.
-fn items_in(json: &Value) -> &[Value]
-    ensures { without_nulls (items_view result.now) ≡ items_in (view json.now) }
-{
-    match json {
-        Value::Null => &[],
-        Value::Array(items) => items.as_slice(),
-        _ => slice::from_ref(json),
-    }
 }
 
 // Whether a field of the type may have so many values.
@@ -55,14 +43,42 @@ fn takes(kind: FieldType, count: usize) -> bool
     }
 }
 
-// The items, of which nulls are passed over.
+// The values of a member's items: of none where it is null, of those of an array, or else of the member itself.
+fn read_given(alloc: Global, kind: FieldType, json: Value) -> Result<Vec<Val>, Refusal<DocFault>>
+    ensures answer { Answers values_view fault_view result
+        (each (value_of (field_type_view kind)) (items_in (view json))) }
+    ensures valid { IfOk result
+        (λ values. All (λ val. IsTrue (is_value_of (field_type_view kind) (val_view val)))
+        values.items) }
+{
+    match json {
+        Value::Null => Ok(Vec::new(alloc)),
+        Value::Array(items) => read_items(alloc, kind, items),
+        other => read_one(alloc, kind, other),
+    }
+}
+
+// The value of the only item.
+fn read_one(alloc: Global, kind: FieldType, json: Value) -> Result<Vec<Val>, Refusal<DocFault>>
+    ensures answer { Answers values_view fault_view result
+        (each (value_of (field_type_view kind)) (view json ∷ [])) }
+    ensures valid { IfOk result
+        (λ values. All (λ val. IsTrue (is_value_of (field_type_view kind) (val_view val)))
+        values.items) }
+{
+    let mut values = Vec::with_capacity(alloc, 1)?;
+    values.push(read_item(alloc, kind, json)?)?;
+    Ok(values)
+}
+
+// The values of the items, of which nulls are passed over.
 fn read_items(
     alloc: Global,
     kind: FieldType,
-    items: &[Value],
+    items: Vec<Value>,
 ) -> Result<Vec<Val>, Refusal<DocFault>>
     ensures answer { Answers values_view fault_view result
-        (each (value_of (field_type_view kind)) (without_nulls (items_view items.now))) }
+        (each (value_of (field_type_view kind)) (without_nulls (items_view items.items))) }
     ensures valid { IfOk result
         (λ values. All (λ val. IsTrue (is_value_of (field_type_view kind) (val_view val)))
         values.items) }

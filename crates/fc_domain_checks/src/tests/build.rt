@@ -66,7 +66,7 @@ pub(super) fn batch_of(
     assert!(rt; items.len() <= 1_000);
     let mut blocks = Vec::new(alloc);
     for item in items {
-        let block = read_block(alloc, schema, item)?;
+        let block = read_block(alloc, schema, item.clone()?)?;
         assert!(rt; block.children.len() <= 64);
         blocks.push(block)?;
     }

@@ -113,7 +113,7 @@ fn blocks_have_their_values(rt: HostRuntime) -> Result<(), Fail> {
     let alloc = rt.alloc();
     let schema = schema(alloc)?;
     for (text, values) in VALUES {
-        let block = read_block(alloc, &schema, &Value::from_str(alloc, text)?)?;
+        let block = read_block(alloc, &schema, Value::from_str(alloc, text)?)?;
         let found = shown(alloc, &block)?;
         assert!(rt; found.as_str() == *values, "{found} at {text}");
     }
@@ -123,7 +123,7 @@ fn blocks_have_their_values(rt: HostRuntime) -> Result<(), Fail> {
 // The text of the fault, or none where the block is taken.
 fn fault_of(alloc: Global, schema: &Schema, text: &str) -> Result<String, Fail> {
     let mut out = String::new(alloc);
-    match read_block(alloc, schema, &Value::from_str(alloc, text)?) {
+    match read_block(alloc, schema, Value::from_str(alloc, text)?) {
         Err(Refusal::Fault(fault)) => write!(out, "{fault}")?,
         Err(Refusal::Memory) => out.push_str("memory")?,
         Ok(_) => (),

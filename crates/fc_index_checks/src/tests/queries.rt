@@ -70,7 +70,7 @@ fn segment_of(rt: &impl Abort, alloc: Global, schema: &Schema) -> Result<Segment
     ensures { IfOk result (λ segment.
         segment.texts ≡ texts_held schema.now.fields) }
 {
-    let block = read_block(alloc, schema, &Value::from_str(alloc, BLOCK)?)?;
+    let block = read_block(alloc, schema, Value::from_str(alloc, BLOCK)?)?;
     assert!(rt; block.children.len() < 5);
     let blocks = vec![in alloc; block]?;
     Ok(Segment::build(alloc, schema, &Batch { blocks })?)

@@ -24,7 +24,7 @@ fn batch_of(rt: &impl Abort, alloc: Global, schema: &Schema, blocks: &[&str]) ->
 {
     let mut read = Vec::new(alloc);
     for text in blocks {
-        let block = read_block(alloc, schema, &Value::from_str(alloc, text)?)?;
+        let block = read_block(alloc, schema, Value::from_str(alloc, text)?)?;
         assert!(rt; block.children.len() < 4);
         read.push(block)?;
     }

@@ -10,8 +10,8 @@ const FIELDS: &str = r#"{"shards":1,"fields":{"n":"plong","ns":"plongs","tags":"
 // The sums of `id`, `n`, `ns` and `tags` after two documents, and what is left of room for six values
 // behind the second; each is none where there is too much.
 fn told(alloc: Global, schema: &Schema, first: &str, second: &str) -> Result<String, Fail> {
-    let first = read_block(alloc, schema, &Value::from_str(alloc, first)?)?;
-    let second = read_block(alloc, schema, &Value::from_str(alloc, second)?)?;
+    let first = read_block(alloc, schema, Value::from_str(alloc, first)?)?;
+    let second = read_block(alloc, schema, Value::from_str(alloc, second)?)?;
     let room = second.parent.room_after(6);
     let mut sums = vec![in alloc; 0; schema.fields() as usize]?;
     if first.parent.add_to_sums(&mut sums) && second.parent.add_to_sums(&mut sums) {

@@ -46,7 +46,7 @@ pub(super) fn segment_of(
     ensures texts { IfOk result (λ segment. segment.texts ≡ texts_held schema.now.fields) }
     ensures limits { IfOk result (λ segment. IsWithinLimits (segment.blocks ∷ [])) }
 {
-    let block = read_block(alloc, schema, &json_of(alloc, text)?)?;
+    let block = read_block(alloc, schema, json_of(alloc, text)?)?;
     assert!(rt; block.children.len() < 1_000);
     let batches = vec![in alloc;
         Batch {

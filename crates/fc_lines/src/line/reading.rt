@@ -17,8 +17,9 @@ ghost use Rattle.fc_lines.specs.ValidLines.{HasRoot, IsLineOf};
 
 use super::Line;
 use super::search::asking;
+use super::taking::{take_member, take_members, take_sole_member};
 use crate::fault::LineFault;
-use fc_base::json::{has_only, member, sole_member};
+use fc_base::json::{has_only, member};
 use fc_base::{Refusal, Schema};
 use fc_docs::{Block, read_block};
 use serde_json::{Map, Value};
@@ -79,9 +80,9 @@ fn session_of<'v>(json: Option<&'v Value>) -> Result<&'v str, LineFault>
 }
 
 // The block that a value is.
-fn block_of(alloc: Global, schema: &Schema, json: &Value) -> Result<Block, Refusal<LineFault>>
+fn block_of(alloc: Global, schema: &Schema, json: Value) -> Result<Block, Refusal<LineFault>>
     ensures answer { Answers block_view line_fault_view result
-        (with_fault bad_document (block_of schema.now (view json.now))) }
+        (with_fault bad_document (block_of schema.now (view json))) }
     ensures valid { IfOk result (λ block. IsBlockOf schema.now (block_view block)) }
 {
     match read_block(alloc, schema, json) {
@@ -95,18 +96,19 @@ fn block_of(alloc: Global, schema: &Schema, json: &Value) -> Result<Block, Refus
 fn add_of(
     alloc: Global,
     schema: &Schema,
-    members: &Map<String, Value>,
+    mut members: Map<String, Value>,
 ) -> Result<Line, Refusal<LineFault>>
     ensures answer { Answers line_view line_fault_view result
-        (asked_line schema.now (reading.add_of schema.now (members_view members.now.entries))) }
+        (asked_line schema.now (reading.add_of schema.now (members_view members.entries))) }
     ensures valid { IfOk result (λ line. IsLineOf schema.now (line_view line)) }
     ensures root { IfOk result HasRoot }
 {
-    if !has_only(members, &["doc", "shard"]) {
+    if !has_only(&members, &["doc", "shard"]) {
         return Err(Refusal::Fault(LineFault::UnknownLine));
     }
-    let document = member(members, "doc").ok_or(LineFault::UnknownLine)?;
-    let shard = added_shard(schema, member(members, "shard"))?;
+    let shard = added_shard(schema, member(&members, "shard"));
+    let document = take_member(&mut members, "doc").ok_or(LineFault::UnknownLine)?;
+    let shard = shard?;
     let block = block_of(alloc, schema, document)?;
     Ok(Line::Add(shard, block))
 }
@@ -160,20 +162,20 @@ fn search_of(
 pub(crate) fn read_line(
     alloc: Global,
     schema: &Schema,
-    json: &Value,
+    json: Value,
 ) -> Result<Line, Refusal<LineFault>>
     ensures answer { Answers line_view line_fault_view result
-        (asked_line schema.now (reading.line_said schema.now (view json.now))) }
+        (asked_line schema.now (reading.line_said schema.now (view json))) }
     ensures valid { IfOk result (λ line. IsLineOf schema.now (line_view line)) }
     ensures root { IfOk result HasRoot }
 {
-    let (name, inside) = sole_member(json).ok_or(LineFault::UnknownLine)?;
-    let members = inside.as_object().ok_or(LineFault::UnknownLine)?;
-    match name {
+    let (name, inside) = take_sole_member(json).ok_or(LineFault::UnknownLine)?;
+    let members = take_members(inside).ok_or(LineFault::UnknownLine)?;
+    match name.as_str() {
         "add" => add_of(alloc, schema, members),
-        "commit" => Ok(commit_of(schema, members)?),
-        "sync" => Ok(sync_of(members)?),
-        "search" => search_of(alloc, schema, members),
+        "commit" => Ok(commit_of(schema, &members)?),
+        "sync" => Ok(sync_of(&members)?),
+        "search" => search_of(alloc, schema, &members),
         _ => Err(Refusal::Fault(LineFault::UnknownLine)),
     }
 }

@@ -4,4 +4,4 @@ use Rattle.fc_docs.proofs.ReadSoFar.{ReadSoFar}
 use Rattle.fc_docs.proofs.read.read_members.Given as goal
 
 abbrev pub invariant-loop-key : goal.invariant-loop-key
-invariant-loop-key l = ReadSoFar (role_view l.role) l.schema (members_view l.members.entries) l.document (members_view l.key-iterator)
+invariant-loop-key l = ReadSoFar (role_view l.role) l.schema (members_view l.fn.members.entries) l.document (members_view l.key-iterator)

@@ -1,4 +1,4 @@
-use Rattle.std.proofs.Common.{◌≡◌, All, IsTrue, drop}
+use Rattle.std.proofs.Common.{◌≡◌, All, IsTrue}
 use Rattle.serde_json.specs.View.{items_view}
 use Rattle.fc_spec.specs.words.Walks.{each}
 use Rattle.fc_spec.specs.documents.BlockReading.{value_of, without_nulls}
@@ -11,4 +11,4 @@ use Rattle.fc_docs.proofs.read.values.read_items.Given as goal
 abbrev pub invariant-loop-item : goal.invariant-loop-item
 invariant-loop-item l =
     let step = value_of (field_type_view l.kind) in
-    record { read : each step (without_nulls (items_view l.items)) ≡ behind (values_view l.values) (each step (without_nulls (items_view (drop l.item-index l.items)))); valid : All (λ val. IsTrue (is_value_of (field_type_view l.kind) (val_view val))) l.values.items }
+    record { read : each step (without_nulls (items_view l.fn.items.items)) ≡ behind (values_view l.values) (each step (without_nulls (items_view l.item-iterator.rest.items))); valid : All (λ val. IsTrue (is_value_of (field_type_view l.kind) (val_view val))) l.values.items }

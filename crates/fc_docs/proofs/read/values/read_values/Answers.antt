@@ -13,9 +13,9 @@ pub returns-clause-answer : goal.returns-clause-answer
 returns-clause-answer c =
     let sorted : AreSorted c.in_ok-values.values.items c.sort_unstable.new.self.items c.dedup.new.self.items = record { moved = c.sort_unstable.ensures.permutation; sorted = c.sort_unstable.ensures.sorted; kept = c.dedup.ensures.filtered } in
     let kind = field_type_view c.args.kind in
-    let items : each (value_of kind) (items_in (view c.args.json.now)) ≡ Ok (values_view c.in_ok-values.values) = rw (← c.items_in.ensures) c.in_ok-values.ensures.answer in
+    let items : each (value_of kind) (items_in (view c.args.json)) ≡ Ok (values_view c.in_ok-values.values) = c.in_ok-values.ensures.answer in
     let few : takes kind (length (values_view c.in_ok-values.values)) ≡ true = rw (length-map, ← c.in_ok-values.values.ok.0, ← c.len.ensures) (sym c.takes.ensures ∙ c.if-not-takes.false) in
-    values_are kind (view c.args.json.now) _ _ items few (are_distinct _ _ _ sorted)
+    values_are kind (view c.args.json) _ _ items few (are_distinct _ _ _ sorted)
 
 pub returns-clause-valid : goal.returns-clause-valid
 returns-clause-valid c =

@@ -1,7 +1,7 @@
 use Rattle.std.proofs.Common.{rules}
 use Rattle.std.proofs.lemmas.List.Sorted.{answers_always}
-use Rattle.fc_docs.proofs.FieldPlaces.{searched}
-use Rattle.fc_docs.proofs.document.field_values.place_of.Goals as goal
+use Rattle.fc_docs.proofs.Drafts.{searched}
+use Rattle.fc_docs.proofs.document.draft.field_values.place_of.Goals as goal
 
 -- the closure gives an entry's field
 pub returns : goal.returns

@@ -1,6 +1,0 @@
-use Rattle.std.proofs.Common.{refl}
-use Rattle.fc_docs.proofs.FieldLists.{document_of-empty}
-use Rattle.fc_docs.proofs.document.Document.empty.Goals as goal
-
-pub returns : goal.returns
-returns c = document_of-empty c.args.fields c.new.result.items (λ n. rw c.new.ensures.items refl)
