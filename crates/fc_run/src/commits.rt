@@ -63,7 +63,7 @@ fn commit(
     }
 }
 
-// Batches of its own make one segment.
+// Batches of its own make one segment, if one of them has a block.
 fn commit_own(
     alloc: Global,
     earlier: &Arc<Generation>,
@@ -86,7 +86,7 @@ fn commit_own(
     })
 }
 
-// Shared ones make a segment each.
+// Shared ones make a segment each, if they have a block.
 fn commit_shared(
     alloc: Global,
     earlier: &Arc<Generation>,

@@ -52,7 +52,7 @@ impl Generation {
         Ok(Arc::new(alloc, first)?)
     }
 
-    /// The generation after an earlier one: its blocks, and then those of a batch, perhaps none.
+    /// The generation after an earlier one: its blocks, and then those of a batch, perhaps none. They make one segment, if any.
     pub fn next(
         alloc: Global,
         earlier: &Generation,
@@ -75,7 +75,7 @@ impl Generation {
     }
 
     /// The generation after an earlier one and a commit of each of these batches: its blocks, and then those of the batches, in
-    /// order. They make one segment, whatever their number.
+    /// order. They make one segment, whatever their number, and none where no batch has a block.
     pub fn after(
         alloc: Global,
         earlier: &Generation,
@@ -127,8 +127,26 @@ impl Generation {
     }
 }
 
-// The segments of a generation, shared, and one that holds the blocks of a batch.
+// The segments of a generation, shared, and one that holds the blocks of a batch, if it has any.
 fn segments_with(
+    alloc: Global,
+    earlier: &Generation,
+    batch: &Batch,
+) -> Result<Vec<Arc<Segment>>, WantMemory>
+    requires { IsBatchOf earlier.now.schema (batch_view batch.now) }
+    ensures blocks { IfOk result (λ segments. blocks_of (map arc_value segments.items)
+        ≡ earlier.now.blocks ++ batch_view batch.now) }
+    ensures kept { IfOk result (λ segments.
+        AreSegmentsOf earlier.now.schema (map arc_value segments.items)) }
+{
+    if batch.blocks.is_empty() {
+        return earlier.share(alloc);
+    }
+    one_more(alloc, earlier, batch)
+}
+
+// The same with a segment for any batch.
+fn one_more(
     alloc: Global,
     earlier: &Generation,
     batch: &Batch,

@@ -1,5 +1,6 @@
 // What no clause says of stores: that readers see what is published, and that memory is enough.
 ghost use Rattle.std.specs.Prelude.{◌≡◌, ◌≤◌, length, All, IfOk};
+ghost use Rattle.std.specs.Arc.{arc_value};
 ghost use Rattle.fc_docs.specs.View.{batch_view};
 ghost use Rattle.fc_store.specs.Charters.{IsBatchOf};
 
@@ -37,7 +38,7 @@ fn batch_of(rt: &impl Abort, alloc: Global, schema: &Schema, blocks: &[&str]) ->
 {
     let mut read = Vec::new(alloc);
     for text in blocks {
-        let block = read_block(alloc, schema, &Value::from_str(alloc, text)?)?;
+        let block = read_block(alloc, schema, Value::from_str(alloc, text)?)?;
         assert!(rt; block.children.is_empty());
         read.push(block)?;
     }
@@ -200,6 +201,64 @@ fn empty_batches_are_published(rt: HostRuntime) -> Result<(), Fail> {
         let last = Some(count as u64);
         assert_eq!(rt; ends, [Some(0), last, last, Some(0)]);
     }
+    Ok(())
+}
+
+// The generation after a commit of these blocks.
+fn committed(
+    rt: &impl Abort,
+    alloc: Global,
+    schema: &Schema,
+    earlier: &Generation,
+    blocks: &[&str],
+) -> Result<Arc<Generation>, Fail>
+    requires few { length blocks.now ≤ 2 }
+    requires schema { earlier.now.schema ≡ schema.now }
+    ensures schema { IfOk result (λ later. (arc_value later).schema ≡ schema.now) }
+    ensures number { IfOk result (λ later. (arc_value later).number ≤ 100) }
+{
+    assert!(rt; earlier.number() < 100);
+    let batch = batch_of(rt, alloc, schema, blocks)?;
+    Ok(Generation::next(alloc, earlier, &batch)?)
+}
+
+// The generation after two commits without a block.
+fn twice_committed(alloc: Global, earlier: &Generation) -> Result<Arc<Generation>, Fail>
+    requires { earlier.now.number ≤ 100 }
+{
+    let batches = vec![in alloc;
+        Batch {
+            blocks: Vec::new(alloc),
+        },
+        Batch {
+            blocks: Vec::new(alloc),
+        },
+    ]?;
+    Ok(Generation::after(alloc, earlier, batches)?)
+}
+
+// Its number, and how many segments it has.
+fn counts(generation: &Generation) -> (u64, usize) {
+    (generation.number(), generation.segments().len())
+}
+
+#[test]
+fn a_commit_without_a_block_makes_no_segment(rt: HostRuntime) -> Result<(), Fail> {
+    let alloc = rt.alloc();
+    let schema = schema_of(alloc)?;
+    let first = Generation::first(alloc, Arc::try_clone(&schema)?)?;
+    let empty = committed(&rt, alloc, &schema, &first, BATCHES[1])?;
+    let one = committed(&rt, alloc, &schema, &empty, BATCHES[0])?;
+    let same = committed(&rt, alloc, &schema, &one, BATCHES[1])?;
+    let two = committed(&rt, alloc, &schema, &same, BATCHES[2])?;
+    let last = twice_committed(alloc, &two)?;
+    assert_eq!(rt; counts(&first), (0, 0));
+    assert_eq!(rt; counts(&empty), (1, 0));
+    assert_eq!(rt; counts(&one), (2, 1));
+    assert_eq!(rt; counts(&same), (3, 1));
+    assert_eq!(rt; counts(&two), (4, 2));
+    assert_eq!(rt; counts(&last), (6, 2));
+    assert_eq!(rt; documents(&last), 3);
     Ok(())
 }
 

@@ -46,6 +46,16 @@ pub(super) struct Case {
     request: Request,
     ask: Ask,
     generation: Arc<Generation>,
+    // How many segments it has.
+    segments: u64,
+}
+
+// A commit makes a segment if it has a document.
+fn segments_of(documents: &[&str], cut: Cut) -> u64 {
+    match cut {
+        Cut::Each => documents.len() as u64,
+        Cut::Once | Cut::Between => u64::from(!documents.is_empty()),
+    }
 }
 
 pub(super) fn case_of(
@@ -65,6 +75,7 @@ pub(super) fn case_of(
         request,
         ask,
         generation,
+        segments: segments_of(row.documents, cut),
     })
 }
 
@@ -147,7 +158,7 @@ fn check(
     requires covers { Covers (map name kinds.now) }
     requires can { CanAsk (arc_value case.now.generation) case.now.request case.now.ask }
 {
-    let each = case.generation.number().max(1);
+    let each = case.segments.max(1);
     let future = future_of(alloc, case, kinds)?;
     let message = driven(rt, future, row, each, calls, least)?;
     let text = text_of(alloc, &message)?;

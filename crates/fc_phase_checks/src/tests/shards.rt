@@ -63,7 +63,7 @@ fn batch_of(rt: &impl Abort, alloc: Global, schema: &Schema, lines: &[&str]) -> 
 {
     let mut blocks = Vec::new(alloc);
     for line in lines {
-        let block = read_block(alloc, schema, &json_of(alloc, line)?)?;
+        let block = read_block(alloc, schema, json_of(alloc, line)?)?;
         assert!(rt; block.children.len() <= 2);
         blocks.push(block)?;
     }

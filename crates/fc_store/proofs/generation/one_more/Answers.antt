@@ -5,7 +5,7 @@ use Rattle.fc_spec.specs.documents.ValidBlocks.{IsBlockOf}
 use Rattle.fc_spec.specs.documents.Schema.{texts_held}
 use Rattle.fc_store.specs.Segments.{AreSegmentsOf}
 use Rattle.fc_store.proofs.OneMoreSegment.{one_more_segment}
-use Rattle.fc_store.proofs.generation.segments_with.Goals as goal
+use Rattle.fc_store.proofs.generation.one_more.Goals as goal
 
 pub returns-clause-kept : goal.returns-clause-kept
 returns-clause-kept c =
