@@ -57,7 +57,7 @@ module _ (blocks : List Block) (set : List Bool) (long : length set ≡ document
       filter-none [] = refl
       filter-none (x ∷ xs) = filter-none xs
 
-not_zero : (n : ℕ) → (n == 0) ≡ false → 0 < n
+pub not_zero : (n : ℕ) → (n == 0) ≡ false → 0 < n
 not_zero zero e = cc
 not_zero (suc n) e = omega arith
 

@@ -18,7 +18,7 @@ use Rattle.fc_kind.specs.PlaceAt.{place_at}
 use Rattle.fc_count.specs.Counted.{AreCounted, HaveCounted, held_places}
 
 -- those that pass a test are picked by its answers
-picked_passing : {X Y : Type 0} (f : X → Y) (t : X → Bool) (xs : List X) → items_where_true (map t xs) (map f xs) ≡ map f (filter t xs)
+pub picked_passing : {X Y : Type 0} (f : X → Y) (t : X → Bool) (xs : List X) → items_where_true (map t xs) (map f xs) ≡ map f (filter t xs)
 picked_passing f t [] = refl
 picked_passing f t (x ∷ xs) = go (t x) (picked_passing f t xs)
   where

@@ -8,3 +8,4 @@ pub mod RowValues
 pub mod RunParts
 pub mod SortedRuns
 pub mod RunSteps
+pub mod HeldPositions

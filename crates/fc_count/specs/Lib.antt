@@ -4,3 +4,4 @@ pub mod Counting
 pub mod Countings
 pub mod Rows
 pub mod Runs
+pub mod Held

@@ -1,7 +1,9 @@
 pub mod Covered
 pub mod JoinedTallies
 pub mod PlaceColumns
+pub mod SetCounts
 pub mod PickedPlaces
 pub mod BucketPlaces
 pub mod CollectedParts
 pub mod ValidFacets
+pub mod ReadPlaces

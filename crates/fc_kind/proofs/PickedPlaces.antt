@@ -1,7 +1,8 @@
 -- The places at the positions in a set, one after another.
 use Rattle.std.proofs.Common.{◌≡◌, ◌<◌, ◌+◌, ℕ, suc, List, [], ◌∷◌, ◌++◌, map, length, get_or, Bool, true, false, refl, sym, ap, subst, ◌∙◌, arith, append_assoc, length-append, add-zero}
-use Rattle.std.specs.List.{AllByRecursion, items_where_true, range_with_len}
+use Rattle.std.specs.List.{All, AllByRecursion, items_where_true, range_with_len}
 use Rattle.std.proofs.lemmas.List.{map-append, get_or-append-add}
+use Rattle.std.proofs.lemmas.List.Elements.{All-from_recursion}
 use Rattle.fc_spec.specs.documents.Document.{Block}
 use Rattle.fc_spec.specs.documents.Sets.{places_on}
 use Rattle.fc_spec.specs.documents.Totals.{document_total}
@@ -45,6 +46,18 @@ module _ {X : Type 0} (d : X) where
 
 pub places_picked : (blocks : List Block) (set : List Bool) → length set ≡ document_total blocks → map (place_at blocks) (positions set) ≡ places_on 0 blocks set
 places_picked blocks set e = picked _ [] (shard_places 0 0 0 blocks) set (e ∙ sym (length-shard_places blocks))
+
+module _ (blocks : List Block) (set : List Bool) (long : length set ≡ document_total blocks) where
+  -- all positions in the set have a document
+  pub all_below : All (λ at. at < document_total blocks) (positions set)
+  all_below = subst (λ n. All (λ at. at < n) (positions set)) total (All-from_recursion (λ at. at < 0 + length set) (positions set) (below 0 set))
+    where
+      total : 0 + length set ≡ document_total blocks
+      total = omega (arith, long)
+
+  -- and the statistics of the documents there fit
+  pub all_fit : IsWithinLimits (blocks ∷ []) → StatisticsFit (map (place_at blocks) (positions set))
+  all_fit limits = subst StatisticsFit (sym (places_picked blocks set long)) (picked_fit set (shard_places 0 0 0 blocks) (segment_fits blocks limits))
 
 -- positions that were read, the next one, and those behind it
 module _ (blocks : List Block) (set : List Bool) (long : length set ≡ document_total blocks) (done : List ℕ) (at : ℕ) (rest : List ℕ) (all : done ++ at ∷ rest ≡ positions set) where

@@ -13,4 +13,4 @@ pub use kind::FacetKind;
 pub use kinds::{covers, kinds_of, the_kind};
 pub use law::collecting_joins;
 pub use name::{KindName, name_of};
-pub use statistics::{document_values, set_stats};
+pub use statistics::{document_value, document_values, set_stats, stats_at, value_at_all};

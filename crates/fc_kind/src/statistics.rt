@@ -1,12 +1,14 @@
 // The statistics of documents of a segment.
-ghost use Rattle.std.specs.Prelude.{◌≡◌, ◌<◌, [], ◌∷◌, length, map, IfOk, OnOk};
+ghost use Rattle.std.specs.Prelude.{◌≡◌, ◌<◌, [], ◌∷◌, length, map, All, IfOk, OnOk};
 ghost use Rattle.fc_spec.specs.documents.Sets.{places_on};
 ghost use Rattle.fc_spec.specs.documents.Totals.{document_total};
 ghost use Rattle.fc_spec.specs.requests.Statistics.{stats_over, value_over};
 ghost use Rattle.fc_spec.specs.scripts.WorldLimits.{IsWithinLimits};
 ghost use Rattle.fc_base.specs.StatisticView.{stat_view};
+ghost use Rattle.fc_partial.specs.Fitting.{StatisticsFit};
 ghost use Rattle.fc_partial.specs.StatsView.{stats_view};
 ghost use Rattle.fc_partial.specs.View.{stat_value_view};
+ghost use Rattle.fc_docset.specs.Positions.{positions};
 ghost use Rattle.fc_kind.specs.Columns.{HaveFields};
 ghost use Rattle.fc_kind.specs.PlaceAt.{place_at};
 
@@ -16,8 +18,8 @@ use fc_partial::{StatValue, Stats};
 use fc_segment::{Column, Segment};
 use std::alloc::Global;
 
-// A statistic of the document at a position.
-fn value_at(segment: &Segment, stat: Stat, at: u32) -> StatValue
+/// A statistic of the document at a position.
+pub fn document_value(segment: &Segment, stat: Stat, at: u32) -> StatValue
     requires field { stat.field.0 < length segment.now.texts }
     requires limits { IsWithinLimits (segment.now.blocks ∷ []) }
     requires there { at < document_total segment.now.blocks }
@@ -45,9 +47,49 @@ pub fn document_values(
 {
     values.clear();
     for stat in stats {
-        values.push(value_at(segment, *stat, at))?;
+        values.push(document_value(segment, *stat, at))?;
     }
     Ok(())
+}
+
+/// A statistic of the documents at these positions.
+pub fn value_at_all(segment: &Segment, stat: Stat, positions: &[u32]) -> StatValue
+    requires field { stat.field.0 < length segment.now.texts }
+    requires limits { IsWithinLimits (segment.now.blocks ∷ []) }
+    requires there { All (λ at. at < document_total segment.now.blocks) positions.now }
+    requires fit { StatisticsFit (map (place_at segment.now.blocks) positions.now) }
+    ensures { stat_value_view result
+        ≡ value_over (stat_view stat) (map (place_at segment.now.blocks) positions.now) }
+{
+    let mut value = StatValue::neutral(stat);
+    for at in positions {
+        value = value.combined(stat.of, document_value(segment, stat, *at));
+    }
+    value
+}
+
+/// The number of these positions, with these statistics of their documents. One statistic is read after another.
+pub fn stats_at(
+    alloc: Global,
+    segment: &Segment,
+    stats: &[Stat],
+    positions: &[u32],
+) -> Result<Stats, WantMemory>
+    requires fields { HaveFields segment.now.texts (map stat_view stats.now) }
+    requires limits { IsWithinLimits (segment.now.blocks ∷ []) }
+    requires there { All (λ at. at < document_total segment.now.blocks) positions.now }
+    requires fit { StatisticsFit (map (place_at segment.now.blocks) positions.now) }
+    ensures { IfOk result (λ over. stats_view over ≡ stats_over (map stat_view stats.now)
+        (map (place_at segment.now.blocks) positions.now)) }
+{
+    let mut values = Vec::with_capacity(alloc, stats.len())?;
+    for stat in stats {
+        values.push(value_at_all(segment, *stat, positions))?;
+    }
+    Ok(Stats {
+        count: positions.len() as u64,
+        values,
+    })
 }
 
 /// The number of documents in the set, with these statistics of them.
@@ -63,14 +105,23 @@ pub fn set_stats(
     ensures { IfOk result (λ over. stats_view over ≡ stats_over (map stat_view stats.now)
         (places_on 0 segment.now.blocks docs.now)) }
 {
-    let mut over = Stats::neutral(alloc, stats)?;
-    let mut one = Stats {
-        count: 1,
-        values: Vec::new(alloc),
-    };
-    for at in docs.iter() {
-        document_values(segment, stats, at, &mut one.values)?;
-        over.combine(stats, &one);
+    if stats.is_empty() {
+        return Ok(Stats {
+            count: u64::from(docs.count()),
+            values: Vec::new(alloc),
+        });
     }
-    Ok(over)
+    let positions = listed(alloc, docs)?;
+    stats_at(alloc, segment, stats, &positions)
+}
+
+// The positions in a set.
+fn listed(alloc: Global, docs: &DocSet) -> Result<Vec<u32>, WantMemory>
+    ensures { IfOk result (λ list. list.items ≡ positions docs.now) }
+{
+    let mut list = Vec::with_capacity(alloc, docs.count() as usize)?;
+    for at in docs.iter() {
+        list.push(at)?;
+    }
+    Ok(list)
 }

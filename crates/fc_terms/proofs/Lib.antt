@@ -10,3 +10,4 @@ pub mod GatheredPlaces
 pub mod RunBuckets
 pub mod LongRuns
 pub mod TermRuns
+pub mod TermPostings

@@ -1,10 +1,16 @@
-// When numbers are counted side by side.
+// Which way of counting costs least. It shows in nothing but time.
 
 // How many numbers are cleared and read at most where there is no document.
 const SPARE: u64 = 64;
 
 /// Whether so many numbers are not many more than the documents: then a cell for each of them costs less than sorting
-/// what the documents have. It shows in nothing but time.
+/// what the documents have.
 pub(crate) fn is_dense(numbers: u64, docs: u32) -> bool {
     numbers <= 4 * u64::from(docs) + SPARE
+}
+
+/// Whether at least a quarter of so many documents are in a set that has this count: then reading the documents of each
+/// number costs less than reading the numbers of each document.
+pub(crate) fn holds_much(count: u32, len: u32) -> bool {
+    4 * u64::from(count) >= u64::from(len)
 }

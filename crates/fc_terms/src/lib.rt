@@ -11,6 +11,7 @@ mod missing;
 mod numbers;
 mod prefix;
 mod selecting;
+mod text_postings;
 mod text_runs;
 mod texts;
 mod values;

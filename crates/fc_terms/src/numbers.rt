@@ -1,7 +1,7 @@
 // Terms and integers of a column, by number.
 use fc_base::WantMemory;
 use fc_column::{LongColumn, TextColumn};
-use fc_count::{Keys, Numbering};
+use fc_count::{Keys, Numbering, Postings};
 use fc_partial::{Cells, StatValue, Stats, Tally};
 
 /// The terms of a column from one ordinal up to but not including another, numbered from 0 on.
@@ -28,6 +28,21 @@ impl Numbering for TermSpan<'_> {
                 cells.add((*ord - self.from) as usize, values);
             }
         }
+    }
+}
+
+impl Postings for TermSpan<'_> {
+    ghost use Rattle.std.specs.Prelude.{length, pos};
+    ghost use Rattle.fc_terms.specs.TermSpan.{IsTermNumber, has_term};
+
+    ghost positions = { λ span. length span.column.now };
+
+    ghost has_list = { λ span i. IsTermNumber span.column.now span.from span.to (pos i) };
+
+    ghost holds = { λ span at i. has_term span.column.now span.from at i };
+
+    fn positions_of(&self, number: usize) -> &[u32] {
+        self.column.positions_of(self.from + number as u32)
     }
 }
 

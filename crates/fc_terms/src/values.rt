@@ -12,9 +12,10 @@ ghost use Rattle.fc_kind.specs.Collecting.{BucketsAddUp, CollectsAmong};
 ghost use Rattle.fc_kind.specs.Columns.{FitsColumns, HaveFields};
 ghost use Rattle.fc_terms.specs.Values.{is_value_key};
 
-use crate::density::is_dense;
+use crate::density::{holds_much, is_dense};
 use crate::long_values::collect_longs;
 use crate::prefix::prefix_span;
+use crate::text_postings::collect_texts_by_postings;
 use crate::text_runs::collect_texts_in_runs;
 use crate::texts::collect_texts_densely;
 use fc_base::{Stat, WantMemory};
@@ -25,8 +26,9 @@ use fc_partial::Tally;
 use fc_segment::{Column, Segment};
 use std::alloc::Global;
 
-// Combines the statistics of the documents in the set into each text that begins with the prefix: side by side where
-// the terms are not many more than the documents, else in runs.
+// Combines the statistics of the documents in the set into each text that begins with the prefix: by the documents of
+// each text where the set holds much of the segment, else side by side where the terms are not many more than the
+// documents, else in runs.
 fn collect_texts(
     alloc: Global,
     segment: &Segment,
@@ -49,7 +51,10 @@ fn collect_texts(
         (places_on 0 segment.now.blocks docs.now) into.old into.new) }
 {
     let span = prefix_span(column, terms);
-    if is_dense(u64::from(span.1 - span.0), docs.count()) {
+    let count = docs.count();
+    if holds_much(count, docs.len()) {
+        collect_texts_by_postings(alloc, segment, docs, terms, column, span, stats, into)
+    } else if is_dense(u64::from(span.1 - span.0), count) {
         let stats = stats.to_vec(alloc)?;
         collect_texts_densely(alloc, segment, docs, terms, column, span, stats, into)
     } else {

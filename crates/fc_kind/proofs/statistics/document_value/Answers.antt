@@ -15,7 +15,7 @@ use Rattle.fc_partial.proofs.OneDocuments.{statistic_in-one}
 use Rattle.fc_partial.proofs.ValueLists.{longs_in-longs}
 use Rattle.fc_kind.specs.PlaceAt.{place_at}
 use Rattle.fc_kind.proofs.PlaceColumns.{length-shard_places, nowhere, row_at, segment_fits}
-use Rattle.fc_kind.proofs.statistics.value_at.Goals as goal
+use Rattle.fc_kind.proofs.statistics.document_value.Goals as goal
 
 pub of_longs-requires-clause-small : goal.of_longs-requires-clause-small
 of_longs-requires-clause-small c =
