@@ -9,3 +9,4 @@ pub mod GapRows
 pub mod GapBuckets
 pub mod BesideGaps
 pub mod CountedOnce
+pub mod GapInside

@@ -3,6 +3,7 @@
 
 mod counting;
 mod ends;
+mod inside;
 mod keys;
 mod query;
 mod range;

@@ -62,9 +62,14 @@ fn collect_gaps(
     let Column::Long(column) = segment.column(range.field) else {
         unreachable!()
     };
-    let bound = range.gaps() as usize;
-    let gaps = GapNumbers { range, column };
-    let cells = counted_cells(alloc, segment, docs, stats, bound, &gaps)?;
+    let gaps = range.gaps();
+    let bound = gaps as usize;
+    let numbers = GapNumbers {
+        range,
+        gaps,
+        column,
+    };
+    let cells = counted_cells(alloc, segment, docs, stats, bound, &numbers)?;
     add_cells(alloc, &cells, bound, &GapKeys, into)?;
     Ok(())
 }

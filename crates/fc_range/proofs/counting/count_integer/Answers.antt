@@ -1,13 +1,15 @@
-use Rattle.std.proofs.Common.{◌≡◌, ◌≤◌, ◌∙◌, ◌&&◌, true, false, map, sym, ap, w64, to_z, of_z, arith, rules}
+use Rattle.std.proofs.Common.{◌≡◌, ◌∙◌, ◌&&◌, ◌==◌, ℕ, ℤ, false, map, ap, sym, subst, w64, eq-eqb, refl, rules}
 use Rattle.std.specs.Prelude.{nat_le}
 use Rattle.std.proofs.lemmas.Int.{to_z-of_z}
-use Rattle.fc_spec.specs.requests.Gaps.{gap_count, in_gap}
+use Rattle.fc_spec.specs.requests.Gaps.{in_gap}
 use Rattle.fc_facet.specs.KindView.{range_view}
 use Rattle.fc_gaps.proofs.NearGaps.{none_below}
 use Rattle.fc_partial.specs.View.{stat_value_view}
+use Rattle.fc_count.specs.Counted.{HaveCounted}
 use Rattle.fc_count.proofs.CountedSteps.{counted_none, counted_same}
-use Rattle.fc_range.specs.Reached.{is_held}
-use Rattle.fc_range.proofs.GapSteps.{held_if_passed, near_passed, not_held, passed}
+use Rattle.fc_range.specs.Reached.{IsReached, is_held}
+use Rattle.fc_range.proofs.GapInside.{held_alone}
+use Rattle.fc_range.proofs.GapSteps.{not_held}
 use Rattle.fc_range.proofs.Reached.{alike_reached, none_reached}
 use Rattle.fc_range.proofs.counting.count_integer.Goals as goal
 
@@ -23,37 +25,40 @@ returns-then-x-range-clause-reached c =
     let g = range_view c.args.range.now in
     none_reached (λ i. nat_le c.args.reached i && is_held g c.args.x i) c.args.reached (λ i. not_held g c.args.x c.args.reached i (none_below g c.requires.few i c.args.x (search rules)))
 
-pub count_gaps-requires-clause-fits : goal.count_gaps-requires-clause-fits
-count_gaps-requires-clause-fits c = λ i from below holds.
+pub count_alone-requires-clause-fits : goal.count_alone-requires-clause-fits
+count_alone-requires-clause-fits c = λ behind.
     let g = range_view c.args.range.now in
-    let least : c.args.reached ≤ c.max-from.result = search rules in
-    let most : c.min-to.result ≤ gap_count g = search rules in
-    let held : is_held g c.args.x i ≡ true = held_if_passed g c.args.x i (omega arith) (ap (in_gap g i) (sym (to_z-of_z w64 c.args.x c.ranges.x)) ∙ holds) in
-    c.requires.fits i (omega arith) held
+    let n = c.in-Some.number in
+    let same = to_z-of_z w64 c.args.x c.ranges.x in
+    let alone = subst (λ (z : ℤ). (i : ℕ) → in_gap g i z ≡ (i == n)) same c.in-Some.ensures.alone in
+    c.requires.fits n behind (held_alone g c.args.x n c.in-Some.ensures.there alone n ∙ eq-eqb n n refl)
 
-pub returns-clause-counted : goal.returns-clause-counted
-returns-clause-counted c =
+pub returns-in-Some-clause-counted : goal.returns-in-Some-clause-counted
+returns-in-Some-clause-counted c =
     let g = range_view c.args.range.now in
-    let values = map stat_value_view c.args.values.now in
-    let x = to_z w64 (of_z w64 c.args.x) in
-    let n = c.gaps_before-number.result in
-    let from = c.max-from.result in
-    let to = c.min-to.result in
-    let first : c.args.reached ≤ from = search rules in
-    let last : to ≤ gap_count g = search rules in
-    counted_same (passed (λ k. in_gap g k x) from to) (λ i. nat_le c.args.reached i && is_held g c.args.x i) values c.args.cells.now c.count_gaps.new.cells
-    (λ i l. sym (near_passed g x n c.args.reached from to c.gaps_before-number.ensures first (λ k a b. grind arith) last (λ k a b. grind arith) i
-    ∙ (λ j. nat_le c.args.reached i && is_held g (to_z-of_z w64 c.args.x c.ranges.x j) i))) c.count_gaps.ensures.counted
+    let n = c.in-Some.number in
+    let same = to_z-of_z w64 c.args.x c.ranges.x in
+    let alone = subst (λ (z : ℤ). (i : ℕ) → in_gap g i z ≡ (i == n)) same c.in-Some.ensures.alone in
+    counted_same (λ i. nat_le c.args.reached i && (i == n)) (λ i. nat_le c.args.reached i && is_held g c.args.x i) (map stat_value_view c.args.values.now) c.args.cells.now c.count_alone.new.cells
+    (λ i l. ap (λ b. nat_le c.args.reached i && b) (held_alone g c.args.x n c.in-Some.ensures.there alone i)) c.count_alone.ensures.counted
 
-pub returns-clause-reached : goal.returns-clause-reached
-returns-clause-reached c =
+pub returns-in-Some-clause-reached : goal.returns-in-Some-clause-reached
+returns-in-Some-clause-reached c =
     let g = range_view c.args.range.now in
-    let x = to_z w64 (of_z w64 c.args.x) in
-    let n = c.gaps_before-number.result in
-    let from = c.max-from.result in
-    let to = c.min-to.result in
-    let first : c.args.reached ≤ from = search rules in
-    let last : to ≤ gap_count g = search rules in
-    alike_reached (passed (λ k. in_gap g k x) from to) (λ i. nat_le c.args.reached i && is_held g c.args.x i) c.args.reached c.count_gaps.result
-    (λ i. near_passed g x n c.args.reached from to c.gaps_before-number.ensures first (λ k a b. grind arith) last (λ k a b. grind arith) i
-    ∙ (λ j. nat_le c.args.reached i && is_held g (to_z-of_z w64 c.args.x c.ranges.x j) i)) c.count_gaps.ensures.reached
+    let n = c.in-Some.number in
+    let same = to_z-of_z w64 c.args.x c.ranges.x in
+    let alone = subst (λ (z : ℤ). (i : ℕ) → in_gap g i z ≡ (i == n)) same c.in-Some.ensures.alone in
+    alike_reached (λ i. nat_le c.args.reached i && (i == n)) (λ i. nat_le c.args.reached i && is_held g c.args.x i) c.args.reached c.count_alone.result
+    (λ i. ap (λ b. nat_le c.args.reached i && b) (sym (held_alone g c.args.x n c.in-Some.ensures.there alone i))) c.count_alone.ensures.reached
+
+pub returns-in-None-clause-counted : goal.returns-in-None-clause-counted
+returns-in-None-clause-counted c =
+    let g = range_view c.args.range.now in
+    subst (λ (z : ℤ). HaveCounted (λ i. nat_le c.args.reached i && is_held g z i) (map stat_value_view c.args.values.now) c.args.cells.now c.count_near.new.cells)
+    (to_z-of_z w64 c.args.x c.ranges.x) c.count_near.ensures.counted
+
+pub returns-in-None-clause-reached : goal.returns-in-None-clause-reached
+returns-in-None-clause-reached c =
+    let g = range_view c.args.range.now in
+    subst (λ (z : ℤ). IsReached (λ i. nat_le c.args.reached i && is_held g z i) c.args.reached c.count_near.result)
+    (to_z-of_z w64 c.args.x c.ranges.x) c.count_near.ensures.reached
