@@ -1,4 +1,4 @@
-//! Tests of kinds of facet behind their boxes. They stand here so that the crates themselves are proved once.
+//! Tests of terms facets behind their boxes, and of lists of kinds. They stand here so that the crates themselves are proved once.
 #![tactic(auto)]
 
 #[cfg(test)]

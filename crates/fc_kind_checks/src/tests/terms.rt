@@ -1,17 +1,12 @@
 // Terms facets, behind a box.
-ghost use Rattle.std.specs.Prelude.{◌≡◌, ◌<◌, [], ◌∷◌, length, slice_index_or, false, None};
-ghost use Rattle.fc_spec.specs.requests.Buckets.{is_terms_key};
+ghost use Rattle.std.specs.Prelude.{◌≡◌, [], ◌∷◌, length};
 ghost use Rattle.fc_spec.specs.scripts.WorldLimits.{IsWithinLimits};
-ghost use Rattle.fc_facet.specs.KindView.{terms_view};
-ghost use Rattle.fc_partial.specs.View.{key_view};
 
-use super::asking::{collected, node_of, segment_from, selected, terms_of};
-use super::ways::write_key;
-use fc_base::{FieldId, Name, Val};
-use fc_facet::Terms;
+use fc_base::{Name, Val};
+use fc_kind_asking::{collected, node_of, segment_from, selected, terms_of, write_key};
 use fc_partial::{Key, PartialBucket};
 use fc_request::Node;
-use fc_segment::{Column, Segment};
+use fc_segment::Segment;
 use std::alloc::Global;
 use std::fmt::Write;
 use std::process::Abort;
@@ -104,16 +99,6 @@ const ROWS: [Row; 9] = [
     },
 ];
 
-pub(super) fn holds_texts(segment: &Segment, field: FieldId) -> bool
-    requires { field.0 < length segment.now.texts }
-    ensures { result ≡ slice_index_or segment.now.texts field.0 false }
-{
-    match segment.column(field) {
-        Column::Text(_) => true,
-        Column::Long(_) => false,
-    }
-}
-
 // The keys with their counts, in order.
 fn shown(alloc: Global, buckets: &[PartialBucket]) -> Result<String, Fail> {
     let mut text = String::new(alloc);
@@ -129,17 +114,11 @@ fn facet_of(alloc: Global, field: u16, prefix: Option<&str>, missing: bool) -> R
 }
 
 // What a facet has of the documents at these positions.
-fn found(
-    rt: &impl Abort,
-    alloc: Global,
-    segment: &Segment,
-    docs: &[u32],
-    node: &Node,
-) -> Result<String, Fail>
+fn found(alloc: Global, segment: &Segment, docs: &[u32], node: &Node) -> Result<String, Fail>
     requires texts { length segment.now.texts ≡ 3 }
     requires limits { IsWithinLimits (segment.now.blocks ∷ []) }
 {
-    let tally = collected(rt, alloc, segment, 3, docs, node)?;
+    let tally = collected(alloc, segment, 3, docs, node)?;
     shown(alloc, &tally.into_buckets()?)
 }
 
@@ -148,14 +127,14 @@ fn check(rt: &impl Abort, alloc: Global, segment: &Segment, row: &Row) -> Result
     requires limits { IsWithinLimits (segment.now.blocks ∷ []) }
 {
     let node = facet_of(alloc, row.field, row.prefix, row.missing)?;
-    let found = found(rt, alloc, segment, row.docs, &node)?;
+    let found = found(alloc, segment, row.docs, &node)?;
     assert!(rt; found.as_str() == row.wanted);
     Ok(())
 }
 
 #[test]
 fn buckets_of_terms(rt: HostRuntime) -> Result<(), Fail> {
-    let segment = segment_from(&rt, rt.alloc(), FIELDS, 3, BLOCK)?;
+    let segment = segment_from(rt.alloc(), FIELDS, 3, BLOCK)?;
     for row in &ROWS {
         check(&rt, rt.alloc(), &segment, row)?;
     }
@@ -193,18 +172,6 @@ fn key_of(alloc: Global, bucket: Bucket) -> Result<Key, Fail> {
     })
 }
 
-// Whether it is a key of the facet, which has no prefix.
-pub(super) fn is_key(terms: &Terms, key: &Key) -> bool
-    requires { terms.now.prefix ≡ None }
-    ensures { result ≡ is_terms_key (terms_view terms.now) (key_view key.now) }
-{
-    match key {
-        Key::Value(_) => true,
-        Key::Missing => terms.missing,
-        _ => false,
-    }
-}
-
 fn check_key(
     rt: &impl Abort,
     alloc: Global,
@@ -215,7 +182,7 @@ fn check_key(
 ) -> Result<(), Fail>
     requires { length segment.now.texts ≡ 3 }
 {
-    let found = selected(rt, alloc, segment, 3, &[0, 1, 2, 3, 4], node, key)?;
+    let found = selected(alloc, segment, 3, &[0, 1, 2, 3, 4], node, key)?;
     assert!(rt; found.as_slice() == wanted);
     Ok(())
 }
@@ -237,7 +204,7 @@ fn check_selected(
 
 #[test]
 fn selection_of_buckets(rt: HostRuntime) -> Result<(), Fail> {
-    let segment = segment_from(&rt, rt.alloc(), FIELDS, 3, BLOCK)?;
+    let segment = segment_from(rt.alloc(), FIELDS, 3, BLOCK)?;
     for (field, bucket, wanted) in SELECTED {
         check_selected(&rt, rt.alloc(), &segment, field, bucket, wanted)?;
     }

@@ -2,11 +2,10 @@
 ghost use Rattle.std.specs.Prelude.{◌≡◌, [], ◌∷◌, length};
 ghost use Rattle.fc_spec.specs.scripts.WorldLimits.{IsWithinLimits};
 
-use super::asking::{collected, node_of, segment_from, terms_of};
 use super::terms::{CAT, FIELDS, N};
-use fc_base::{FieldId, Stat, StatKind, Val};
+use fc_base::{FieldId, Stat, StatKind};
 use fc_facet::{Kind, Range};
-use fc_partial::{Key, PartialBucket, StatValue};
+use fc_kind_asking::{collected, node_of, segment_from, shown, terms_of};
 use fc_request::Node;
 use fc_segment::Segment;
 use std::alloc::Global;
@@ -58,6 +57,11 @@ const GAPS: Range = Range {
 const FIVE: &str = r#"{"id":"0","cat":["a","b"],"n":[1,3]},{"id":"1","cat":"b"},
     {"id":"2","cat":["ba","c"],"n":[-2,3]},{"id":"3","n":5},{"id":"4","cat":"b","n":[3,7]}"#;
 
+// The same, and eight without values.
+const THIRTEEN: &str = r#"{"id":"0","cat":["a","b"],"n":[1,3]},{"id":"1","cat":"b"},
+    {"id":"2","cat":["ba","c"],"n":[-2,3]},{"id":"3","n":5},{"id":"4","cat":"b","n":[3,7]},
+    {"id":"5"},{"id":"6"},{"id":"7"},{"id":"8"},{"id":"9"},{"id":"10"},{"id":"11"},{"id":"12"}"#;
+
 // Children at the positions 0 and 1, with integers 72 apart, and 73.
 const NEAR: &str = r#"{"id":"0","n":-36},{"id":"1","n":[0,36]}"#;
 
@@ -83,7 +87,7 @@ enum Facet {
     Gaps,
 }
 
-// A facet of all documents but the parent, and what is collected of those at these positions.
+// A facet of the children and their parent, which stands behind them, and what is collected of those at these positions.
 struct Row {
     children: &'static str,
     facet: Facet,
@@ -95,6 +99,12 @@ const CATS: Facet = Facet::Terms {
     field: CAT,
     prefix: None,
     missing: true,
+};
+
+const BS: Facet = Facet::Terms {
+    field: CAT,
+    prefix: Some("b"),
+    missing: false,
 };
 
 const LONGS: Facet = Facet::Terms {
@@ -115,11 +125,7 @@ const BOTH: [Row; 7] = [
     },
     Row {
         children: FIVE,
-        facet: Facet::Terms {
-            field: CAT,
-            prefix: Some("b"),
-            missing: false,
-        },
+        facet: BS,
         docs: &[1, 2, 3, 4],
         wanted: "b 2: 10 3 7 2 1; ba 1: 1 -2 3 2 0; ",
     },
@@ -153,6 +159,79 @@ const BOTH: [Row; 7] = [
         facet: LONGS,
         docs: &[],
         wanted: "",
+    },
+];
+
+// All documents of a segment.
+const WHOLE: [Row; 2] = [
+    Row {
+        children: FIVE,
+        facet: CATS,
+        docs: &[0, 1, 2, 3, 4, 5],
+        wanted: "a 1: 4 1 3 2 0; b 3: 14 1 7 4 1; ba 1: 1 -2 3 2 0; c 1: 1 -2 3 2 0; \
+            missing 2: 5 5 5 0 1; ",
+    },
+    Row {
+        children: FIVE,
+        facet: BS,
+        docs: &[0, 1, 2, 3, 4, 5],
+        wanted: "b 3: 14 1 7 4 1; ba 1: 1 -2 3 2 0; ",
+    },
+];
+
+// Three of fourteen documents, which are less than a quarter.
+const FEW: [Row; 3] = [
+    Row {
+        children: THIRTEEN,
+        facet: CATS,
+        docs: &[0, 2, 4],
+        wanted: "a 1: 4 1 3 2 0; b 2: 14 1 7 3 0; ba 1: 1 -2 3 2 0; c 1: 1 -2 3 2 0; ",
+    },
+    Row {
+        children: THIRTEEN,
+        facet: CATS,
+        docs: &[1, 2, 3],
+        wanted: "b 1: 0 - - 1 1; ba 1: 1 -2 3 2 0; c 1: 1 -2 3 2 0; missing 1: 5 5 5 0 0; ",
+    },
+    Row {
+        children: THIRTEEN,
+        facet: BS,
+        docs: &[0, 1, 4],
+        wanted: "b 3: 14 1 7 4 1; ",
+    },
+];
+
+// Each bucket with its count and the sum of its integers.
+const SUMS: [Row; 5] = [
+    Row {
+        children: FIVE,
+        facet: CATS,
+        docs: &[0, 1, 2, 3, 4, 5],
+        wanted: "a 1: 4; b 3: 14; ba 1: 1; c 1: 1; missing 2: 5; ",
+    },
+    Row {
+        children: FIVE,
+        facet: BS,
+        docs: &[0, 2, 3],
+        wanted: "b 1: 4; ba 1: 1; ",
+    },
+    Row {
+        children: THIRTEEN,
+        facet: CATS,
+        docs: &[0, 3, 4],
+        wanted: "a 1: 4; b 2: 14; missing 1: 5; ",
+    },
+    Row {
+        children: FIVE,
+        facet: LONGS,
+        docs: &[0, 1, 2, 3, 4],
+        wanted: "-2 1: 1; 1 1: 4; 3 3: 15; 5 1: 5; 7 1: 10; missing 1: 0; ",
+    },
+    Row {
+        children: FIVE,
+        facet: Facet::Gaps,
+        docs: &[0, 1, 2, 3, 4],
+        wanted: "gap 0 1: 4; gap 1 4: 20; before 1: 1; between 4: 20; after 1: 10; ",
     },
 ];
 
@@ -252,81 +331,68 @@ fn kind_of(alloc: Global, facet: Facet) -> Result<Kind, Fail> {
     })
 }
 
-pub(super) fn write_key(text: &mut String, key: &Key) -> Result<(), Fail> {
-    match key {
-        Key::Value(Val::Text(name)) => write!(text, "{}", name.text())?,
-        Key::Value(Val::Long(number)) => write!(text, "{number}")?,
-        Key::Missing => text.push_str("missing")?,
-        Key::Gap(number) => write!(text, "gap {number}")?,
-        Key::Before => text.push_str("before")?,
-        Key::Between => text.push_str("between")?,
-        Key::After => text.push_str("after")?,
-        Key::Whole => text.push_str("whole")?,
-    }
-    Ok(())
-}
-
-fn write_value(text: &mut String, value: StatValue) -> Result<(), Fail> {
-    match value {
-        StatValue::Number(number) | StatValue::Extreme(Some(number)) => write!(text, " {number}")?,
-        StatValue::Extreme(None) => text.push_str(" -")?,
-    }
-    Ok(())
-}
-
-// The keys with their counts and statistics, in order.
-pub(super) fn shown(alloc: Global, buckets: &[PartialBucket]) -> Result<String, Fail> {
-    let mut text = String::new(alloc);
-    for bucket in buckets {
-        write_key(&mut text, &bucket.key)?;
-        write!(text, " {}:", bucket.stats.count)?;
-        for value in &bucket.stats.values {
-            write_value(&mut text, *value)?;
-        }
-        text.push_str("; ")?;
-    }
-    Ok(text)
-}
-
 // What a facet has of the documents at these positions.
-fn found(
-    rt: &impl Abort,
-    alloc: Global,
-    segment: &Segment,
-    docs: &[u32],
-    node: &Node,
-) -> Result<String, Fail>
+fn found(alloc: Global, segment: &Segment, docs: &[u32], node: &Node) -> Result<String, Fail>
     requires texts { length segment.now.texts ≡ 3 }
     requires limits { IsWithinLimits (segment.now.blocks ∷ []) }
 {
-    let tally = collected(rt, alloc, segment, 3, docs, node)?;
+    let tally = collected(alloc, segment, 3, docs, node)?;
     shown(alloc, &tally.into_buckets()?)
 }
 
-// Whether what is collected beside a parent with these members is what the row says.
-fn check(rt: &impl Abort, alloc: Global, row: &Row, members: &str) -> Result<(), Fail> {
+// Whether what is collected beside a parent with these members, with these statistics, is what the row says.
+fn check(
+    rt: &impl Abort,
+    alloc: Global,
+    row: &Row,
+    members: &str,
+    stats: &[Stat],
+) -> Result<(), Fail> {
     let block = block_of(alloc, row.children, members)?;
-    let segment = segment_from(rt, alloc, FIELDS, 3, &block)?;
-    let node = node_of(alloc, kind_of(alloc, row.facet)?, &STATS)?;
-    let found = found(rt, alloc, &segment, row.docs, &node)?;
+    let segment = segment_from(alloc, FIELDS, 3, &block)?;
+    let node = node_of(alloc, kind_of(alloc, row.facet)?, stats)?;
+    let found = found(alloc, &segment, row.docs, &node)?;
     assert!(rt; found.as_str() == row.wanted);
     Ok(())
 }
 
 fn check_all(rt: &impl Abort, alloc: Global, rows: &[Row], members: &str) -> Result<(), Fail> {
     for row in rows {
-        check(rt, alloc, row, members)?;
+        check(rt, alloc, row, members, &STATS)?;
     }
     Ok(())
 }
 
-// One document is counted side by side with 68 texts, and in runs with 69.
+// Of six documents one is counted side by side with 68 texts, and in runs with 69; two or more are counted text by text.
 #[test]
 fn terms_beside_few_and_many(rt: HostRuntime) -> Result<(), Fail> {
     let rows: &[Row] = &BOTH;
     check_all(&rt, rt.alloc(), rows, "")?;
     for count in [63, 64, 100] {
         check_all(&rt, rt.alloc(), rows, &many_values(rt.alloc(), count)?)?;
+    }
+    Ok(())
+}
+
+#[test]
+fn texts_of_all_documents(rt: HostRuntime) -> Result<(), Fail> {
+    check_all(&rt, rt.alloc(), &WHOLE, "")
+}
+
+// Three of fourteen documents are counted side by side with 76 texts, and in runs with 77; of the texts two do not begin with b.
+#[test]
+fn texts_of_few_documents(rt: HostRuntime) -> Result<(), Fail> {
+    check_all(&rt, rt.alloc(), &FEW, "")?;
+    for count in [71, 72, 73, 74] {
+        check_all(&rt, rt.alloc(), &FEW, &many_values(rt.alloc(), count)?)?;
+    }
+    Ok(())
+}
+
+#[test]
+fn one_statistic(rt: HostRuntime) -> Result<(), Fail> {
+    for row in &SUMS {
+        check(&rt, rt.alloc(), row, "", &STATS[..1])?;
     }
     Ok(())
 }

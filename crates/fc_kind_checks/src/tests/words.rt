@@ -2,11 +2,10 @@
 ghost use Rattle.std.specs.Prelude.{◌≡◌, [], ◌∷◌, length};
 ghost use Rattle.fc_spec.specs.scripts.WorldLimits.{IsWithinLimits};
 
-use super::asking::{collected, node_of, segment_from, selected, terms_of};
-use super::ranges::{check_bucket, count_of};
 use super::terms::{CAT, FIELDS, N};
 use fc_base::{FieldId, Name, Val};
 use fc_facet::{Kind, Range};
+use fc_kind_asking::{collected, is_bucket, node_of, segment_from, selected, terms_of};
 use fc_partial::{Key, Tally};
 use fc_request::Node;
 use fc_segment::Segment;
@@ -148,6 +147,10 @@ fn below(alloc: Global, positions: &[u32], documents: u32) -> Result<Vec<u32>, F
     Ok(docs)
 }
 
+fn count_of(tally: &Tally, key: &Key) -> Option<u64> {
+    Some(tally.get(key)?.count)
+}
+
 // Whether a bucket has these positions, and is counted so.
 fn check_key(
     rt: &impl Abort,
@@ -161,8 +164,9 @@ fn check_key(
 ) -> Result<(), Fail>
     requires { length segment.now.texts ≡ 3 }
 {
-    let found = selected(rt, alloc, segment, 3, docs, node, key)?;
-    check_bucket(rt, &found, wanted, count)
+    let found = selected(alloc, segment, 3, docs, node, key)?;
+    assert!(rt; is_bucket(&found, wanted, count));
+    Ok(())
 }
 
 // Looks at a bucket of what was collected, and at which documents are selected. Gives whether it has a document.
@@ -218,7 +222,7 @@ fn check(
     requires texts { length segment.now.texts ≡ 3 }
     requires limits { IsWithinLimits (segment.now.blocks ∷ []) }
 {
-    let tally = collected(rt, alloc, segment, 3, docs, node)?;
+    let tally = collected(alloc, segment, 3, docs, node)?;
     let buckets = check_buckets(rt, alloc, segment, facet, docs, node, &tally)?;
     assert!(rt; tally.into_buckets()?.len() == buckets);
     Ok(())
@@ -255,7 +259,7 @@ fn check_facet(rt: &impl Abort, alloc: Global, segment: &Segment, facet: Facet) 
 // The same of these facets of the segment whose last document stands at a position.
 fn check_all(rt: &impl Abort, alloc: Global, last: u32, facets: &[Facet]) -> Result<(), Fail> {
     let block = block_of(alloc, last)?;
-    let segment = segment_from(rt, alloc, FIELDS, 3, &block)?;
+    let segment = segment_from(alloc, FIELDS, 3, &block)?;
     for facet in facets {
         check_facet(rt, alloc, &segment, *facet)?;
     }

@@ -1,6 +1,6 @@
 use Rattle.std.proofs.Common.{◌≡◌, length}
 use Rattle.fc_spec.specs.documents.Totals.{document_total}
-use Rattle.fc_kind_checks.proofs.tests.asking.set_of.Given as goal
+use Rattle.fc_kind_asking.proofs.asking.set_of.Given as goal
 
 abbrev pub invariant-loop-at : goal.invariant-loop-at
-invariant-loop-at g l = length l.set ≡ document_total l.segment.blocks
+invariant-loop-at l = length l.set ≡ document_total l.segment.blocks

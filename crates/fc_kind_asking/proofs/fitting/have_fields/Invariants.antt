@@ -1,7 +1,7 @@
 use Rattle.std.proofs.Common.{◌≤◌, Bool, List, length, map}
 use Rattle.fc_base.specs.StatisticView.{stat_view}
 use Rattle.fc_kind.specs.Columns.{HaveFields}
-use Rattle.fc_kind_checks.proofs.tests.asking.have_fields.Given as goal
+use Rattle.fc_kind_asking.proofs.fitting.have_fields.Given as goal
 
 abbrev pub invariant-loop-stat : goal.invariant-loop-stat
 invariant-loop-stat l = (texts : List Bool) → l.fields ≤ length texts → HaveFields texts (map stat_view l.rest) → HaveFields texts (map stat_view l.stats)

@@ -7,12 +7,11 @@ ghost use Rattle.fc_request.specs.FacetNode.{kind_of, kind_view};
 ghost use Rattle.fc_domain.specs.FieldsFit.{FitsFields};
 ghost use Rattle.fc_kind.specs.Columns.{FitsColumns};
 
-use super::asking::{collected_by, node_of, schema_of, segment_of, selected_by};
-use super::ways::shown;
 use fc_base::{FieldId, Schema, Stat, StatKind};
 use fc_docset::DocSet;
 use fc_facet::Kind;
 use fc_kind::set_stats;
+use fc_kind_asking::{collected_by, node_of, schema_of, segment_of, selected_by, shown};
 use fc_partial::{Key, StatValue};
 use fc_query::{Query, parse};
 use fc_request::Node;
@@ -49,8 +48,8 @@ const STATS: [Stat; 4] = [
 #[test]
 fn statistics_of_sets(rt: HostRuntime) -> Result<(), Fail> {
     let alloc = rt.alloc();
-    let schema = schema_of(&rt, alloc, FIELDS, 3)?;
-    let segment = segment_of(&rt, alloc, &schema, BLOCK)?;
+    let schema = schema_of(alloc, FIELDS, 3)?;
+    let segment = segment_of(alloc, &schema, BLOCK)?;
     let all = DocSet::full(alloc, segment.doc_count())?;
     let stats = set_stats(alloc, &segment, &STATS, &all)?;
     assert!(rt; stats.count == 2);
@@ -155,10 +154,10 @@ fn check_node(
     requires fits { FitsColumns segment.now.texts (kind_view (kind_of node.now)) }
     requires limits { IsWithinLimits (segment.now.blocks ∷ []) }
 {
-    let tally = collected_by(rt, alloc, segment, 3, row.docs, node)?;
+    let tally = collected_by(alloc, segment, 3, row.docs, node)?;
     let found = shown(alloc, &tally.into_buckets()?)?;
     assert!(rt; found.as_str() == row.wanted, "{}", row.query);
-    let whole = selected_by(rt, alloc, segment, row.docs, node, &Key::Whole)?;
+    let whole = selected_by(alloc, segment, row.docs, node, &Key::Whole)?;
     assert!(rt; whole.as_slice() == row.whole, "{}", row.query);
     Ok(())
 }
@@ -182,8 +181,8 @@ fn check(
 #[test]
 fn buckets_of_queries(rt: HostRuntime) -> Result<(), Fail> {
     let alloc = rt.alloc();
-    let schema = schema_of(&rt, alloc, FIELDS, 3)?;
-    let segment = segment_of(&rt, alloc, &schema, FOUR)?;
+    let schema = schema_of(alloc, FIELDS, 3)?;
+    let segment = segment_of(alloc, &schema, FOUR)?;
     for row in &ROWS {
         check(&rt, alloc, &schema, &segment, row)?;
     }

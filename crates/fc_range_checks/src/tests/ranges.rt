@@ -1,17 +1,13 @@
 // Range facets, behind a box.
-ghost use Rattle.std.specs.Prelude.{◌≡◌, ◌<◌, [], ◌∷◌, length, slice_index_or, false, true};
-ghost use Rattle.fc_spec.specs.requests.Buckets.{is_range_key};
+ghost use Rattle.std.specs.Prelude.{◌≡◌, [], ◌∷◌, length};
 ghost use Rattle.fc_spec.specs.scripts.WorldLimits.{IsWithinLimits};
-ghost use Rattle.fc_facet.specs.KindView.{range_view};
-ghost use Rattle.fc_facet.specs.RangeGaps.{HasFewGaps};
-ghost use Rattle.fc_partial.specs.View.{key_view};
 
-use super::asking::{collected, node_of, segment_from, selected};
 use fc_base::FieldId;
 use fc_facet::{Kind, Range};
+use fc_kind_asking::{collected, is_bucket, node_of, segment_from, selected};
 use fc_partial::{Key, Tally};
 use fc_request::Node;
-use fc_segment::{Column, Segment};
+use fc_segment::Segment;
 use std::alloc::Global;
 use std::process::Abort;
 use std::test::Fail;
@@ -363,39 +359,6 @@ const ROWS: [Row; 22] = [
     },
 ];
 
-pub(super) fn holds_integers(segment: &Segment, field: FieldId) -> bool
-    requires { field.0 < length segment.now.texts }
-    ensures { result ≡ true → slice_index_or segment.now.texts field.0 false ≡ false }
-{
-    match segment.column(field) {
-        Column::Text(_) => false,
-        Column::Long(_) => true,
-    }
-}
-
-pub(super) fn has_few_gaps(range: &Range) -> bool
-    ensures { result ≡ true → HasFewGaps (range_view range.now) }
-{
-    if range.end < range.start || range.gap < 1 {
-        return false;
-    }
-    let width = range.end.abs_diff(range.start);
-    width.div_ceil(range.gap.unsigned_abs()) <= 10_000
-}
-
-pub(super) fn is_key(range: &Range, key: &Key) -> bool
-    requires { HasFewGaps (range_view range.now) }
-    ensures { result ≡ is_range_key (range_view range.now) (key_view key.now) }
-{
-    match key {
-        Key::Gap(number) => *number < range.gaps(),
-        Key::Before => range.before,
-        Key::Between => range.between,
-        Key::After => range.after,
-        _ => false,
-    }
-}
-
 // The keys of a row with their positions.
 fn buckets_of(alloc: Global, row: &Row) -> Result<Vec<(Key, &'static [u32])>, Fail> {
     let mut buckets = vec![in alloc;
@@ -420,23 +383,8 @@ fn is_asked(range: &Range, key: &Key) -> bool {
     }
 }
 
-pub(super) fn count_of(tally: &Tally, key: &Key) -> Option<u64> {
+fn count_of(tally: &Tally, key: &Key) -> Option<u64> {
     Some(tally.get(key)?.count)
-}
-
-// A bucket is in the tally where it has a document.
-pub(super) fn check_bucket(
-    rt: &impl Abort,
-    found: &[u32],
-    wanted: &[u32],
-    count: Option<u64>,
-) -> Result<(), Fail> {
-    assert!(rt; found == wanted);
-    match count {
-        Some(count) => assert!(rt; count > 0 && count == wanted.len() as u64),
-        None => assert!(rt; wanted.is_empty()),
-    }
-    Ok(())
 }
 
 // Whether a bucket has these positions, where it is asked for.
@@ -456,8 +404,9 @@ fn check_key(
         assert!(rt; count.is_none());
         return Ok(());
     }
-    let found = selected(rt, alloc, segment, 2, row.docs, node, key)?;
-    check_bucket(rt, &found, wanted, count)
+    let found = selected(alloc, segment, 2, row.docs, node, key)?;
+    assert!(rt; is_bucket(&found, wanted, count));
+    Ok(())
 }
 
 fn check_node(
@@ -470,7 +419,7 @@ fn check_node(
     requires texts { length segment.now.texts ≡ 2 }
     requires limits { IsWithinLimits (segment.now.blocks ∷ []) }
 {
-    let tally = collected(rt, alloc, segment, 2, row.docs, node)?;
+    let tally = collected(alloc, segment, 2, row.docs, node)?;
     for (key, wanted) in &buckets_of(alloc, row)? {
         let count = count_of(&tally, key);
         check_key(rt, alloc, segment, row, node, key, wanted, count)?;
@@ -479,7 +428,7 @@ fn check_node(
 }
 
 fn check(rt: &impl Abort, alloc: Global, row: &Row) -> Result<(), Fail> {
-    let segment = segment_from(rt, alloc, FIELDS, 2, row.block)?;
+    let segment = segment_from(alloc, FIELDS, 2, row.block)?;
     let node = node_of(alloc, Kind::Range(row.range), &[])?;
     check_node(rt, alloc, &segment, row, &node)
 }
