@@ -4,5 +4,6 @@ mod grammar;
 mod orders;
 mod picks;
 mod plain;
+mod streams;
 mod worlds;
 mod writer;

@@ -12,7 +12,6 @@ mod searches;
 mod segments;
 mod shards;
 mod shops;
-mod streams;
 
 ghost use Rattle.std.specs.Prelude.{IfOk, map};
 ghost use Rattle.fc_kind.specs.Names.{Covers};

@@ -143,6 +143,32 @@ const ROWS: &[Row] = &[
         calls: 3,
         noted: 111,
     },
+    // A commit without documents makes none: each search takes one turn.
+    Row {
+        script: r##"{"schema":{"shards":1,"fields":{}}}
+{"commit":{}}
+{"sync":{}}
+{"search":{"request":{},"session":"a"}}
+{"sync":{}}
+{"commit":{}}
+{"add":{"doc":{"id":"1"}}}
+{"commit":{}}
+{"commit":{}}
+{"sync":{}}
+{"search":{"request":{},"session":"a"}}
+{"sync":{}}
+{"commit":{}}
+{"commit":{}}
+{"sync":{}}
+{"search":{"request":{},"session":"a"}}
+"##,
+        line: r##"{"facets":{"count":0},"generations":[1],"session":"a"}
+{"facets":{"count":1},"generations":[4],"session":"a"}
+{"facets":{"count":1},"generations":[6],"session":"a"}
+"##,
+        calls: 3,
+        noted: 111,
+    },
 ];
 
 #[test]

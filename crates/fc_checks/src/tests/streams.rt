@@ -1,5 +1,5 @@
 // Sources and sinks that fail, and the words of the command.
-use super::kinds_in;
+use super::engine::kinds_in;
 use fc_io::{MemSink, MemSource};
 use fc_run::{Status, run};
 use std::alloc::Global;
