@@ -1,26 +1,34 @@
 // Names of fields, tags and facets, and text values.
-ghost use Rattle.std.specs.Prelude.{◌≡◌, ◌==◌, IfOk, IsUtf8, List, ℕ, refl, string_bytes};
+ghost use Rattle.std.specs.Prelude.{◌≡◌, ◌==◌, IfOk, IsUtf8, refl, string_bytes};
 ghost use Rattle.std.specs.Cmp.{partial_equiv_from_equiv};
 ghost use Rattle.std.specs.Cmp.Lexicographic.{pointwise, nat_list_cmp_total, nat_list_eq_equiv, texts_ties, texts_po};
 ghost use Rattle.std.specs.Ordering.{as_partial_cmp};
 ghost use Rattle.fc_spec.specs.documents.Val.{text_cmp};
 
+mod short;
+mod text;
+
 use crate::WantMemory;
 use std::alloc::Global;
 use std::cmp::Ordering;
 use std::marker::Model;
+use text::Text;
 
 /// A text that nothing changes, seen as the list of its UTF-8 bytes. Its order is that of the
 /// bytes.
 #[derive(Debug, Drop)]
 pub struct Name {
-    text: String,
+    text: Text,
 }
 
 impl Model for Name {
+    ghost use Rattle.std.specs.Prelude.{List, ℕ};
+
     ghost Value = { List ℕ };
 
-    ghost view = { λ name. string_bytes name.text };
+    ghost use Rattle.fc_base.specs.TextBytes.{text_bytes};
+
+    ghost view = { λ name. text_bytes name.text };
 }
 
 impl Name {
@@ -29,7 +37,7 @@ impl Name {
         ensures { IfOk result (λ name. name ≡ text.now) }
     {
         Ok(Name {
-            text: String::from_str(alloc, text)?,
+            text: Text::new(alloc, text)?,
         })
     }
 
@@ -37,7 +45,9 @@ impl Name {
     pub fn of(text: String) -> Name
         ensures { result ≡ string_bytes text }
     {
-        Name { text }
+        Name {
+            text: Text::of(text),
+        }
     }
 
     /// The UTF-8 bytes of the text.
