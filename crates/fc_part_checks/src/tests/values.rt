@@ -1,5 +1,6 @@
 // Integers as texts, values and their order, and schemas.
-use fc_base::{FieldType, Name, Refusal, Schema, Val, long_of};
+use super::fault_text;
+use fc_base::{FieldType, Name, Schema, Val, long_of};
 use serde_json::Value;
 use std::alloc::Global;
 use std::fmt::Write;
@@ -7,34 +8,35 @@ use std::process::Abort;
 use std::test::Fail;
 
 // Texts with the integers that they spell.
-const INTEGERS: [(&str, Option<i64>); 20] = [
-    ("0", Some(0)),
-    ("-0", Some(0)),
-    ("007", Some(7)),
-    ("-12", Some(-12)),
-    ("9223372036854775807", Some(i64::MAX)),
-    ("-9223372036854775808", Some(i64::MIN)),
-    ("9223372036854775808", None),
-    ("-9223372036854775809", None),
-    ("00000000000000000000005", Some(5)),
-    ("", None),
-    ("-", None),
-    ("+5", None),
-    ("--5", None),
-    ("-+5", None),
-    (" 5", None),
-    ("5 ", None),
-    ("1.0", None),
-    ("1e3", None),
-    ("0x1", None),
-    ("\u{661}", None),
+const INTEGERS: &[(&str, i64)] = &[
+    ("0", 0),
+    ("-0", 0),
+    ("007", 7),
+    ("-12", -12),
+    ("9223372036854775807", i64::MAX),
+    ("-9223372036854775808", i64::MIN),
+    ("00000000000000000000005", 5),
 ];
+
+// Texts, with a `,` between them, that spell none.
+const NO_INTEGERS: &str =
+    "9223372036854775808,-9223372036854775809,,-,+5,--5,-+5, 5,5 ,1.0,1e3,0x1,\u{661}";
 
 #[test]
 fn texts_spell_integers(rt: HostRuntime) {
     for (text, integer) in INTEGERS {
-        assert_eq!(rt; long_of(text), integer, "at {text}");
+        assert!(rt; long_of(text) == Some(*integer), "at {text}");
     }
+}
+
+#[test]
+fn other_texts_spell_none(rt: HostRuntime) {
+    let mut texts = 0u32;
+    for text in NO_INTEGERS.split(',') {
+        assert!(rt; long_of(text).is_none(), "at {text}");
+        texts = texts.wrapping_add(1);
+    }
+    assert_eq!(rt; texts, 13);
 }
 
 // Integers, and texts behind them.
@@ -49,6 +51,11 @@ fn ascending(alloc: Global) -> Result<Vec<Val>, Fail> {
     Ok(values)
 }
 
+// Whether a value stands before the other and is equal to it.
+fn standing(alloc: Global, value: &Val, other: &Val) -> Result<(bool, bool), Fail> {
+    Ok((value.before(other), value.copy(alloc)? == *other))
+}
+
 // A value at this place stands before those behind it, and its copy is equal to itself alone.
 fn compare(
     rt: &impl Abort,
@@ -58,12 +65,8 @@ fn compare(
     ascending: &[Val],
 ) -> Result<(), Fail> {
     for (place, other) in ascending.iter().enumerate() {
-        assert_eq!(rt; value.before(other), at < place, "at {at} and {place}");
-        assert_eq!(rt;
-            value.copy(alloc)? == *other,
-            at == place,
-            "at {at} and {place}"
-        );
+        let found = standing(alloc, value, other)?;
+        assert!(rt; found == (at < place, at == place), "at {at} and {place}");
     }
     Ok(())
 }
@@ -114,24 +117,27 @@ const SCHEMAS: [(&str, u32, &[(&str, FieldType)]); 3] = [
     ),
 ];
 
-// Each field is found by its name at its number.
-fn compare_fields(
-    rt: &impl Abort,
-    schema: &Schema,
-    fields: &[(&str, FieldType)],
-) -> Result<(), Fail> {
-    for (number, (name, kind)) in fields.iter().enumerate() {
-        let id = schema.find(name.as_bytes()).ok_or("no field")?;
-        assert_eq!(rt; usize::from(id.0), number, "at {name}");
-        assert_eq!(rt; schema.field_type(id), *kind, "at {name}");
+// Whether the field is found by its name at this number.
+fn is_field(schema: &Schema, number: usize, name: &str, kind: FieldType) -> bool {
+    match schema.find(name.as_bytes()) {
+        Some(id) => usize::from(id.0) == number && schema.field_type(id) == kind,
+        None => false,
     }
-    Ok(())
 }
 
-fn finds_no_other(schema: &Schema) -> bool {
-    ["", "aa", "Z9", "bb"]
-        .iter()
-        .all(|name| schema.find(name.as_bytes()).is_none())
+fn compare_fields(rt: &impl Abort, schema: &Schema, fields: &[(&str, FieldType)]) {
+    for (number, (name, kind)) in fields.iter().enumerate() {
+        assert!(rt; is_field(schema, number, name, *kind), "at {name}");
+    }
+}
+
+fn finds(schema: &Schema, name: &str) -> bool {
+    schema.find(name.as_bytes()).is_some()
+}
+
+// The numbers of shards and of fields.
+fn sizes(schema: &Schema) -> (u32, usize) {
+    (schema.shards(), usize::from(schema.fields()))
 }
 
 #[test]
@@ -139,84 +145,88 @@ fn fields_are_numbered_by_their_names(rt: HostRuntime) -> Result<(), Fail> {
     let alloc = rt.alloc();
     for (text, shards, fields) in SCHEMAS {
         let schema = Schema::read(alloc, &Value::from_str(alloc, text)?)?;
-        assert_eq!(rt; schema.shards(), shards, "at {text}");
-        assert_eq!(rt; usize::from(schema.fields()), fields.len(), "at {text}");
-        compare_fields(&rt, &schema, fields)?;
-        assert!(rt; finds_no_other(&schema), "at {text}");
+        assert!(rt; sizes(&schema) == (shards, fields.len()), "at {text}");
+        compare_fields(&rt, &schema, fields);
+        for name in ["", "aa", "Z9", "bb"] {
+            assert!(rt; !finds(&schema, name), "{name} at {text}");
+        }
     }
     Ok(())
 }
 
 // The text of the fault, or none where the schema is taken.
 fn fault_of(alloc: Global, text: &str) -> Result<String, Fail> {
-    let mut out = String::new(alloc);
     match Schema::read(alloc, &Value::from_str(alloc, text)?) {
-        Err(Refusal::Fault(fault)) => write!(out, "{fault}")?,
-        Err(Refusal::Memory) => out.push_str("memory")?,
-        Ok(_) => (),
+        Err(refusal) => fault_text(alloc, &refusal),
+        Ok(_) => Ok(String::new(alloc)),
     }
-    Ok(out)
 }
 
-const BAD_SCHEMAS: [&str; 29] = [
-    "[]",
-    "{}",
-    r#"{"shards":1}"#,
-    r#"{"fields":{}}"#,
-    r#"{"shards":1,"field":{}}"#,
-    r#"{"shards":1,"fields":{},"more":1}"#,
-    r#"{"shards":0,"fields":{}}"#,
-    r#"{"shards":65,"fields":{}}"#,
-    r#"{"shards":1.0,"fields":{}}"#,
-    r#"{"shards":"1","fields":{}}"#,
-    r#"{"shards":1,"fields":[]}"#,
-    r#"{"shards":1,"fields":{"a":null}}"#,
-    r#"{"shards":1,"fields":{"a":"text"}}"#,
-    r#"{"shards":-1,"fields":{}}"#,
-    r#"{"shards":1e0,"fields":{}}"#,
-    r#"{"shards":null,"fields":{}}"#,
-    r#"{"shards":1,"fields":null}"#,
-    r#"{"shards":1,"fields":{"a":["string"]}}"#,
-    r#"{"shards":1,"fields":{"a":"String"}}"#,
-    r#"{"shards":1,"fields":{"id":"plong"}}"#,
-    r#"{"shards":1,"fields":{"__":"string"}}"#,
-    r#"{"shards":1,"fields":{"id":"strings"}}"#,
-    r#"{"shards":1,"fields":{"":"string"}}"#,
-    r#"{"shards":1,"fields":{"1a":"string"}}"#,
-    r#"{"shards":1,"fields":{"_a_":"string"}}"#,
-    r#"{"shards":1,"fields":{"_":"string"}}"#,
-    r#"{"shards":1,"fields":{"a-b":"string"}}"#,
-    r#"{"shards":1,"fields":{"é":"string"}}"#,
-    r#"{"shards":1,"fields":{"n123456789n123456789n123456789n123456789n123456789n123456789n1234":"string"}}"#,
-];
+// A schema in each line.
+const BAD_SCHEMAS: &str = r##"
+[]
+{}
+{"shards":1}
+{"fields":{}}
+{"shards":1,"field":{}}
+{"shards":1,"fields":{},"more":1}
+{"shards":0,"fields":{}}
+{"shards":65,"fields":{}}
+{"shards":1.0,"fields":{}}
+{"shards":"1","fields":{}}
+{"shards":1,"fields":[]}
+{"shards":1,"fields":{"a":null}}
+{"shards":1,"fields":{"a":"text"}}
+{"shards":-1,"fields":{}}
+{"shards":1e0,"fields":{}}
+{"shards":null,"fields":{}}
+{"shards":1,"fields":null}
+{"shards":1,"fields":{"a":["string"]}}
+{"shards":1,"fields":{"a":"String"}}
+{"shards":1,"fields":{"id":"plong"}}
+{"shards":1,"fields":{"__":"string"}}
+{"shards":1,"fields":{"id":"strings"}}
+{"shards":1,"fields":{"":"string"}}
+{"shards":1,"fields":{"1a":"string"}}
+{"shards":1,"fields":{"_a_":"string"}}
+{"shards":1,"fields":{"_":"string"}}
+{"shards":1,"fields":{"a-b":"string"}}
+{"shards":1,"fields":{"é":"string"}}
+{"shards":1,"fields":{"n123456789n123456789n123456789n123456789n123456789n123456789n1234":"string"}}
+"##;
 
 #[test]
 fn bad_schemas_are_refused(rt: HostRuntime) -> Result<(), Fail> {
     let alloc = rt.alloc();
-    for text in BAD_SCHEMAS {
-        assert_eq!(rt; fault_of(alloc, text)?.as_str(), "bad-schema", "at {text}");
+    let mut schemas = 0u32;
+    for text in BAD_SCHEMAS.trim().split('\n') {
+        let found = fault_of(alloc, text)?;
+        assert!(rt; found.as_str() == "bad-schema", "{found} at {text}");
+        schemas = schemas.wrapping_add(1);
     }
+    assert_eq!(rt; schemas, 29);
     Ok(())
 }
 
-// A name of 64 bytes, and so many fields more.
+// A schema with a name of 64 bytes, and so many fields more.
+fn schema_text(alloc: Global, more: u32) -> Result<String, Fail> {
+    let mut text = String::from_str(
+        alloc,
+        r#"{"shards":1,"fields":{"n123456789n123456789n123456789n123456789n123456789n123456789n123":"string""#,
+    )?;
+    for number in 0..more {
+        write!(text, r#","f{number}":"string""#)?;
+    }
+    text.push_str("}}")?;
+    Ok(text)
+}
+
 #[test]
 fn fields_have_a_limit(rt: HostRuntime) -> Result<(), Fail> {
     let alloc = rt.alloc();
     for (more, fault) in [(0, ""), (254, ""), (255, "bad-schema")] {
-        let mut text = String::from_str(
-            alloc,
-            r#"{"shards":1,"fields":{"n123456789n123456789n123456789n123456789n123456789n123456789n123":"string""#,
-        )?;
-        for number in 0..more {
-            write!(text, r#","f{number}":"string""#)?;
-        }
-        text.push_str("}}")?;
-        assert_eq!(rt;
-            fault_of(alloc, &text)?.as_str(),
-            fault,
-            "at {more} fields more"
-        );
+        let found = fault_of(alloc, &schema_text(alloc, more)?)?;
+        assert!(rt; found.as_str() == fault, "{found} at {more} fields more");
     }
     Ok(())
 }
