@@ -146,16 +146,28 @@ fn check_columns(
     Ok(())
 }
 
+fn check_segment(
+    rt: &impl Abort,
+    alloc: Global,
+    schema: &Schema,
+    segment: &Segment,
+    parents: &str,
+    columns: &[&str],
+) -> Result<(), Fail>
+    requires { length segment.now.texts ≡ length schema.now.fields }
+{
+    check_parents(rt, alloc, segment, parents)?;
+    check_columns(rt, alloc, schema, segment, columns)
+}
+
 #[test]
 fn children_stand_before_their_parent(rt: HostRuntime) -> Result<(), Fail> {
-    let alloc = rt.alloc();
-    let schema = schema_of(alloc, FIELDS)?;
+    let schema = schema_of(rt.alloc(), FIELDS)?;
     for (blocks, count, parents, columns) in BATCHES {
         assert!(rt; blocks.len() <= 3);
-        let segment = segment_of(&rt, alloc, &schema, blocks)?;
+        let segment = segment_of(&rt, rt.alloc(), &schema, blocks)?;
         assert!(rt; segment.doc_count() == count);
-        check_parents(&rt, alloc, &segment, parents)?;
-        check_columns(&rt, alloc, &schema, &segment, &columns)?;
+        check_segment(&rt, rt.alloc(), &schema, &segment, parents, &columns)?;
     }
     Ok(())
 }

@@ -46,17 +46,27 @@ const CHANGES: [(Change, u64, bool); 3] = [
     (Change::Clear, 0, false),
 ];
 
+// Compares a set of 3 positions and a copy of it with these bits.
+fn check_bits(
+    rt: &impl Abort,
+    alloc: Global,
+    set: &DocSet,
+    bits: u64,
+    has_last: bool,
+) -> Result<(), Fail> {
+    assert!(rt; set.len() == 3);
+    assert!(rt; set.contains(2) == has_last);
+    check(rt, alloc, set, &[bits])?;
+    check(rt, alloc, &set.copy(alloc)?, &[bits])
+}
+
 #[test]
 fn makes_sets(rt: HostRuntime) -> Result<(), Fail> {
-    let alloc = rt.alloc();
-    let mut set = DocSet::empty(alloc, 3)?;
-    check(&rt, alloc, &set, &[0])?;
+    let mut set = DocSet::empty(rt.alloc(), 3)?;
+    check_bits(&rt, rt.alloc(), &set, 0, false)?;
     for (change, bits, has_last) in CHANGES {
         make(&rt, &mut set, change);
-        check(&rt, alloc, &set, &[bits])?;
-        check(&rt, alloc, &set.copy(alloc)?, &[bits])?;
-        assert!(rt; set.len() == 3);
-        assert!(rt; set.contains(2) == has_last);
+        check_bits(&rt, rt.alloc(), &set, bits, has_last)?;
     }
     Ok(())
 }
@@ -130,9 +140,37 @@ fn combined(rt: &impl Abort, alloc: Global, len: u32, with: With) -> Result<DocS
     Ok(set)
 }
 
+fn check_combined(
+    rt: &impl Abort,
+    alloc: Global,
+    len: u32,
+    with: With,
+    words: &[u64],
+) -> Result<(), Fail> {
+    check(rt, alloc, &combined(rt, alloc, len, with)?, words)
+}
+
+// Compares what is combined with these words.
+fn check_all(
+    rt: &impl Abort,
+    alloc: Global,
+    len: u32,
+    rows: &[(With, &[u64])],
+) -> Result<(), Fail> {
+    for (with, words) in rows {
+        check_combined(rt, alloc, len, *with, words)?;
+    }
+    Ok(())
+}
+
+fn check_full(rt: &impl Abort, alloc: Global, len: u32, words: &[u64]) -> Result<(), Fail> {
+    let set = DocSet::full(alloc, len)?;
+    assert!(rt; set.words() == words);
+    Ok(())
+}
+
 #[test]
 fn combines_sets(rt: HostRuntime) -> Result<(), Fail> {
-    let alloc = rt.alloc();
     for (len, all, both, either, odd) in ROWS {
         let rows = [
             (With::Or, either),
@@ -140,10 +178,8 @@ fn combines_sets(rt: HostRuntime) -> Result<(), Fail> {
             (With::And, both),
             (With::AndFill, all),
         ];
-        for (with, words) in rows {
-            check(&rt, alloc, &combined(&rt, alloc, len, with)?, words)?;
-        }
-        assert!(rt; DocSet::full(alloc, len)?.words() == all);
+        check_all(&rt, rt.alloc(), len, &rows)?;
+        check_full(&rt, rt.alloc(), len, all)?;
     }
     Ok(())
 }
