@@ -1,6 +1,6 @@
 // 64 shards of which one has everything.
-use super::messages::{Asked, Inner, Tag, Top};
-use super::searches::{Sent, line_of, request_of, tell};
+use super::messages::list_of;
+use super::searches::{Sent, json_of, line_of, request_of, tell};
 use fc_coord::Coord;
 use fc_refine::Taken;
 use std::alloc::Global;
@@ -10,37 +10,13 @@ use std::test::Fail;
 const REQUEST: &str =
     r#"{"facet":{"c":{"type":"terms","field":"cat","limit":1,"overrequest":0,"refine":true,"overrefine":0}}}"#;
 
-const FULL: &[Top] = &[Top {
-    key: Tag::Whole,
-    count: 3,
-    values: &[],
-    nodes: &[&[Inner {
-        key: Tag::Text("a"),
-        count: 3,
-        values: &[],
-        nodes: &[],
-    }]],
-}];
+const FULL: &str = r#"[[true, 3, [], [["a", 3, []]]]]"#;
 
-const EMPTY: &[Top] = &[Top {
-    key: Tag::Whole,
-    count: 0,
-    values: &[],
-    nodes: &[&[]],
-}];
+const EMPTY: &str = r#"[[true, 0, [], []]]"#;
 
-const WANTED: &[Asked] = &[Asked {
-    path: &[],
-    node: 0,
-    key: Tag::Text("a"),
-}];
+const WANTED: &str = r#"[[[0, "a"]]]"#;
 
-const NONE: &[Top] = &[Top {
-    key: Tag::Text("a"),
-    count: 0,
-    values: &[],
-    nodes: &[],
-}];
+const NONE: &str = r#"[["a", 0, []]]"#;
 
 const LINE: &str =
     "{\"facets\":{\"c\":{\"buckets\":[{\"count\":3,\"val\":\"a\"}]},\"count\":3},\"generations\":[1],\"session\":\"a\"}\n";
@@ -49,12 +25,14 @@ const LINE: &str =
 const OWNER: u32 = 37;
 
 fn first_round(rt: &impl Abort, alloc: Global, coord: &mut Coord) -> Result<(), Fail> {
+    let full = json_of(alloc, FULL)?;
+    let empty = json_of(alloc, EMPTY)?;
     for shard in 0..64 {
-        let tops = if shard == OWNER { FULL } else { EMPTY };
+        let message = if shard == OWNER { &full } else { &empty };
         let sent = Sent {
             shard,
             asked: &[],
-            tops,
+            message,
         };
         assert!(rt; tell(rt, alloc, coord, &sent, "first")? == Taken::More);
     }
@@ -64,6 +42,8 @@ fn first_round(rt: &impl Abort, alloc: Global, coord: &mut Coord) -> Result<(), 
 // Every other shard is asked, the last first.
 fn second_round(rt: &impl Abort, alloc: Global, coord: &mut Coord) -> Result<(), Fail> {
     assert!(rt; coord.round() == 2 && !coord.awaits(OWNER));
+    let wanted = json_of(alloc, WANTED)?;
+    let none = json_of(alloc, NONE)?;
     let mut taken = Taken::More;
     for back in 0..64_u32 {
         let shard = 63 - back;
@@ -71,8 +51,8 @@ fn second_round(rt: &impl Abort, alloc: Global, coord: &mut Coord) -> Result<(),
             assert!(rt; taken == Taken::More);
             let sent = Sent {
                 shard,
-                asked: WANTED,
-                tops: NONE,
+                asked: list_of(&wanted)?,
+                message: &none,
             };
             taken = tell(rt, alloc, coord, &sent, "second")?;
         }

@@ -1,142 +1,139 @@
-// Messages and asks of tables.
-use fc_base::{Name, Val, WantMemory};
+// Messages and asks, read from rows of JSON.
+//
+// A key is a text, `null` for the documents without a value, `true` for all documents, or the number of a gap. A statistic is
+// a number, or the list of a least or greatest value, or of none. A bucket is its key, its count, the list of its statistics,
+// and behind them the list of buckets of each of its facets. A message is a list of buckets. A bucket that is asked for is the
+// list of steps to it, each a node and a key.
+use fc_base::{Name, Val};
 use fc_partial::{Key, Message, PartialBucket, PartialNode, StatValue, Stats};
-use fc_refine::{Ask, Step, Want};
+use fc_refine::{Ask, Want};
+use serde_json::Value;
 use std::alloc::Global;
+use std::test::Fail;
 
-// The key of a bucket.
-#[derive(Clone, Copy)]
-pub(super) enum Tag {
-    Whole,
-    Text(&'static str),
-    Missing,
-    Gap(u32),
+fn integer_of(json: &Value) -> Result<i64, Fail> {
+    Ok(json.as_i64().ok_or("no integer")?)
 }
 
-// Buckets of three levels: a message's own, those in their facets, and those in theirs.
-pub(super) struct Top {
-    pub key: Tag,
-    pub count: u64,
-    pub values: &'static [StatValue],
-    pub nodes: &'static [&'static [Inner]],
+// A shard, a node or a gap.
+pub(super) fn number_of(json: &Value) -> Result<u32, Fail> {
+    Ok(u32::try_from(integer_of(json)?)?)
 }
 
-pub(super) struct Inner {
-    pub key: Tag,
-    pub count: u64,
-    pub values: &'static [StatValue],
-    pub nodes: &'static [&'static [Leaf]],
+pub(super) fn list_of(json: &Value) -> Result<&[Value], Fail> {
+    match json {
+        Value::Array(items) => Ok(items.as_slice()),
+        _ => Err("no list".into()),
+    }
 }
 
-pub(super) struct Leaf {
-    pub key: Tag,
-    pub count: u64,
-    pub values: &'static [StatValue],
-}
-
-// A bucket that is asked for: the nodes and keys on the way, and its own.
-pub(super) struct Asked {
-    pub path: &'static [(u32, Tag)],
-    pub node: u32,
-    pub key: Tag,
-}
-
-fn key(alloc: Global, tag: Tag) -> Result<Key, WantMemory> {
-    Ok(match tag {
-        Tag::Whole => Key::Whole,
-        Tag::Text(text) => Key::Value(Val::Text(Name::new(alloc, text)?)),
-        Tag::Missing => Key::Missing,
-        Tag::Gap(number) => Key::Gap(number),
+fn key_of(alloc: Global, json: &Value) -> Result<Key, Fail> {
+    Ok(match json {
+        Value::String(text) => Key::Value(Val::Text(Name::new(alloc, text)?)),
+        Value::Null => Key::Missing,
+        Value::Bool(true) => Key::Whole,
+        gap => Key::Gap(number_of(gap)?),
     })
 }
 
-fn bucket(
-    alloc: Global,
-    tag: Tag,
-    count: u64,
-    values: &[StatValue],
-    nodes: Vec<PartialNode>,
-) -> Result<PartialBucket, WantMemory> {
+fn statistic_of(json: &Value) -> Result<StatValue, Fail> {
+    let Value::Array(items) = json else {
+        return Ok(StatValue::Number(integer_of(json)?));
+    };
+    match items.as_slice() {
+        [] => Ok(StatValue::Extreme(None)),
+        [value] => Ok(StatValue::Extreme(Some(integer_of(value)?))),
+        _ => Err("more than one value".into()),
+    }
+}
+
+fn stats_of(alloc: Global, count: &Value, statistics: &Value) -> Result<Stats, Fail> {
+    let count = count.as_u64().ok_or("no count")?;
+    let mut values = Vec::new(alloc);
+    for statistic in list_of(statistics)? {
+        values.push(statistic_of(statistic)?)?;
+    }
+    Ok(Stats { count, values })
+}
+
+#[cycle(read)]
+fn bucket_of(alloc: Global, json: &Value) -> Result<PartialBucket, Fail> {
+    let Value::Array(row) = json else {
+        return Err("no bucket".into());
+    };
+    let [key, count, statistics, lists @ ..] = row.as_slice() else {
+        return Err("no bucket".into());
+    };
+    let mut nodes = Vec::new(alloc);
+    for list in lists {
+        nodes.push(node_of(alloc, list)?)?;
+    }
     Ok(PartialBucket {
-        key: key(alloc, tag)?,
-        stats: Stats {
-            count,
-            values: Vec::from_slice(alloc, values)?,
-        },
+        key: key_of(alloc, key)?,
+        stats: stats_of(alloc, count, statistics)?,
         nodes,
     })
 }
 
-fn leaves(alloc: Global, leaves: &[Leaf]) -> Result<PartialNode, WantMemory> {
+#[cycle(read)]
+fn node_of(alloc: Global, json: &Value) -> Result<PartialNode, Fail> {
+    let Value::Array(rows) = json else {
+        return Err("no list".into());
+    };
     let mut buckets = Vec::new(alloc);
-    for leaf in leaves {
-        let nodes = Vec::new(alloc);
-        buckets.push(bucket(alloc, leaf.key, leaf.count, leaf.values, nodes)?)?;
+    for row in rows {
+        buckets.push(bucket_of(alloc, row)?)?;
     }
     Ok(PartialNode { buckets })
 }
 
-fn inner_bucket(alloc: Global, inner: &Inner) -> Result<PartialBucket, WantMemory> {
-    let mut nodes = Vec::new(alloc);
-    for list in inner.nodes {
-        nodes.push(leaves(alloc, list)?)?;
-    }
-    bucket(alloc, inner.key, inner.count, inner.values, nodes)
+pub(super) fn message_of(alloc: Global, json: &Value) -> Result<Message, Fail> {
+    let node = node_of(alloc, json)?;
+    Ok(Message {
+        buckets: node.buckets,
+    })
 }
 
-fn inners(alloc: Global, list: &[Inner]) -> Result<PartialNode, WantMemory> {
-    let mut buckets = Vec::new(alloc);
-    for one in list {
-        buckets.push(inner_bucket(alloc, one)?)?;
-    }
-    Ok(PartialNode { buckets })
+fn is_step(alloc: Global, node: u32, key: &Key, step: &Value) -> Result<bool, Fail> {
+    let [wanted_node, wanted_key] = list_of(step)? else {
+        return Err("no step".into());
+    };
+    Ok(node == number_of(wanted_node)? && *key == key_of(alloc, wanted_key)?)
 }
 
-fn top_bucket(alloc: Global, top: &Top) -> Result<PartialBucket, WantMemory> {
-    let mut nodes = Vec::new(alloc);
-    for list in top.nodes {
-        nodes.push(inners(alloc, list)?)?;
-    }
-    bucket(alloc, top.key, top.count, top.values, nodes)
-}
-
-pub(super) fn message(alloc: Global, tops: &[Top]) -> Result<Message, WantMemory> {
-    let mut buckets = Vec::new(alloc);
-    for one in tops {
-        buckets.push(top_bucket(alloc, one)?)?;
-    }
-    Ok(Message { buckets })
-}
-
-fn same_step(alloc: Global, step: &Step, asked: &(u32, Tag)) -> Result<bool, WantMemory> {
-    Ok(step.node == asked.0 && step.key == key(alloc, asked.1)?)
-}
-
-fn same_want(alloc: Global, want: &Want, asked: &Asked) -> Result<bool, WantMemory> {
-    if want.path.len() != asked.path.len() || want.node != asked.node {
+fn is_want(alloc: Global, want: &Want, steps: &Value) -> Result<bool, Fail> {
+    let [way @ .., last] = list_of(steps)? else {
+        return Err("no step".into());
+    };
+    if want.path.len() != way.len() {
         return Ok(false);
     }
-    for (step, wanted) in want.path.iter().zip(asked.path) {
-        if !same_step(alloc, step, wanted)? {
+    for (step, wanted) in want.path.iter().zip(way) {
+        if !is_step(alloc, step.node, &step.key, wanted)? {
             return Ok(false);
         }
     }
-    Ok(want.key == key(alloc, asked.key)?)
+    is_step(alloc, want.node, &want.key, last)
+}
+
+// How often it is asked for.
+fn count_of(alloc: Global, wants: &[Want], steps: &Value) -> Result<u64, Fail> {
+    let mut found = 0_u64;
+    for want in wants {
+        if is_want(alloc, want, steps)? {
+            found = found.saturating_add(1);
+        }
+    }
+    Ok(found)
 }
 
 // Whether these are asked for, each once, in whatever order.
-fn same_wants(alloc: Global, wants: &[Want], asked: &[Asked]) -> Result<bool, WantMemory> {
+fn are_wants(alloc: Global, wants: &[Want], asked: &[Value]) -> Result<bool, Fail> {
     if wants.len() != asked.len() {
         return Ok(false);
     }
-    for one in asked {
-        let mut found = 0_u64;
-        for want in wants {
-            if same_want(alloc, want, one)? {
-                found = found.saturating_add(1);
-            }
-        }
-        if found != 1 {
+    for steps in asked {
+        if count_of(alloc, wants, steps)? != 1 {
             return Ok(false);
         }
     }
@@ -144,9 +141,9 @@ fn same_wants(alloc: Global, wants: &[Want], asked: &[Asked]) -> Result<bool, Wa
 }
 
 // Whether a shard is asked first, where the list is empty, or for exactly these.
-pub(super) fn same_ask(alloc: Global, ask: &Ask, asked: &[Asked]) -> Result<bool, WantMemory> {
+pub(super) fn is_ask(alloc: Global, ask: &Ask, asked: &[Value]) -> Result<bool, Fail> {
     match ask {
         Ask::First => Ok(asked.is_empty()),
-        Ask::More(wants) => same_wants(alloc, wants, asked),
+        Ask::More(wants) => are_wants(alloc, wants, asked),
     }
 }

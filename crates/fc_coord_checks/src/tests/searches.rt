@@ -6,7 +6,7 @@ ghost use Rattle.fc_spec.specs.messages.Lacks.{terms_depth};
 ghost use Rattle.fc_request.specs.RequestView.{request_view};
 ghost use Rattle.fc_refine.specs.CountableRanges.{AreCountable};
 
-use super::messages::{Asked, Top, message, same_ask};
+use super::messages::{is_ask, list_of, message_of, number_of};
 use fc_base::{Name, Schema};
 use fc_coord::Coord;
 use fc_reading::valid_requests_are_countable;
@@ -21,17 +21,18 @@ use std::test::Fail;
 
 // What a shard is asked in a round, nothing where it is asked first, and what it answers.
 #[derive(Drop)]
-pub(super) struct Sent {
+pub(super) struct Sent<'a> {
     pub shard: u32,
-    pub asked: &'static [Asked],
-    pub tops: &'static [Top],
+    pub asked: &'a [Value],
+    pub message: &'a Value,
 }
 
 pub(super) struct Search {
     pub name: &'static str,
     pub shards: u32,
     pub request: &'static str,
-    pub rounds: &'static [&'static [Sent]],
+    // The messages of each, as lists of a shard, what it is asked and what it answers.
+    pub rounds: &'static [&'static str],
     // The facets of the reply's line.
     pub facets: &'static str,
 }
@@ -39,7 +40,7 @@ pub(super) struct Search {
 const SCHEMA: &str =
     r#"{"shards":64,"fields":{"cat":"string","n":"plong","price":"plong","size":"string"}}"#;
 
-fn json_of(alloc: Global, text: &str) -> Result<Value, Fail>
+pub(super) fn json_of(alloc: Global, text: &str) -> Result<Value, Fail>
     ensures { IfOk result (λ json. HasNumbers (view json) × HasAscendingKeys (view json)) }
 {
     texts_are_json();
@@ -55,6 +56,25 @@ pub(super) fn request_of(alloc: Global, text: &str) -> Result<Request, Fail>
     let schema = Schema::read(alloc, &json_of(alloc, SCHEMA)?)?;
     let json = json_of(alloc, text)?;
     Ok(Request::read(alloc, &schema, &json)?)
+}
+
+fn sent_of(row: &Value) -> Result<Sent<'_>, Fail> {
+    let [shard, asked, message] = list_of(row)? else {
+        return Err("no message".into());
+    };
+    Ok(Sent {
+        shard: number_of(shard)?,
+        asked: list_of(asked)?,
+        message,
+    })
+}
+
+fn all_sent(alloc: Global, round: &Value) -> Result<Vec<Sent<'_>>, Fail> {
+    let mut sent = Vec::new(alloc);
+    for row in list_of(round)? {
+        sent.push(sent_of(row)?)?;
+    }
+    Ok(sent)
 }
 
 // Exactly the shards of these messages are awaited.
@@ -76,10 +96,10 @@ pub(super) fn tell(
     let shard = one.shard;
     assert!(rt; coord.awaits(shard), "{name}: shard {shard}");
     assert!(rt;
-        same_ask(alloc, coord.ask(shard), one.asked)?,
+        is_ask(alloc, coord.ask(shard), one.asked)?,
         "{name}: shard {shard}"
     );
-    let message = message(alloc, one.tops)?;
+    let message = message_of(alloc, one.message)?;
     assert!(rt; coord.fits(shard, &message), "{name}: shard {shard}");
     assert!(rt; !coord.spent());
     Ok(coord.take(shard, message)?)
@@ -137,10 +157,12 @@ fn run_turned(rt: &impl Abort, alloc: Global, search: &Search, turn: usize) -> R
     assert!(rt; 1 <= search.shards && search.shards <= 64);
     let mut coord = Coord::begin(alloc, &request, search.shards)?;
     let mut round = 0_u32;
-    for sent in search.rounds {
+    for text in search.rounds {
         round = round.saturating_add(1);
-        check_round(rt, &coord, search, round, sent);
-        let _taken = run_round(rt, alloc, &mut coord, sent, turn, search.name)?;
+        let json = json_of(alloc, text)?;
+        let sent = all_sent(alloc, &json)?;
+        check_round(rt, &coord, search, round, &sent);
+        let _taken = run_round(rt, alloc, &mut coord, &sent, turn, search.name)?;
     }
     let line = line_of(rt, alloc, coord, search.name)?;
     let wanted = wanted_line(alloc, search.facets)?;
