@@ -42,23 +42,7 @@ returns-then-lo-hi-clause-positions c = λ at.
     ∙ from_to_min lo hi count (get_or rows at []) within ∙ ap (has_from_to lo hi) row
 
 pub returns-then-lo-hi-clause-within : goal.returns-then-lo-hi-clause-within
-returns-then-lo-hi-clause-within c = listed_within c.span.result.now c.args.lo c.args.hi c.args.self.now (λ at.
-    let column = c.self.inside in
-    let terms = column.terms.items in
-    let rows = column.ordinals in
-    let lo = c.args.lo in
-    let hi = c.args.hi in
-    let count = length terms in
-    let known = ap terms_of (sym c.self.view_is) ∙ c.self.invariant.complete in
-    let top : c.min-hi.result ≡ min hi count = c.min-hi.ensures ∙ ap (min hi) (c.terms.ensures ∙ ap length known) in
-    let within = all_at (λ ord. ord < count) rows at c.self.invariant.within in
-    let row : get_or rows at [] ≡ ordinals_in c.args.self.now (get_or c.args.self.now at []) =
-    sym (ap₂ (λ ts l. map (λ t. count_by (λ term. is_lt (text_cmp term t)) ts) l) known (ap (λ l. get_or l at []) (sym c.self.view_is) ∙ row_at_map (term_at terms) rows at)
-    ∙ ordinals_back terms c.self.invariant.sorted (get_or rows at []) within) in
-    ap (is_among at) (c.span.ensures ∙ ap (λ (lists : _). flat_map (λ list. list) (slice_range lists lo c.min-hi.result)) c.self.invariant.placed)
-    ∙ span_among rows count lo c.min-hi.result at (omega arith) (omega (arith, top))
-    ∙ ap (λ n. has_from_to lo n (get_or rows at [])) top
-    ∙ from_to_min lo hi count (get_or rows at []) within ∙ ap (has_from_to lo hi) row)
+returns-then-lo-hi-clause-within c = listed_within c.span.result.now c.args.lo c.args.hi c.args.self.now (returns-then-lo-hi-clause-positions c)
 
 pub returns-else-lo-hi-clause-positions : goal.returns-else-lo-hi-clause-positions
 returns-else-lo-hi-clause-positions c = λ at.
