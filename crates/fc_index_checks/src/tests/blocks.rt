@@ -1,4 +1,5 @@
 // Blocks, read from their JSON: their values, or the first fault.
+use super::{block_of, schema_of};
 use fc_base::{FieldId, Refusal, Schema, Val};
 use fc_docs::{Block, Document, read_block};
 use serde_json::Value;
@@ -9,11 +10,8 @@ use std::test::Fail;
 const NAMES: [&str; 6] = ["id", "Age", "cat", "n", "ns", "tags"];
 
 // A schema with a field of each type, of which `Age` stands before each key that begins with `_`.
-fn schema(alloc: Global) -> Result<Schema, Fail> {
-    let text =
-        r#"{"shards":1,"fields":{"Age":"plong","cat":"string","n":"plong","ns":"plongs","tags":"strings"}}"#;
-    Ok(Schema::read(alloc, &Value::from_str(alloc, text)?)?)
-}
+const FIELDS: &str =
+    r#"{"shards":1,"fields":{"Age":"plong","cat":"string","n":"plong","ns":"plongs","tags":"strings"}}"#;
 
 fn write_value(text: &mut String, name: &str, value: &Val) -> Result<(), Fail> {
     match value {
@@ -111,9 +109,9 @@ const VALUES: &[(&str, &str)] = &[
 #[test]
 fn blocks_have_their_values(rt: HostRuntime) -> Result<(), Fail> {
     let alloc = rt.alloc();
-    let schema = schema(alloc)?;
+    let schema = schema_of(alloc, FIELDS)?;
     for (text, values) in VALUES {
-        let block = read_block(alloc, &schema, Value::from_str(alloc, text)?)?;
+        let block = block_of(alloc, &schema, text)?;
         let found = shown(alloc, &block)?;
         assert!(rt; found.as_str() == *values, "{found} at {text}");
     }
@@ -238,7 +236,7 @@ deep-children ~{"id":"7","_childDocuments_":[{"_childDocuments_":[{"_childDocume
 #[test]
 fn first_faults_are_found(rt: HostRuntime) -> Result<(), Fail> {
     let alloc = rt.alloc();
-    let schema = schema(alloc)?;
+    let schema = schema_of(alloc, FIELDS)?;
     let mut lines = 0u32;
     for line in FAULTS.split('\n') {
         if let Some((fault, text)) = line.split_once(" ~") {
@@ -278,7 +276,7 @@ const LIMITS: &[(&str, &str, usize, &str, &str)] = &[
 #[test]
 fn terms_have_a_limit(rt: HostRuntime) -> Result<(), Fail> {
     let alloc = rt.alloc();
-    let schema = schema(alloc)?;
+    let schema = schema_of(alloc, FIELDS)?;
     for (head, part, count, tail, fault) in LIMITS {
         let term = part.repeat(alloc, *count)?;
         let text = format!(in alloc; r#"{{"id":"7",{head}"{term}"{tail}}}"#)?;

@@ -4,7 +4,6 @@ ghost use Rattle.std.specs.Prelude.{◌<◌, ◌<ℤ◌, length};
 use fc_base::{Name, Val, WantMemory};
 use fc_column::{LongBuilder, LongColumn, TextBuilder, TextColumn};
 use std::alloc::Global;
-use std::process::Abort;
 use std::test::Fail;
 
 // Adds a position with one text.
@@ -27,7 +26,7 @@ fn push_longs(builder: &mut LongBuilder, low: i64, high: i64) -> Result<(), Want
 }
 
 // A text, how many terms stand below it, and how many up to it.
-const TERMS: [(&str, u32, u32); 7] = [
+const TERMS: &[(&str, u32, u32)] = &[
     ("", 0, 0),
     ("a", 0, 1),
     ("aa", 1, 1),
@@ -46,30 +45,34 @@ fn three_texts(alloc: Global) -> Result<TextColumn, WantMemory> {
     builder.finish()
 }
 
-fn check_ordinals(rt: &impl Abort, column: &TextColumn, at: u32, ordinals: &[u32]) {
-    assert!(rt; at < column.len());
-    assert!(rt; column.ordinals_of(at) == ordinals, "at {at}");
+fn has_ordinals(column: &TextColumn, at: u32, ordinals: &[u32]) -> bool {
+    at < column.len() && column.ordinals_of(at) == ordinals
 }
 
-fn check_text(rt: &impl Abort, column: &TextColumn, text: &str, from: u32, past: u32) {
+// Whether it has its three terms at its three positions.
+fn has_three(column: &TextColumn) -> bool {
+    column.len() == 3
+        && has_ordinals(column, 0, &[1])
+        && has_ordinals(column, 1, &[0, 2])
+        && has_ordinals(column, 2, &[])
+        && column.terms() == 3
+        && column.term(1).text() == "b"
+}
+
+fn is_found(column: &TextColumn, text: &str, from: u32, past: u32) -> bool {
     let ordinal = if from < past { Some(from) } else { None };
     let bytes = text.as_bytes();
-    assert!(rt; column.ordinal_of(bytes) == ordinal, "at {text:?}");
-    assert!(rt; column.first_from(bytes) == from, "at {text:?}");
-    assert!(rt; column.first_past(bytes) == past, "at {text:?}");
+    column.ordinal_of(bytes) == ordinal
+        && column.first_from(bytes) == from
+        && column.first_past(bytes) == past
 }
 
 #[test]
 fn texts_are_found(rt: HostRuntime) -> Result<(), Fail> {
     let column = three_texts(rt.alloc())?;
-    assert!(rt; column.len() == 3);
-    check_ordinals(&rt, &column, 0, &[1]);
-    check_ordinals(&rt, &column, 1, &[0, 2]);
-    check_ordinals(&rt, &column, 2, &[]);
-    assert!(rt; column.terms() == 3);
-    assert!(rt; column.term(1).text() == "b");
+    assert!(rt; has_three(&column));
     for (text, from, past) in TERMS {
-        check_text(&rt, &column, text, from, past);
+        assert!(rt; is_found(&column, text, *from, *past), "at {text:?}");
     }
     Ok(())
 }
@@ -89,7 +92,7 @@ fn texts(alloc: Global, len: u32) -> Result<TextColumn, WantMemory> {
 }
 
 // A length, two ordinals, and the bits of the positions between them.
-const TEXTS_BETWEEN: [(u32, u32, u32, [u64; 3]); 9] = [
+const TEXTS_BETWEEN: &[(u32, u32, u32, [u64; 3])] = &[
     (0, 0, 3, [0; 3]),
     (1, 0, 3, [1, 0, 0]),
     (63, 1, 3, [0x6666_6666_6666_6666, 0, 0]),
@@ -101,15 +104,22 @@ const TEXTS_BETWEEN: [(u32, u32, u32, [u64; 3]); 9] = [
     (129, 2, 2, [0; 3]),
 ];
 
+// Whether a column of this length has the bits between two ordinals.
+fn are_between(column: &TextColumn, len: u32, low: u32, high: u32, expected: &[u64; 3]) -> bool {
+    if column.len() != len || len > 192 {
+        return false;
+    }
+    let mut words = [u64::MAX; 3];
+    column.between(low, high, &mut words);
+    words == *expected
+}
+
 #[test]
 fn texts_stand_between(rt: HostRuntime) -> Result<(), Fail> {
     for (len, low, high, expected) in TEXTS_BETWEEN {
-        let column = texts(rt.alloc(), len)?;
-        assert!(rt; column.len() == len);
-        assert!(rt; len <= 192);
-        let mut words = [u64::MAX; 3];
-        column.between(low, high, &mut words);
-        assert!(rt; words == expected, "at {len}, {low} and {high}");
+        let column = texts(rt.alloc(), *len)?;
+        let is_right = are_between(&column, *len, *low, *high, expected);
+        assert!(rt; is_right, "at {len}, {low} and {high}");
     }
     Ok(())
 }
@@ -130,7 +140,7 @@ fn few_texts(alloc: Global, len: u32) -> Result<TextColumn, WantMemory> {
 }
 
 // A length, a text, and the positions that have it.
-const POSITIONS: [(u32, &str, &[u32]); 10] = [
+const POSITIONS: &[(u32, &str, &[u32])] = &[
     (0, "a", &[]),
     (15, "a", &[]),
     (16, "a", &[15]),
@@ -160,26 +170,30 @@ fn has_text(column: &TextColumn, at: u32, text: &str) -> bool
         .any(|ord| column.term(*ord).text() == text)
 }
 
-fn check_positions(rt: &impl Abort, column: &TextColumn, text: &str, expected: &[u32]) {
-    assert!(rt; listed(column, text) == expected, "{text}");
+// Whether these positions alone have the text.
+fn are_held(column: &TextColumn, text: &str, expected: &[u32]) -> bool {
     for at in 0..column.len() {
-        let found = has_text(column, at, text);
-        assert!(rt; found == expected.contains(&at), "{text} at {at}");
+        if has_text(column, at, text) != expected.contains(&at) {
+            return false;
+        }
     }
+    true
 }
 
 #[test]
 fn positions_of_texts_are_listed(rt: HostRuntime) -> Result<(), Fail> {
     for (len, text, expected) in POSITIONS {
-        let column = few_texts(rt.alloc(), len)?;
-        assert!(rt; column.len() == len);
-        check_positions(&rt, &column, text, expected);
+        let column = few_texts(rt.alloc(), *len)?;
+        let is_right = column.len() == *len
+            && listed(&column, text) == *expected
+            && are_held(&column, text, expected);
+        assert!(rt; is_right, "{text} in {len}");
     }
     Ok(())
 }
 
 // A length, and the bits of the positions with a text.
-const ANY: [(u32, [u64; 3]); 7] = [
+const ANY: &[(u32, [u64; 3])] = &[
     (0, [0; 3]),
     (15, [0; 3]),
     (16, [0x8000, 0, 0]),
@@ -189,22 +203,27 @@ const ANY: [(u32, [u64; 3]); 7] = [
     (129, [0x8000_8000_8000_8000, 0x8000_8000_8000_8000, 0]),
 ];
 
+fn are_marked(column: &TextColumn, len: u32, expected: &[u64; 3]) -> bool {
+    if column.len() != len || len > 192 {
+        return false;
+    }
+    let mut words = [u64::MAX; 3];
+    column.any(&mut words);
+    words == *expected
+}
+
 #[test]
 fn positions_with_texts_are_marked(rt: HostRuntime) -> Result<(), Fail> {
     for (len, expected) in ANY {
-        let column = few_texts(rt.alloc(), len)?;
-        assert!(rt; column.len() == len);
-        assert!(rt; len <= 192);
-        let mut words = [u64::MAX; 3];
-        column.any(&mut words);
-        assert!(rt; words == expected, "at {len}");
+        let column = few_texts(rt.alloc(), *len)?;
+        assert!(rt; are_marked(&column, *len, expected), "at {len}");
     }
     Ok(())
 }
 
 // Two integers, the bits of the positions with one between them, and those positions in the order of
 // their integers.
-const LONGS_BETWEEN: [(i64, i64, u64, &[u32]); 7] = [
+const LONGS_BETWEEN: &[(i64, i64, u64, &[u32])] = &[
     (6, 9, 0b00001, &[0]),
     (7, 5, 0, &[]),
     (i64::MIN, i64::MIN, 0b00100, &[2]),
@@ -225,49 +244,44 @@ fn five_lists(alloc: Global) -> Result<LongColumn, WantMemory> {
     builder.finish()
 }
 
-fn check_between(
-    rt: &impl Abort,
-    column: &LongColumn,
-    low: i64,
-    high: i64,
-    bits: u64,
-    positions: &[u32],
-) {
-    assert!(rt; column.len() == 5);
+// Whether a column of five positions has these of its integers between two.
+fn has_between(column: &LongColumn, low: i64, high: i64, bits: u64, positions: &[u32]) -> bool {
+    if column.len() != 5 {
+        return false;
+    }
     let mut words = [u64::MAX];
     column.between(low, high, &mut words);
-    assert!(rt; words == [bits], "at {low} and {high}");
-    let found = column.positions_between(low, high);
-    assert!(rt; found == positions, "at {low} and {high}");
+    words == [bits] && column.positions_between(low, high) == positions
 }
 
-// Compares the bits of the positions with an integer.
-fn check_any(rt: &impl Abort, column: &LongColumn, bits: u64) {
-    assert!(rt; column.len() == 5);
+// Whether a column of five positions has these with an integer.
+fn has_any(column: &LongColumn, bits: u64) -> bool {
+    if column.len() != 5 {
+        return false;
+    }
     let mut words = [u64::MAX];
     column.any(&mut words);
-    assert!(rt; words == [bits]);
+    words == [bits]
 }
 
-fn check_integers(rt: &impl Abort, column: &LongColumn, at: u32, values: &[i64]) {
-    assert!(rt; at < column.len());
-    assert!(rt; column.values_of(at) == values, "at {at}");
+fn has_integers(column: &LongColumn, at: u32, values: &[i64]) -> bool {
+    at < column.len() && column.values_of(at) == values
 }
 
 #[test]
 fn integers_are_found(rt: HostRuntime) -> Result<(), Fail> {
     let column = five_lists(rt.alloc())?;
-    check_integers(&rt, &column, 0, &[5, 7]);
-    check_integers(&rt, &column, 1, &[]);
+    assert!(rt; has_integers(&column, 0, &[5, 7]) && has_integers(&column, 1, &[]));
     for (low, high, bits, positions) in LONGS_BETWEEN {
-        check_between(&rt, &column, low, high, bits, positions);
+        let is_right = has_between(&column, *low, *high, *bits, positions);
+        assert!(rt; is_right, "at {low} and {high}");
     }
-    check_any(&rt, &column, 0b11101);
+    assert!(rt; has_any(&column, 0b11101));
     Ok(())
 }
 
 // A length, two integers, and the bits of the positions between them.
-const PLACES_BETWEEN: [(u32, i64, i64, [u64; 3]); 7] = [
+const PLACES_BETWEEN: &[(u32, i64, i64, [u64; 3])] = &[
     (0, 0, 128, [0; 3]),
     (1, 0, 128, [1, 0, 0]),
     (63, 62, 128, [0x4000_0000_0000_0000, 0, 0]),
@@ -286,79 +300,68 @@ fn numbers(alloc: Global, len: u32) -> Result<LongColumn, WantMemory> {
     builder.finish()
 }
 
+// Whether a column of this length has the bits between two integers.
+fn has_places(column: &LongColumn, len: u32, low: i64, high: i64, expected: &[u64; 3]) -> bool {
+    if column.len() != len || len > 192 {
+        return false;
+    }
+    let mut words = [u64::MAX; 3];
+    column.between(low, high, &mut words);
+    words == *expected
+}
+
 #[test]
 fn integers_stand_between(rt: HostRuntime) -> Result<(), Fail> {
     for (len, low, high, expected) in PLACES_BETWEEN {
-        let column = numbers(rt.alloc(), len)?;
-        assert!(rt; column.len() == len);
-        assert!(rt; len <= 192);
-        let mut words = [u64::MAX; 3];
-        column.between(low, high, &mut words);
-        assert!(rt; words == expected, "at {len}, {low} and {high}");
+        let column = numbers(rt.alloc(), *len)?;
+        let is_right = has_places(&column, *len, *low, *high, expected);
+        assert!(rt; is_right, "at {len}, {low} and {high}");
     }
     Ok(())
 }
 
-// How many positions come before one with an integer, and behind it.
-const SKIPPED: [(u32, u32); 7] = [
-    (0, 0),
-    (0, 64),
-    (62, 1),
-    (63, 0),
-    (63, 1),
-    (64, 0),
-    (64, 128),
+// How many positions come before one with an integer, how many behind it, and how many there are.
+const SKIPPED: &[(u32, u32, u32)] = &[
+    (0, 0, 1),
+    (0, 64, 65),
+    (62, 1, 64),
+    (63, 0, 64),
+    (63, 1, 65),
+    (64, 0, 65),
+    (64, 128, 193),
 ];
 
-fn is_total(len: u32, before: u32, behind: u32) -> bool {
-    u64::from(len) == u64::from(before) + 1 + u64::from(behind)
-}
-
-// A column with one integer, behind so many positions and before so many.
-fn one_number(
-    rt: &impl Abort,
-    alloc: Global,
-    before: u32,
-    behind: u32,
-) -> Result<LongColumn, WantMemory> {
+// A column with one integer, behind so many positions and before so many, and the length of its builder.
+fn one_number(alloc: Global, before: u32, behind: u32) -> Result<(u32, LongColumn), WantMemory> {
     let mut builder = LongBuilder::new(alloc)?;
     builder.skip(before)?;
     builder.push_doc(&[Val::Long(i64::from(before))])?;
     builder.skip(behind)?;
-    assert!(rt;
-        is_total(builder.len(), before, behind),
-        "at {before} and {behind}"
-    );
-    builder.finish()
+    let len = builder.len();
+    Ok((len, builder.finish()?))
 }
 
-// Compares what each position has, of which one has its own number.
-fn check_held(rt: &impl Abort, column: &LongColumn, number: u32) {
+// Whether one position alone has an integer, its own number.
+fn is_alone(column: &LongColumn, number: u32) -> bool {
     for at in 0..column.len() {
         let wanted = if at == number {
             Some(i64::from(at))
         } else {
             None
         };
-        let held = column.values_of(at).first().copied();
-        assert!(rt; held == wanted, "at {at} and {number}");
+        if column.values_of(at).first().copied() != wanted {
+            return false;
+        }
     }
+    column.positions_between(i64::MIN, i64::MAX) == [number].as_slice()
 }
 
 #[test]
 fn integers_of_few_positions_are_found(rt: HostRuntime) -> Result<(), Fail> {
-    for (before, behind) in SKIPPED {
-        let column = one_number(&rt, rt.alloc(), before, behind)?;
-        assert!(rt;
-            is_total(column.len(), before, behind),
-            "at {before} and {behind}"
-        );
-        let positions = column.positions_between(i64::MIN, i64::MAX);
-        assert!(rt;
-            positions == [before].as_slice(),
-            "at {before} and {behind}"
-        );
-        check_held(&rt, &column, before);
+    for (before, behind, total) in SKIPPED {
+        let (len, column) = one_number(rt.alloc(), *before, *behind)?;
+        let is_right = len == *total && column.len() == *total && is_alone(&column, *before);
+        assert!(rt; is_right, "at {before} and {behind}");
     }
     Ok(())
 }

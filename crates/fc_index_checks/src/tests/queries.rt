@@ -2,13 +2,13 @@
 ghost use Rattle.std.specs.Prelude.{◌≡◌, IfOk};
 ghost use Rattle.fc_spec.specs.documents.Schema.{texts_held};
 
+use super::{block_of, schema_of};
 use fc_base::Schema;
-use fc_docs::{Batch, read_block};
+use fc_docs::Batch;
 use fc_docset::DocSet;
 use fc_domain::matches;
 use fc_query::parse;
 use fc_segment::Segment;
-use serde_json::Value;
 use std::alloc::Global;
 use std::process::Abort;
 use std::test::Fail;
@@ -24,7 +24,7 @@ const BLOCK: &str = r#"{"id":"4","sizes":0,"_childDocuments_":[
     {"id":"3","color":"b","sizes":[3,5]}]}"#;
 
 // Each query with a bit for each position that matches, the lowest for the first.
-const MATCHES: [(&str, u64); 36] = [
+const MATCHES: &[(&str, u64)] = &[
     ("*:*", 0b11111),
     ("id:3", 0b01000),
     ("name:*", 0),
@@ -70,7 +70,7 @@ fn segment_of(rt: &impl Abort, alloc: Global, schema: &Schema) -> Result<Segment
     ensures { IfOk result (λ segment.
         segment.texts ≡ texts_held schema.now.fields) }
 {
-    let block = read_block(alloc, schema, Value::from_str(alloc, BLOCK)?)?;
+    let block = block_of(alloc, schema, BLOCK)?;
     assert!(rt; block.children.len() < 5);
     let blocks = vec![in alloc; block]?;
     Ok(Segment::build(alloc, schema, &Batch { blocks })?)
@@ -89,11 +89,11 @@ fn matching(alloc: Global, schema: &Schema, segment: &Segment, text: &str) -> Re
 #[test]
 fn queries_match(rt: HostRuntime) -> Result<(), Fail> {
     let alloc = rt.alloc();
-    let schema = Schema::read(alloc, &Value::from_str(alloc, FIELDS)?)?;
+    let schema = schema_of(alloc, FIELDS)?;
     let segment = segment_of(&rt, alloc, &schema)?;
     for (text, positions) in MATCHES {
         let set = matching(alloc, &schema, &segment, text)?;
-        assert!(rt; set.words() == [positions].as_slice(), "at {text}");
+        assert!(rt; set.words() == [*positions].as_slice(), "at {text}");
     }
     Ok(())
 }

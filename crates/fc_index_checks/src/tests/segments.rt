@@ -4,18 +4,14 @@ ghost use Rattle.fc_spec.specs.documents.Totals.{document_total};
 ghost use Rattle.fc_spec.specs.documents.ValidBlocks.{IsBlockOf};
 ghost use Rattle.fc_docs.specs.View.{batch_view};
 
+use super::{block_of, schema_of};
 use fc_base::{FieldId, Schema};
-use fc_docs::{Batch, read_block};
+use fc_docs::Batch;
 use fc_segment::{Column, Segment};
-use serde_json::Value;
 use std::alloc::Global;
 use std::fmt::Write;
 use std::process::Abort;
 use std::test::Fail;
-
-fn schema_of(alloc: Global, text: &str) -> Result<Schema, Fail> {
-    Ok(Schema::read(alloc, &Value::from_str(alloc, text)?)?)
-}
 
 // The batch of these blocks, each of at most 4 documents.
 fn batch_of(rt: &impl Abort, alloc: Global, schema: &Schema, blocks: &[&str]) -> Result<Batch, Fail>
@@ -24,7 +20,7 @@ fn batch_of(rt: &impl Abort, alloc: Global, schema: &Schema, blocks: &[&str]) ->
 {
     let mut read = Vec::new(alloc);
     for text in blocks {
-        let block = read_block(alloc, schema, Value::from_str(alloc, text)?)?;
+        let block = block_of(alloc, schema, text)?;
         assert!(rt; block.children.len() < 4);
         read.push(block)?;
     }

@@ -1,26 +1,43 @@
 // Absolute values of documents, added field by field, and how many values they have.
+ghost use Rattle.std.specs.Prelude.{◌≡◌, length};
+
+use super::{block_of, schema_of};
 use fc_base::Schema;
-use fc_docs::read_block;
-use serde_json::Value;
+use fc_docs::Document;
 use std::alloc::Global;
 use std::test::Fail;
 
 const FIELDS: &str = r#"{"shards":1,"fields":{"n":"plong","ns":"plongs","tags":"strings"}}"#;
 
-// The sums of `id`, `n`, `ns` and `tags` after two documents, and what is left of room for six values
-// behind the second; each is none where there is too much.
-fn told(alloc: Global, schema: &Schema, first: &str, second: &str) -> Result<String, Fail> {
-    let first = read_block(alloc, schema, Value::from_str(alloc, first)?)?;
-    let second = read_block(alloc, schema, Value::from_str(alloc, second)?)?;
-    let room = second.parent.room_after(6);
-    let mut sums = vec![in alloc; 0; schema.fields() as usize]?;
-    if first.parent.add_to_sums(&mut sums) && second.parent.add_to_sums(&mut sums) {
-        return Ok(format!(in alloc; "{sums:?} {room:?}")?);
+// The sums of `id`, `n`, `ns` and `tags` after two documents, or none where one is too great.
+fn sums_of(alloc: Global, first: &Document, second: &Document) -> Result<Option<Vec<u64>>, Fail>
+    requires { length first.now ≡ length second.now }
+{
+    let mut sums = vec![in alloc; 0; first.field_count() as usize]?;
+    if first.add_to_sums(&mut sums) && second.add_to_sums(&mut sums) {
+        return Ok(Some(sums));
     }
-    Ok(format!(in alloc; "None {room:?}")?)
+    Ok(None)
 }
 
-const SUMS: [(&str, &str, &str); 12] = [
+// The sums, and what is left of room for six values behind the second document.
+fn told(alloc: Global, first: &Document, second: &Document) -> Result<String, Fail>
+    requires { length first.now ≡ length second.now }
+{
+    let room = second.room_after(6);
+    match sums_of(alloc, first, second)? {
+        Some(sums) => Ok(format!(in alloc; "{sums:?} {room:?}")?),
+        None => Ok(format!(in alloc; "None {room:?}")?),
+    }
+}
+
+fn told_of(alloc: Global, schema: &Schema, first: &str, second: &str) -> Result<String, Fail> {
+    let first = block_of(alloc, schema, first)?;
+    let second = block_of(alloc, schema, second)?;
+    told(alloc, &first.parent, &second.parent)
+}
+
+const SUMS: &[(&str, &str, &str)] = &[
     (r#"{"id":"7"}"#, r#"{"id":"8"}"#, "[0, 0, 0, 0] Some(5)"),
     (
         r#"{"id":"7"}"#,
@@ -82,10 +99,13 @@ const SUMS: [(&str, &str, &str); 12] = [
 #[test]
 fn absolute_values_are_added(rt: HostRuntime) -> Result<(), Fail> {
     let alloc = rt.alloc();
-    let schema = Schema::read(alloc, &Value::from_str(alloc, FIELDS)?)?;
+    let schema = schema_of(alloc, FIELDS)?;
     for (first, second, wanted) in SUMS {
-        let found = told(alloc, &schema, first, second)?;
-        assert!(rt; found.as_str() == wanted, "{found} at {first} and {second}");
+        let found = told_of(alloc, &schema, first, second)?;
+        assert!(rt;
+            found.as_str() == *wanted,
+            "{found} at {first} and {second}"
+        );
     }
     Ok(())
 }

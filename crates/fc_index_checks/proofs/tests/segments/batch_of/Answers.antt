@@ -9,6 +9,6 @@ loop-text-preserved g c =
     let push = c.in_ok-push.ensures.items in
     let count = document_total-push before block in
     record {
-      valid = rw push (valid-push c.args.schema.now before block c.loop-text.invariant.valid c.in_ok-block.ensures.valid);
+      valid = rw push (valid-push c.args.schema.now before block c.loop-text.invariant.valid c.in_ok-block.ensures);
       few = rw (push, count) (omega arith);
     }
