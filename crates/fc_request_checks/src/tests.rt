@@ -3,7 +3,7 @@ mod first_fault;
 mod kept;
 mod size;
 
-use fc_base::{Refusal, Schema};
+use fc_base::{Name, Refusal, Schema};
 use fc_request::{Request, RequestFault};
 use serde_json::Value;
 use std::alloc::Global;
@@ -16,15 +16,22 @@ fn schema(alloc: Global) -> Result<Schema, Fail> {
     Ok(Schema::read(alloc, &Value::from_str(alloc, SCHEMA)?)?)
 }
 
-// The members of `facet` that a text stands for: `$` is the type and the field of a terms facet, `%` what a range facet
-// has to say, and `&` a query facet.
+// What a sign in a table stands for: the type and the field of a terms facet, what a range facet has to say, and a query
+// facet.
+fn meant(sign: char) -> Option<&'static str> {
+    match sign {
+        '$' => Some(r#""type":"terms","field":"cat""#),
+        '%' => Some(r#""type":"range","field":"n","start":0,"end":10,"gap":4"#),
+        '&' => Some(r#""type":"query","q":"*:*""#),
+        _ => None,
+    }
+}
+
 fn push_members(text: &mut String, members: &str) -> Result<(), Fail> {
-    for char in members.chars() {
-        match char {
-            '$' => text.push_str(r#""type":"terms","field":"cat""#)?,
-            '%' => text.push_str(r#""type":"range","field":"n","start":0,"end":10,"gap":4"#)?,
-            '&' => text.push_str(r#""type":"query","q":"*:*""#)?,
-            char => text.push(char)?,
+    for sign in members.chars() {
+        match meant(sign) {
+            Some(meant) => text.push_str(meant)?,
+            None => text.push(sign)?,
         }
     }
     Ok(())
@@ -41,29 +48,27 @@ fn request_text(alloc: Global, whole: bool, given: &str) -> Result<String, Fail>
     Ok(text)
 }
 
-// What is read of a text.
-fn read(alloc: Global, schema: &Schema, text: &str) -> Result<Result<Request, RequestFault>, Fail> {
-    match Request::read(alloc, schema, &Value::from_str(alloc, text)?) {
-        Ok(request) => Ok(Ok(request)),
-        Err(Refusal::Fault(fault)) => Ok(Err(fault)),
-        Err(Refusal::Memory) => Err(Fail::new("memory ran out")),
-    }
-}
-
-// The number of the fault and the names down to it.
-fn fault_text(alloc: Global, fault: &RequestFault) -> Result<String, Fail> {
-    let mut text = format!(in alloc; "{}", fault.fault.number())?;
-    for name in &fault.at {
+// A number, and the names down to it.
+fn at_text(alloc: Global, number: u32, names: &[Name]) -> Result<String, Fail> {
+    let mut text = format!(in alloc; "{number}")?;
+    for name in names {
         text.push('/')?;
         text.push_str(name.text())?;
     }
     Ok(text)
 }
 
+fn fault_text(alloc: Global, refusal: &Refusal<RequestFault>) -> Result<String, Fail> {
+    match refusal {
+        Refusal::Fault(fault) => at_text(alloc, fault.fault.number(), &fault.at),
+        Refusal::Memory => Err("memory ran out".into()),
+    }
+}
+
 // The text of the fault, or `ok`.
 fn outcome(alloc: Global, schema: &Schema, text: &str) -> Result<String, Fail> {
-    match read(alloc, schema, text)? {
+    match Request::read(alloc, schema, &Value::from_str(alloc, text)?) {
         Ok(_) => Ok(String::from_str(alloc, "ok")?),
-        Err(fault) => fault_text(alloc, &fault),
+        Err(refusal) => fault_text(alloc, &refusal),
     }
 }

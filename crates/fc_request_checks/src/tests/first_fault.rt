@@ -3,7 +3,6 @@ use super::{outcome, request_text, schema};
 use fc_base::{Name, Schema};
 use fc_request::{QFault, RequestFault};
 use std::alloc::Global;
-use std::process::Abort;
 use std::test::Fail;
 
 // In the tables below each line has the number of a fault and the names of the facets down to it, each behind a `/`,
@@ -276,7 +275,7 @@ ok ~{"facet":{"t":{"type":"terms","field":"t","sort":"index"},"v":"countvals(t)"
 "##;
 
 // The faults in the order of their numbers, each with its name.
-const ALL_FAULTS: [(QFault, &str); 16] = [
+const ALL_FAULTS: &[(QFault, &str)] = &[
     (QFault::NotAnObject, "not-an-object"),
     (QFault::UnknownKey, "unknown-key"),
     (QFault::QuerySyntax, "query-syntax"),
@@ -295,58 +294,61 @@ const ALL_FAULTS: [(QFault, &str); 16] = [
     (QFault::TooLarge, "too-large"),
 ];
 
-// Each line of a table has its outcome. It answers how many lines there are.
-fn compare(
-    rt: &impl Abort,
-    alloc: Global,
-    schema: &Schema,
-    whole: bool,
-    table: &str,
-) -> Result<u32, Fail> {
-    let mut lines = 0u32;
-    for line in table.split('\n') {
-        if let Some((wanted, text)) = line.split_once(" ~") {
-            let text = request_text(alloc, whole, text)?;
-            let found = outcome(alloc, schema, &text)?;
-            assert!(rt; found.as_str() == wanted, "{found} at {line}");
-            lines = lines.wrapping_add(1);
-        }
-    }
-    Ok(lines)
+// A table, whether its lines have whole requests, and how many lines it has.
+const TABLES: &[(bool, &str, u32)] = &[
+    (true, REQUESTS, 54),
+    (false, NODES, 55),
+    (false, TERMS, 52),
+    (false, RANGES, 36),
+    (false, DOMAINS, 30),
+    (true, EXAMPLES, 15),
+];
+
+fn told(alloc: Global, schema: &Schema, whole: bool, given: &str) -> Result<String, Fail> {
+    let text = request_text(alloc, whole, given)?;
+    outcome(alloc, schema, &text)
 }
 
 #[test]
 fn first_faults(rt: HostRuntime) -> Result<(), Fail> {
     let alloc = rt.alloc();
     let schema = schema(alloc)?;
-    for (whole, table, count) in [
-        (true, REQUESTS, 54),
-        (false, NODES, 55),
-        (false, TERMS, 52),
-        (false, RANGES, 36),
-        (false, DOMAINS, 30),
-        (true, EXAMPLES, 15),
-    ] {
-        assert_eq!(rt; compare(&rt, alloc, &schema, whole, table)?, count);
+    for (whole, table, count) in TABLES {
+        let mut lines = 0u32;
+        for line in table.split('\n') {
+            if let Some((wanted, given)) = line.split_once(" ~") {
+                let found = told(alloc, &schema, *whole, given)?;
+                assert!(rt; found.as_str() == wanted, "{found} at {line}");
+                lines = lines.wrapping_add(1);
+            }
+        }
+        assert!(rt; lines == *count, "{lines} lines");
     }
     Ok(())
 }
 
+// The text of a fault, and that of the same fault with a facet around it.
+fn texts_of(alloc: Global, fault: QFault) -> Result<(String, String), Fail> {
+    let mut at = Vec::new(alloc);
+    at.push(Name::new(alloc, "a")?)?;
+    let around = RequestFault { at, fault };
+    let own = format!(in alloc; "{fault}")?;
+    Ok((own, format!(in alloc; "{around}")?))
+}
+
+fn is_named(alloc: Global, fault: QFault, number: u32, name: &str) -> Result<bool, Fail> {
+    let (own, around) = texts_of(alloc, fault)?;
+    let has_name = fault.name() == name && own.as_str() == name && around.as_str() == name;
+    Ok(has_name && fault.number() == number)
+}
+
 #[test]
 fn names_of_faults(rt: HostRuntime) -> Result<(), Fail> {
-    let alloc = rt.alloc();
     let mut number = 0u32;
     for (fault, name) in ALL_FAULTS {
         number = number.wrapping_add(1);
-        assert_eq!(rt; fault.number(), number);
-        assert_eq!(rt; fault.name(), name);
-        let mut at = Vec::new(alloc);
-        at.push(Name::new(alloc, "a")?)?;
-        let around = RequestFault { at, fault };
-        let shown = format!(in alloc; "{fault}")?;
-        assert!(rt; shown.as_str() == name, "{shown}");
-        let shown = format!(in alloc; "{around}")?;
-        assert!(rt; shown.as_str() == name, "{shown}");
+        assert!(rt; is_named(rt.alloc(), *fault, number, name)?, "at {name}");
     }
+    assert!(rt; number == 16);
     Ok(())
 }

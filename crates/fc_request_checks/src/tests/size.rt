@@ -3,22 +3,24 @@ use super::{outcome, schema};
 use std::alloc::Global;
 use std::test::Fail;
 
-// A terms facet in so many around it, each named `a` and each behind a statistic `0`, with so many statistics `b0`,
-// `b1` .. in it and this member behind them.
-fn nested(alloc: Global, depth: usize, statistics: u32, last: &str) -> Result<String, Fail> {
-    let mut text = String::from_str(alloc, "{")?;
-    for _ in 0..depth {
-        text.push_str(r#""facet":{"0":"sum(n)","a":{"type":"terms","field":"cat","#)?;
-    }
-    text.push_str(r#""facet":{"#)?;
-    for number in 0..statistics {
+// The head of a terms facet `a` behind a statistic `0`.
+const AROUND: &str = r#""facet":{"0":"sum(n)","a":{"type":"terms","field":"cat","#;
+
+// The statistics `b0`, `b1` ..
+fn statistics_text(alloc: Global, count: u32) -> Result<String, Fail> {
+    let mut text = String::new(alloc);
+    for number in 0..count {
         text.push_str(&format!(in alloc; "\"b{number}\":\"sum(n)\",")?)?;
     }
-    text.push_str(last)?;
-    text.push_str(&"}".repeat(alloc, depth)?)?;
-    text.push_str(&"}".repeat(alloc, depth)?)?;
-    text.push_str("}}")?;
     Ok(text)
+}
+
+// So many facets around each other, in the innermost so many statistics, and this member behind them.
+fn nested(alloc: Global, depth: usize, statistics: u32, last: &str) -> Result<String, Fail> {
+    let open = AROUND.repeat(alloc, depth)?;
+    let close = "}}".repeat(alloc, depth)?;
+    let inside = statistics_text(alloc, statistics)?;
+    Ok(format!(in alloc; "{{{open}\"facet\":{{{inside}{last}{close}}}}}")?)
 }
 
 // A depth, how many statistics stand there, the node behind them, and what comes of it: at depth d there are 2 d
