@@ -26,21 +26,17 @@ use fc_request::Request;
 use fc_spec::texts_are_json;
 use serde_json::Value;
 use std::alloc::Global;
-use std::process::Abort;
 use std::test::Fail;
 
-// What is asked over one world, and the lines of the replies.
-struct Table {
-    // The JSON of the schema, and for each shard that of its batches: arrays of blocks.
-    schema: &'static str,
-    shards: &'static [&'static str],
-    // The number of each shard's generation, and the session.
-    generations: &'static [u64],
-    session: &'static str,
-    // What follows the facets in each line.
-    ending: &'static str,
-    // For each request a name, its JSON, and the facets of its line.
-    rows: &'static [(&'static str, &'static str, &'static str)],
+// A table is a text of paragraphs. The first has the JSON of a schema, and that of the batches of each shard: arrays of
+// blocks. The second has the session, the numbers of the shards' generations, and what follows the facets in each line.
+// Every other is a request: a name, its JSON, and the facets of its line.
+
+fn cut<'a>(text: &'a str, at: &str) -> Result<(&'a str, &'a str), Fail> {
+    match text.split_once(at) {
+        Some(parts) => Ok(parts),
+        None => Err(Fail::new("a table is cut off")),
+    }
 }
 
 fn json_of(alloc: Global, text: &str) -> Result<Value, Fail>
@@ -85,92 +81,145 @@ fn reply_to(alloc: Global, schema: &Schema, world: &[&[Batch]], asked: &str) -> 
     Ok(reply(alloc, &request, world)?)
 }
 
-fn line_of(alloc: Global, table: &Table, reply: &Reply) -> Result<String, Fail> {
-    let session = Name::new(alloc, table.session)?;
-    let line = reply_line(alloc, reply, table.generations, &session)?;
-    Ok(String::from_utf8_lossy(alloc, &line)?)
-}
-
-// Each request of the table has its line.
-fn compare_rows(
-    rt: &impl Abort,
-    alloc: Global,
-    table: &Table,
-    schema: &Schema,
-    world: &[&[Batch]],
-) -> Result<(), Fail> {
-    assert!(rt; is_within_limits(alloc, world)?);
-    for (name, asked, facets) in table.rows {
-        let reply = reply_to(alloc, schema, world, asked)?;
-        let found = line_of(alloc, table, &reply)?;
-        let wanted = format!(in alloc; "{{\"facets\":{facets}{}\n", table.ending)?;
-        assert!(rt; found.as_str() == wanted.as_str(), "{name}: {found}");
-    }
-    Ok(())
-}
-
-fn shards_of(alloc: Global, schema: &Schema, texts: &[&str]) -> Result<Vec<Vec<Batch>>, Fail> {
+fn shards_of(alloc: Global, schema: &Schema, texts: &str) -> Result<Vec<Vec<Batch>>, Fail> {
     let mut shards = Vec::new(alloc);
-    for text in texts {
+    for text in texts.split('\n') {
         shards.push(batches_of(alloc, schema, text)?)?;
     }
     Ok(shards)
 }
 
-fn compare_table(rt: &impl Abort, alloc: Global, table: &Table) -> Result<(), Fail> {
-    let json = json_of(alloc, table.schema)?;
-    let schema = Schema::read(alloc, &json)?;
-    let shards = shards_of(alloc, &schema, table.shards)?;
-    let mut world = Vec::new(alloc);
-    for batches in &shards {
-        world.push(batches.as_slice())?;
+fn generations_of(alloc: Global, text: &str) -> Result<Vec<u64>, Fail> {
+    let mut generations = Vec::new(alloc);
+    for number in text.split(' ') {
+        generations.push(number.parse()?)?;
     }
-    compare_rows(rt, alloc, table, &schema, world.as_slice())
+    Ok(generations)
 }
 
-fn compare(rt: &impl Abort, alloc: Global, tables: &[Table]) -> Result<(), Fail> {
+// The line of a reply, with the text that has the session and the generations.
+fn line_of(alloc: Global, about: &str, reply: &Reply) -> Result<String, Fail> {
+    let (session, rest) = cut(about, "\n")?;
+    let (generations, _) = cut(rest, "\n")?;
+    let session = Name::new(alloc, session)?;
+    let generations = generations_of(alloc, generations)?;
+    let line = reply_line(alloc, reply, &generations, &session)?;
+    Ok(String::from_utf8_lossy(alloc, &line)?)
+}
+
+fn wanted_of(alloc: Global, about: &str, facets: &str) -> Result<String, Fail> {
+    let (_, rest) = cut(about, "\n")?;
+    let (_, ending) = cut(rest, "\n")?;
+    let mut line = String::from_str(alloc, r#"{"facets":"#)?;
+    line.push_str(facets)?;
+    line.push_str(ending)?;
+    line.push('\n')?;
+    Ok(line)
+}
+
+// Whether a request has its line.
+fn compare_row(
+    alloc: Global,
+    schema: &Schema,
+    world: &[&[Batch]],
+    about: &str,
+    row: &str,
+) -> Result<(), Fail>
+    requires { IsWithinLimits (world_view world.now) }
+{
+    let (name, rest) = cut(row, "\n")?;
+    let (asked, facets) = cut(rest, "\n")?;
+    let reply = reply_to(alloc, schema, world, asked)?;
+    let found = line_of(alloc, about, &reply)?;
+    let wanted = wanted_of(alloc, about, facets)?;
+    if found.as_str() == wanted.as_str() {
+        Ok(())
+    } else {
+        Err(Fail::new(format_args!("{name}: {found}")))
+    }
+}
+
+fn compare_rows(
+    alloc: Global,
+    schema: &Schema,
+    world: &[&[Batch]],
+    rest: &str,
+) -> Result<(), Fail> {
+    if !is_within_limits(alloc, world)? {
+        return Err(Fail::new("more than a world may have"));
+    }
+    let (about, rows) = cut(rest, "\n\n")?;
+    for row in rows.split("\n\n") {
+        compare_row(alloc, schema, world, about, row)?;
+    }
+    Ok(())
+}
+
+fn compare_world(
+    alloc: Global,
+    schema: &Schema,
+    shards: &[Vec<Batch>],
+    rest: &str,
+) -> Result<(), Fail> {
+    let mut world = Vec::new(alloc);
+    for batches in shards {
+        world.push(batches.as_slice())?;
+    }
+    compare_rows(alloc, schema, world.as_slice(), rest)
+}
+
+fn compare_table(alloc: Global, table: &str) -> Result<(), Fail> {
+    let (world, rest) = cut(table, "\n\n")?;
+    let (schema, shards) = cut(world, "\n")?;
+    let schema = Schema::read(alloc, &json_of(alloc, schema)?)?;
+    let shards = shards_of(alloc, &schema, shards)?;
+    compare_world(alloc, &schema, &shards, rest)
+}
+
+// Each request of each table has its line.
+fn compare(alloc: Global, tables: &[&str]) -> Result<(), Fail> {
     for table in tables {
-        compare_table(rt, alloc, table)?;
+        compare_table(alloc, table)?;
     }
     Ok(())
 }
 
 #[test]
 fn terms_facets(rt: HostRuntime) -> Result<(), Fail> {
-    compare(&rt, rt.alloc(), terms::TABLES)
+    compare(rt.alloc(), terms::TABLES)
 }
 
 #[test]
 fn statistics_of_buckets(rt: HostRuntime) -> Result<(), Fail> {
-    compare(&rt, rt.alloc(), statistics::TABLES)
+    compare(rt.alloc(), statistics::TABLES)
 }
 
 #[test]
 fn several_shards(rt: HostRuntime) -> Result<(), Fail> {
-    compare(&rt, rt.alloc(), shards::TABLES)
+    compare(rt.alloc(), shards::TABLES)
 }
 
 #[test]
 fn range_facets(rt: HostRuntime) -> Result<(), Fail> {
-    compare(&rt, rt.alloc(), ranges::TABLES)
+    compare(rt.alloc(), ranges::TABLES)
 }
 
 #[test]
 fn changed_domains(rt: HostRuntime) -> Result<(), Fail> {
-    compare(&rt, rt.alloc(), domains::TABLES)
+    compare(rt.alloc(), domains::TABLES)
 }
 
 #[test]
 fn query_texts(rt: HostRuntime) -> Result<(), Fail> {
-    compare(&rt, rt.alloc(), queries::TABLES)
+    compare(rt.alloc(), queries::TABLES)
 }
 
 #[test]
 fn whole_pages(rt: HostRuntime) -> Result<(), Fail> {
-    compare(&rt, rt.alloc(), shops::TABLES)
+    compare(rt.alloc(), shops::TABLES)
 }
 
 #[test]
 fn generations_and_sessions(rt: HostRuntime) -> Result<(), Fail> {
-    compare(&rt, rt.alloc(), commits::TABLES)
+    compare(rt.alloc(), commits::TABLES)
 }

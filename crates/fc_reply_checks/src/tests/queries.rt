@@ -1,147 +1,129 @@
 // Query texts, by the number of documents that match.
-use super::Table;
-
-pub(super) const TABLES: &[Table] = &[
+pub(super) const TABLES: &[&str] = &[
     // One document of each color, none with a size.
-    Table {
-        schema: r#"{"shards":1,"fields":{"color":"string","size":"plong"}}"#,
-        shards: &[r#"[[{"id":"1","color":"a"},{"id":"2","color":"b"},{"id":"3","color":"c"}]]"#],
-        generations: &[1],
-        session: "a",
-        ending: r#","generations":[1],"session":"a"}"#,
-        rows: &[
-            (
-                "forbidden alone",
-                r#"{"query":"-color:a"}"#,
-                r#"{"count":2}"#,
-            ),
-            (
-                "one of two",
-                r#"{"query":"color:(a OR c)"}"#,
-                r#"{"count":2}"#,
-            ),
-            (
-                "half open",
-                r#"{"query":"color:{a TO c]"}"#,
-                r#"{"count":2}"#,
-            ),
-            ("any size", r#"{"query":"size:*"}"#, r#"{"count":0}"#),
-            (
-                "required and optional",
-                r#"{"query":"+color:a color:b"}"#,
-                r#"{"count":1}"#,
-            ),
-            (
-                "optional and forbidden",
-                r#"{"query":"color:(a -b)"}"#,
-                r#"{"count":1}"#,
-            ),
-            (
-                "open at both ends",
-                r#"{"query":"color:{a TO c}"}"#,
-                r#"{"count":1}"#,
-            ),
-            ("up to b", r#"{"query":"color:[* TO b]"}"#, r#"{"count":2}"#),
-            (
-                "ends that pass each other",
-                r#"{"query":"color:[c TO a]"}"#,
-                r#"{"count":0}"#,
-            ),
-            (
-                "any color",
-                r#"{"query":"color:[* TO *]"}"#,
-                r#"{"count":3}"#,
-            ),
-            (
-                "all but one",
-                r#"{"query":"*:* AND NOT color:a"}"#,
-                r#"{"count":2}"#,
-            ),
-            (
-                "both",
-                r#"{"query":"color:a && color:b"}"#,
-                r#"{"count":0}"#,
-            ),
-            (
-                "quoted or not",
-                r#"{"query":"color:\"b\" || color:c"}"#,
-                r#"{"count":2}"#,
-            ),
-            (
-                "groups in groups",
-                r#"{"query":"color:(a b) -color:b"}"#,
-                r#"{"count":1}"#,
-            ),
-            (
-                "forbidden twice",
-                r#"{"query":"-(-color:a)"}"#,
-                r#"{"count":1}"#,
-            ),
-            (
-                "two forbidden",
-                r#"{"query":"!color:a !color:b"}"#,
-                r#"{"count":1}"#,
-            ),
-            (
-                "an escaped character",
-                r#"{"query":"color:\\a"}"#,
-                r#"{"count":1}"#,
-            ),
-        ],
-    },
+    r##"{"shards":1,"fields":{"color":"string","size":"plong"}}
+[[{"id":"1","color":"a"},{"id":"2","color":"b"},{"id":"3","color":"c"}]]
+
+a
+1
+,"generations":[1],"session":"a"}
+
+forbidden alone
+{"query":"-color:a"}
+{"count":2}
+
+one of two
+{"query":"color:(a OR c)"}
+{"count":2}
+
+half open
+{"query":"color:{a TO c]"}
+{"count":2}
+
+any size
+{"query":"size:*"}
+{"count":0}
+
+required and optional
+{"query":"+color:a color:b"}
+{"count":1}
+
+optional and forbidden
+{"query":"color:(a -b)"}
+{"count":1}
+
+open at both ends
+{"query":"color:{a TO c}"}
+{"count":1}
+
+up to b
+{"query":"color:[* TO b]"}
+{"count":2}
+
+ends that pass each other
+{"query":"color:[c TO a]"}
+{"count":0}
+
+any color
+{"query":"color:[* TO *]"}
+{"count":3}
+
+all but one
+{"query":"*:* AND NOT color:a"}
+{"count":2}
+
+both
+{"query":"color:a && color:b"}
+{"count":0}
+
+quoted or not
+{"query":"color:\"b\" || color:c"}
+{"count":2}
+
+groups in groups
+{"query":"color:(a b) -color:b"}
+{"count":1}
+
+forbidden twice
+{"query":"-(-color:a)"}
+{"count":1}
+
+two forbidden
+{"query":"!color:a !color:b"}
+{"count":1}
+
+an escaped character
+{"query":"color:\\a"}
+{"count":1}"##,
     // Sizes below and above 0, two in one document.
-    Table {
-        schema: r#"{"shards":1,"fields":{"size":"plongs","tag":"strings"}}"#,
-        shards: &[
-            r#"[[{"id":"1","size":[-5,10],"tag":["a b","c-d"]},{"id":"2","size":9},{"id":3,"tag":7}]]"#,
-        ],
-        generations: &[1],
-        session: "a",
-        ending: r#","generations":[1],"session":"a"}"#,
-        rows: &[
-            (
-                "a negative number",
-                r#"{"query":"size:-5"}"#,
-                r#"{"count":1}"#,
-            ),
-            (
-                "between two of its numbers",
-                r#"{"query":"size:[-4 TO 9]"}"#,
-                r#"{"count":1}"#,
-            ),
-            (
-                "an open end",
-                r#"{"query":"size:[-4 TO 9}"}"#,
-                r#"{"count":0}"#,
-            ),
-            (
-                "above a number",
-                r#"{"query":"size:{9 TO *]"}"#,
-                r#"{"count":1}"#,
-            ),
-            ("leading zeros", r#"{"query":"size:010"}"#, r#"{"count":1}"#),
-            ("no size", r#"{"query":"-size:*"}"#, r#"{"count":1}"#),
-            (
-                "a text with a space",
-                r#"{"query":"tag:\"a b\""}"#,
-                r#"{"count":1}"#,
-            ),
-            (
-                "a sign inside a word",
-                r#"{"query":"tag:c-d"}"#,
-                r#"{"count":1}"#,
-            ),
-            (
-                "a number as a text",
-                r#"{"query":"tag:7"}"#,
-                r#"{"count":1}"#,
-            ),
-            ("an id of a number", r#"{"query":"id:3"}"#, r#"{"count":1}"#),
-            (
-                "an escaped space",
-                r#"{"query":"tag:a\\ b size:9"}"#,
-                r#"{"count":2}"#,
-            ),
-        ],
-    },
+    r##"{"shards":1,"fields":{"size":"plongs","tag":"strings"}}
+[[{"id":"1","size":[-5,10],"tag":["a b","c-d"]},{"id":"2","size":9},{"id":3,"tag":7}]]
+
+a
+1
+,"generations":[1],"session":"a"}
+
+a negative number
+{"query":"size:-5"}
+{"count":1}
+
+between two of its numbers
+{"query":"size:[-4 TO 9]"}
+{"count":1}
+
+an open end
+{"query":"size:[-4 TO 9}"}
+{"count":0}
+
+above a number
+{"query":"size:{9 TO *]"}
+{"count":1}
+
+leading zeros
+{"query":"size:010"}
+{"count":1}
+
+no size
+{"query":"-size:*"}
+{"count":1}
+
+a text with a space
+{"query":"tag:\"a b\""}
+{"count":1}
+
+a sign inside a word
+{"query":"tag:c-d"}
+{"count":1}
+
+a number as a text
+{"query":"tag:7"}
+{"count":1}
+
+an id of a number
+{"query":"id:3"}
+{"count":1}
+
+an escaped space
+{"query":"tag:a\\ b size:9"}
+{"count":2}"##,
 ];
