@@ -20,19 +20,20 @@ use fc_io::{MemSink, MemSource};
 use fc_kind::{FacetKind, kinds_of};
 use fc_notation::{bytes_in_all, bytes_of};
 use fc_range::{QueryKind, RangeKind};
-use fc_run::{RunText, Status, run, run_text_of};
+use fc_run::{RunText, run, run_text_of};
 use fc_search::{FromList, Turns};
 use fc_terms::TermsKind;
 use std::alloc::Global;
-use std::process::Abort;
 use std::test::Fail;
 
-// A script, the status of its run, and what is written.
-struct Run {
-    name: &'static str,
-    status: Status,
-    script: &'static str,
-    written: &'static str,
+// A run is a text: its name on a line of its own, a script up to four dashes, the status that it ends with, and behind the
+// end of that line what is written.
+
+fn cut<'a>(text: &'a str, at: &str) -> Result<(&'a str, &'a str), Fail> {
+    match text.split_once(at) {
+        Some(parts) => Ok(parts),
+        None => Err(Fail::new("a run is cut off")),
+    }
 }
 
 // One less than a multiple of each number up to 22: by it the last one has its turn, as long as no more of them wait.
@@ -48,19 +49,16 @@ fn kinds_in(alloc: Global) -> Result<Vec<Box<dyn FacetKind>>, Fail>
     Ok(kinds_of(alloc, terms, range, query)?)
 }
 
-// How a run with one word ends, and what it writes.
-fn outcome(
-    alloc: Global,
-    script: &[u8],
-    kinds: &[Box<dyn FacetKind>],
-) -> Result<(Status, String), Fail>
+// How a run with one word ends, and behind the end of a line what it writes.
+fn outcome(alloc: Global, script: &[u8], kinds: &[Box<dyn FacetKind>]) -> Result<String, Fail>
     requires { Covers (map name kinds.now) }
 {
     let words = [String::from_str(alloc, "facets")?];
     let mut source = MemSource::new(alloc, script, 4096, &[])?;
     let mut sink = MemSink::new(alloc, 1_048_576, 4093, &[])?;
     let status = run(alloc, &words, &mut source, &mut sink, kinds);
-    Ok((status, String::from_utf8_lossy(alloc, sink.written())?))
+    let written = String::from_utf8_lossy(alloc, sink.written())?;
+    Ok(format!(in alloc; "{status:?}\n{written}")?)
 }
 
 // The lines of a script's searches with these turns, or the line of its fault.
@@ -91,118 +89,123 @@ fn text_by_last(
     text_by(alloc, script, kinds, &mut turns)
 }
 
+fn demand_text(name: &str, order: &str, found: &str, wanted: &str) -> Result<(), Fail> {
+    if found == wanted {
+        Ok(())
+    } else {
+        Err(Fail::new(format_args!("{name}, {order}: {found}")))
+    }
+}
+
 // How the run of a script ends, and what it writes, whoever's turn it is.
-fn demand(
-    rt: &impl Abort,
-    alloc: Global,
-    name: &str,
-    script: &[u8],
-    (status, written): (Status, &str),
-) -> Result<(), Fail> {
+fn demand(alloc: Global, name: &str, script: &[u8], wanted: &str) -> Result<(), Fail> {
     let kinds = kinds_in(alloc)?;
-    let (ends, found) = outcome(alloc, script, &kinds)?;
-    assert!(rt;
-        ends == status && found.as_str() == written,
-        "{name}: {ends:?}, {found}"
-    );
-    for times in [0, 1000] {
+    demand_text(name, "by a run", &outcome(alloc, script, &kinds)?, wanted)?;
+    let (_, written) = cut(wanted, "\n")?;
+    for (order, times) in [("the first", 0), ("the last", 1000)] {
         let found = text_by_last(alloc, script, &kinds, times)?;
-        assert!(rt; found.as_str() == written, "{name} by {times}: {found}");
+        demand_text(name, order, &found, written)?;
     }
     Ok(())
 }
 
-fn compare(rt: &impl Abort, alloc: Global, runs: &[Run]) -> Result<(), Fail> {
+fn compare_run(alloc: Global, run: &str) -> Result<(), Fail> {
+    let (name, rest) = cut(run, "\n")?;
+    let (script, wanted) = cut(rest, "---- ")?;
+    demand(alloc, name, script.as_bytes(), wanted)
+}
+
+fn compare(alloc: Global, runs: &[&str]) -> Result<(), Fail> {
     for run in runs {
-        demand(
-            rt,
-            alloc,
-            run.name,
-            run.script.as_bytes(),
-            (run.status, run.written),
-        )?;
+        compare_run(alloc, run)?;
     }
     Ok(())
 }
 
-// The same of scripts and lines that are written in short.
-fn compare_short(rt: &impl Abort, alloc: Global, runs: &[Run]) -> Result<(), Fail> {
+// The same of a script and of lines that are written in short.
+fn compare_short(alloc: Global, run: &str) -> Result<(), Fail> {
+    let (name, rest) = cut(run, "\n")?;
+    let (script, wanted) = cut(rest, "---- ")?;
+    let (status, written) = cut(wanted, "\n")?;
+    let written = String::from_utf8_lossy(alloc, &bytes_of(alloc, written)?)?;
+    let wanted = format!(in alloc; "{status}\n{written}")?;
+    demand(alloc, name, &bytes_of(alloc, script)?, &wanted)
+}
+
+fn compare_all_short(alloc: Global, runs: &[&str]) -> Result<(), Fail> {
     for run in runs {
-        let script = bytes_of(alloc, run.script)?;
-        let written = String::from_utf8_lossy(alloc, &bytes_of(alloc, run.written)?)?;
-        demand(rt, alloc, run.name, &script, (run.status, &written))?;
+        compare_short(alloc, run)?;
     }
     Ok(())
 }
 
 #[test]
 fn lines_of_searches(rt: HostRuntime) -> Result<(), Fail> {
-    compare(&rt, rt.alloc(), searches::RUNS)
+    compare(rt.alloc(), searches::RUNS)
 }
 
 #[test]
 fn whole_shops(rt: HostRuntime) -> Result<(), Fail> {
-    compare(&rt, rt.alloc(), shops::RUNS)
+    compare(rt.alloc(), shops::RUNS)
 }
 
 #[test]
 fn several_shards(rt: HostRuntime) -> Result<(), Fail> {
-    compare(&rt, rt.alloc(), shards::RUNS)
+    compare(rt.alloc(), shards::RUNS)
 }
 
 #[test]
 fn several_segments(rt: HostRuntime) -> Result<(), Fail> {
-    compare(&rt, rt.alloc(), segments::RUNS)
+    compare(rt.alloc(), segments::RUNS)
 }
 
 #[test]
 fn facets_and_statistics(rt: HostRuntime) -> Result<(), Fail> {
-    compare(&rt, rt.alloc(), facets::RUNS)
+    compare(rt.alloc(), facets::RUNS)
 }
 
 #[test]
 fn queries_and_filters(rt: HostRuntime) -> Result<(), Fail> {
-    compare(&rt, rt.alloc(), queries::RUNS)
+    compare(rt.alloc(), queries::RUNS)
 }
 
 #[test]
 fn commits_and_sessions(rt: HostRuntime) -> Result<(), Fail> {
-    compare(&rt, rt.alloc(), phases::RUNS)
+    compare(rt.alloc(), phases::RUNS)
 }
 
 #[test]
 fn faults_of_requests(rt: HostRuntime) -> Result<(), Fail> {
-    compare(&rt, rt.alloc(), faults::RUNS)
+    compare(rt.alloc(), faults::RUNS)
 }
 
 #[test]
 fn refused_scripts(rt: HostRuntime) -> Result<(), Fail> {
-    compare(&rt, rt.alloc(), refused::RUNS)
+    compare(rt.alloc(), refused::RUNS)
 }
 
 #[test]
 fn runs_in_short(rt: HostRuntime) -> Result<(), Fail> {
-    compare_short(&rt, rt.alloc(), in_short::RUNS)
+    compare_all_short(rt.alloc(), in_short::RUNS)
 }
 
 // Under `rt try` this takes longer than a minute.
 #[test]
 fn as_many_as_there_may_be(rt: HostRuntime) -> Result<(), Fail> {
-    compare_short(&rt, rt.alloc(), in_short::MANY)
+    compare_all_short(rt.alloc(), in_short::MANY)
 }
 
 // A script as long as there may be, and a longer one.
 #[test]
 fn longest_scripts(rt: HostRuntime) -> Result<(), Fail> {
-    let alloc = rt.alloc();
-    let not_json = "{\"error\":\"not-json\",\"line\":1,\"number\":1}\n";
-    let too_long = "{\"error\":\"too-long\",\"line\":0,\"number\":12}\n";
+    let not_json = "Script\n{\"error\":\"not-json\",\"line\":1,\"number\":1}\n";
+    let too_long = "Script\n{\"error\":\"too-long\",\"line\":0,\"number\":12}\n";
     for (name, count, wanted) in [
         ("longest", 67_108_864, not_json),
         ("longer", 67_108_865, too_long),
     ] {
-        let script = bytes_in_all(alloc, count)?;
-        demand(&rt, alloc, name, &script, (Status::Script, wanted))?;
+        let script = bytes_in_all(rt.alloc(), count)?;
+        demand(rt.alloc(), name, &script, wanted)?;
     }
     Ok(())
 }

@@ -1,6 +1,5 @@
 // The demonstration: products on four shards, which are made by number.
 use super::demand;
-use fc_run::Status;
 use std::alloc::Global;
 use std::test::Fail;
 
@@ -56,20 +55,17 @@ const DEMONSTRATIONS: &[(u32, &str)] = &[
     ),
 ];
 
+fn compare(alloc: Global, count: u32, line: &str) -> Result<(), Fail> {
+    let script = demonstration(alloc, count)?;
+    let name = format!(in alloc; "{count} products")?;
+    let wanted = format!(in alloc; "Done\n{line}\n")?;
+    demand(alloc, &name, script.as_bytes(), &wanted)
+}
+
 #[test]
 fn demonstrations(rt: HostRuntime) -> Result<(), Fail> {
-    let alloc = rt.alloc();
     for (count, line) in DEMONSTRATIONS {
-        let script = demonstration(alloc, *count)?;
-        let name = format!(in alloc; "{count} products")?;
-        let wanted = format!(in alloc; "{line}\n")?;
-        demand(
-            &rt,
-            alloc,
-            &name,
-            script.as_bytes(),
-            (Status::Done, &wanted),
-        )?;
+        compare(rt.alloc(), *count, line)?;
     }
     Ok(())
 }

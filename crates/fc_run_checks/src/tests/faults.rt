@@ -1,12 +1,7 @@
 // Requests at fault.
-use super::Run;
-use fc_run::Status;
-
-pub(super) const RUNS: &[Run] = &[
-    Run {
-        name: "faults of requests",
-        status: Status::Done,
-        script: r##"{"schema":{"shards":1,"fields":{"cat":"string"}}}
+pub(super) const RUNS: &[&str] = &[
+    r##"faults of requests
+{"schema":{"shards":1,"fields":{"cat":"string"}}}
 {"add":{"doc":{"id":"1","cat":"b"},"shard":0}}
 {"add":{"doc":{"id":"2","cat":"a"},"shard":0}}
 {"commit":{}}
@@ -15,17 +10,14 @@ pub(super) const RUNS: &[Run] = &[
 {"search":{"request":{"facet":{"x":{"type":"terms","field":"cat","sort":"price desc"}}},"session":"a"}}
 {"search":{"request":{"facet":{"a":{"type":"terms","field":"cat","facet":{"a":{"type":"terms","field":"cat","facet":{"a":{"type":"terms","field":"cat","facet":{"a":{"type":"terms","field":"cat","facet":{"a":{"type":"terms","field":"cat","facet":{"a":{"type":"terms","field":"cat","facet":{"a":{"type":"terms","field":"cat","facet":{"a":{"type":"terms","field":"cat","facet":{"a":{"type":"terms","field":"cat"}}}}}}}}}}}}}}}}}}},"session":"a"}}
 {"search":{"request":{"facet":{"count":"missing(cat)"}},"session":"a"}}
-"##,
-        written: r##"{"error":"wrong-field-type","facet":["x"],"number":13,"session":"a"}
+---- Done
+{"error":"wrong-field-type","facet":["x"],"number":13,"session":"a"}
 {"error":"unknown-sort","facet":["x"],"number":11,"session":"a"}
 {"error":"too-large","facet":["a","a","a","a","a","a","a","a","a"],"number":16,"session":"a"}
 {"error":"reserved-name","facet":["count"],"number":14,"session":"a"}
 "##,
-    },
-    Run {
-        name: "faults between replies",
-        status: Status::Done,
-        script: r##"{"schema":{"shards":2,"fields":{"cat":"string"}}}
+    r##"faults between replies
+{"schema":{"shards":2,"fields":{"cat":"string"}}}
 {"add":{"doc":{"id":"1","cat":"b"},"shard":1}}
 {"commit":{}}
 {"sync":{}}
@@ -35,12 +27,11 @@ pub(super) const RUNS: &[Run] = &[
 {"search":{"request":{"offset":0},"session":"b"}}
 {"search":{"request":{"query":"cat:b"},"session":"b"}}
 {"search":{"request":{"facet":{"a":{"type":"terms","field":"cat","limit":1,"refine":true,"facet":{"a":{"type":"terms","field":"cat","limit":1,"refine":true,"facet":{"a":{"type":"terms","field":"cat","limit":1,"refine":true,"facet":{"a":{"type":"terms","field":"cat","limit":1,"refine":true,"facet":{"a":{"type":"terms","field":"cat","limit":1,"refine":true,"facet":{"a":{"type":"terms","field":"cat","limit":1,"refine":true,"facet":{"a":{"type":"terms","field":"cat","limit":1,"refine":true,"facet":{"a":{"type":"terms","field":"cat","limit":1}}}}}}}}}}}}}}}}},"session":"a"}}
-"##,
-        written: r##"{"error":"not-an-object","facet":[],"number":1,"session":"b"}
+---- Done
+{"error":"not-an-object","facet":[],"number":1,"session":"b"}
 {"facets":{"count":1},"generations":[2,2],"session":"a"}
 {"error":"unknown-key","facet":[],"number":2,"session":"b"}
 {"facets":{"count":1},"generations":[2,2],"session":"b"}
 {"facets":{"a":{"buckets":[{"a":{"buckets":[{"a":{"buckets":[{"a":{"buckets":[{"a":{"buckets":[{"a":{"buckets":[{"a":{"buckets":[{"a":{"buckets":[{"count":1,"val":"b"}]},"count":1,"val":"b"}]},"count":1,"val":"b"}]},"count":1,"val":"b"}]},"count":1,"val":"b"}]},"count":1,"val":"b"}]},"count":1,"val":"b"}]},"count":1,"val":"b"}]},"count":1},"generations":[2,2],"session":"a"}
 "##,
-    },
 ];

@@ -1,13 +1,8 @@
 // Commits, sessions and phases. Here a search uses, on each shard, the commits up to the end of its phase, as the program does
 // today; with a commit in its own phase others would be legal too.
-use super::Run;
-use fc_run::Status;
-
-pub(super) const RUNS: &[Run] = &[
-    Run {
-        name: "searches beside a commit",
-        status: Status::Done,
-        script: r##"{"schema":{"shards":1,"fields":{"cat":"string"}}}
+pub(super) const RUNS: &[&str] = &[
+    r##"searches beside a commit
+{"schema":{"shards":1,"fields":{"cat":"string"}}}
 {"add":{"doc":{"id":"1","cat":"a"},"shard":0}}
 {"commit":{}}
 {"search":{"request":{},"session":"a"}}
@@ -15,17 +10,14 @@ pub(super) const RUNS: &[Run] = &[
 {"search":{"request":{},"session":"b"}}
 {"sync":{}}
 {"search":{"request":{},"session":"a"}}
-"##,
-        written: r##"{"facets":{"count":1},"generations":[1],"session":"a"}
+---- Done
+{"facets":{"count":1},"generations":[1],"session":"a"}
 {"facets":{"count":1},"generations":[1],"session":"a"}
 {"facets":{"count":1},"generations":[1],"session":"b"}
 {"facets":{"count":1},"generations":[1],"session":"a"}
 "##,
-    },
-    Run {
-        name: "two commits",
-        status: Status::Done,
-        script: r##"{"schema":{"shards":1,"fields":{"cat":"string"}}}
+    r##"two commits
+{"schema":{"shards":1,"fields":{"cat":"string"}}}
 {"add":{"doc":{"id":"1"},"shard":0}}
 {"commit":{}}
 {"sync":{}}
@@ -35,15 +27,12 @@ pub(super) const RUNS: &[Run] = &[
 {"commit":{}}
 {"sync":{}}
 {"search":{"request":{},"session":"a"}}
-"##,
-        written: r##"{"facets":{"count":1},"generations":[1],"session":"a"}
+---- Done
+{"facets":{"count":1},"generations":[1],"session":"a"}
 {"facets":{"count":2},"generations":[2],"session":"a"}
 "##,
-    },
-    Run {
-        name: "commits before, between and behind the searches of a phase",
-        status: Status::Done,
-        script: r##"{"schema":{"shards":1,"fields":{"cat":"string"}}}
+    r##"commits before, between and behind the searches of a phase
+{"schema":{"shards":1,"fields":{"cat":"string"}}}
 {"add":{"doc":{"id":"1","cat":"a"},"shard":0}}
 {"search":{"request":{"query":"cat:a"},"session":"a"}}
 {"commit":{}}
@@ -56,18 +45,15 @@ pub(super) const RUNS: &[Run] = &[
 {"commit":{}}
 {"add":{"doc":{"id":"3","cat":"a"},"shard":0}}
 {"search":{"request":{"query":"cat:a"},"session":"a"}}
-"##,
-        written: r##"{"facets":{"count":2},"generations":[2],"session":"a"}
+---- Done
+{"facets":{"count":2},"generations":[2],"session":"a"}
 {"facets":{"count":2},"generations":[2],"session":"b"}
 {"facets":{"count":2},"generations":[2],"session":"a"}
 {"facets":{"count":2},"generations":[3],"session":"b"}
 {"facets":{"count":2},"generations":[3],"session":"a"}
 "##,
-    },
-    Run {
-        name: "commits of single shards in different phases",
-        status: Status::Done,
-        script: r##"{"schema":{"shards":3,"fields":{"cat":"string","n":"plong"}}}
+    r##"commits of single shards in different phases
+{"schema":{"shards":3,"fields":{"cat":"string","n":"plong"}}}
 {"add":{"doc":{"id":"1","cat":"a","n":1},"shard":0}}
 {"add":{"doc":{"id":"2","cat":"b","n":2},"shard":1}}
 {"add":{"doc":{"id":"3","cat":"a","n":3},"shard":2}}
@@ -91,8 +77,8 @@ pub(super) const RUNS: &[Run] = &[
 {"sync":{}}
 {"search":{"request":{"facet":{"s":"sum(n)","c":{"type":"terms","field":"cat"}}},"session":"z"}}
 {"search":{"request":{"facet":{"r":{"type":"range","field":"n","start":0,"end":6,"gap":3}}},"session":"x"}}
-"##,
-        written: r##"{"facets":{"count":1,"s":2},"generations":[0,1,0],"session":"x"}
+---- Done
+{"facets":{"count":1,"s":2},"generations":[0,1,0],"session":"x"}
 {"facets":{"count":1,"s":2},"generations":[0,1,0],"session":"y"}
 {"facets":{"count":1,"s":2},"generations":[0,1,0],"session":"y"}
 {"facets":{"c":{"buckets":[{"count":2,"val":"a"},{"count":2,"val":"b"}]},"count":4,"s":11},"generations":[1,1,2],"session":"x"}
@@ -101,30 +87,23 @@ pub(super) const RUNS: &[Run] = &[
 {"facets":{"c":{"buckets":[{"count":3,"val":"b"},{"count":2,"val":"a"}]},"count":5,"s":15},"generations":[2,2,3],"session":"z"}
 {"facets":{"count":5,"r":{"buckets":[{"count":2,"val":0},{"count":3,"val":3}]}},"generations":[2,2,3],"session":"x"}
 "##,
-    },
-    Run {
-        name: "nothing but syncs",
-        status: Status::Done,
-        script: r##"{"schema":{"shards":1,"fields":{}}}
+    r##"nothing but syncs
+{"schema":{"shards":1,"fields":{}}}
 {"sync":{}}
 {"sync":{}}
 {"sync":{}}
+---- Done
 "##,
-        written: r##""##,
-    },
-    Run {
-        name: "commits without documents",
-        status: Status::Done,
-        script: r##"{"schema":{"shards":2,"fields":{}}}
+    r##"commits without documents
+{"schema":{"shards":2,"fields":{}}}
 {"commit":{}}
 {"commit":{"shard":1}}
 {"search":{"request":{},"session":"a"}}
 {"sync":{}}
 {"commit":{"shard":0}}
 {"search":{"request":{},"session":"b"}}
-"##,
-        written: r##"{"facets":{"count":0},"generations":[1,2],"session":"a"}
+---- Done
+{"facets":{"count":0},"generations":[1,2],"session":"a"}
 {"facets":{"count":0},"generations":[2,2],"session":"b"}
 "##,
-    },
 ];

@@ -1,12 +1,7 @@
 // Several shards: offered values, candidates and refinement.
-use super::Run;
-use fc_run::Status;
-
-pub(super) const RUNS: &[Run] = &[
-    Run {
-        name: "a short count",
-        status: Status::Done,
-        script: r##"{"schema":{"shards":2,"fields":{"cat":"string"}}}
+pub(super) const RUNS: &[&str] = &[
+    r##"a short count
+{"schema":{"shards":2,"fields":{"cat":"string"}}}
 {"add":{"doc":{"id":"1","cat":"a"},"shard":0}}
 {"add":{"doc":{"id":"2","cat":"a"},"shard":0}}
 {"add":{"doc":{"id":"3","cat":"a"},"shard":0}}
@@ -19,14 +14,11 @@ pub(super) const RUNS: &[Run] = &[
 {"commit":{}}
 {"sync":{}}
 {"search":{"request":{"facet":{"c":{"type":"terms","field":"cat","limit":1,"overrequest":0}}},"session":"a"}}
+---- Done
+{"facets":{"c":{"buckets":[{"count":3,"val":"a"}]},"count":9},"generations":[1,1],"session":"a"}
 "##,
-        written: r##"{"facets":{"c":{"buckets":[{"count":3,"val":"a"}]},"count":9},"generations":[1,1],"session":"a"}
-"##,
-    },
-    Run {
-        name: "a refined count, and the least count held against it",
-        status: Status::Done,
-        script: r##"{"schema":{"shards":2,"fields":{"cat":"string"}}}
+    r##"a refined count, and the least count held against it
+{"schema":{"shards":2,"fields":{"cat":"string"}}}
 {"add":{"doc":{"id":"1","cat":"a"},"shard":0}}
 {"add":{"doc":{"id":"2","cat":"a"},"shard":0}}
 {"add":{"doc":{"id":"3","cat":"a"},"shard":0}}
@@ -41,16 +33,13 @@ pub(super) const RUNS: &[Run] = &[
 {"search":{"request":{"facet":{"c":{"type":"terms","field":"cat","limit":1,"overrequest":0,"refine":true,"overrefine":0}}},"session":"a"}}
 {"search":{"request":{"facet":{"c":{"type":"terms","field":"cat","limit":1,"overrequest":0,"refine":true,"overrefine":0,"mincount":4}}},"session":"a"}}
 {"search":{"request":{"facet":{"c":{"type":"terms","field":"cat","limit":1,"overrequest":0,"mincount":4}}},"session":"a"}}
-"##,
-        written: r##"{"facets":{"c":{"buckets":[{"count":4,"val":"a"}]},"count":9},"generations":[1,1],"session":"a"}
+---- Done
+{"facets":{"c":{"buckets":[{"count":4,"val":"a"}]},"count":9},"generations":[1,1],"session":"a"}
 {"facets":{"c":{"buckets":[{"count":4,"val":"a"}]},"count":9},"generations":[1,1],"session":"a"}
 {"facets":{"c":{"buckets":[]},"count":9},"generations":[1,1],"session":"a"}
 "##,
-    },
-    Run {
-        name: "candidates",
-        status: Status::Done,
-        script: r##"{"schema":{"shards":2,"fields":{"cat":"string"}}}
+    r##"candidates
+{"schema":{"shards":2,"fields":{"cat":"string"}}}
 {"add":{"doc":{"id":"1","cat":"a"},"shard":0}}
 {"add":{"doc":{"id":"2","cat":"a"},"shard":0}}
 {"add":{"doc":{"id":"3","cat":"a"},"shard":0}}
@@ -65,15 +54,12 @@ pub(super) const RUNS: &[Run] = &[
 {"sync":{}}
 {"search":{"request":{"facet":{"c":{"type":"terms","field":"cat","limit":1,"overrequest":0,"refine":true,"overrefine":0}}},"session":"a"}}
 {"search":{"request":{"facet":{"c":{"type":"terms","field":"cat","limit":1,"overrequest":1,"refine":true,"overrefine":0}}},"session":"a"}}
-"##,
-        written: r##"{"facets":{"c":{"buckets":[{"count":3,"val":"a"}]},"count":10},"generations":[1,1],"session":"a"}
+---- Done
+{"facets":{"c":{"buckets":[{"count":3,"val":"a"}]},"count":10},"generations":[1,1],"session":"a"}
 {"facets":{"c":{"buckets":[{"count":4,"val":"b"}]},"count":10},"generations":[1,1],"session":"a"}
 "##,
-    },
-    Run {
-        name: "refinement inside a refined bucket",
-        status: Status::Done,
-        script: r##"{"schema":{"shards":2,"fields":{"cat":"string","size":"string"}}}
+    r##"refinement inside a refined bucket
+{"schema":{"shards":2,"fields":{"cat":"string","size":"string"}}}
 {"add":{"doc":{"id":"1","cat":"x","size":"s"},"shard":0}}
 {"add":{"doc":{"id":"2","cat":"x","size":"s"},"shard":0}}
 {"add":{"doc":{"id":"3","cat":"x","size":"l"},"shard":0}}
@@ -85,14 +71,11 @@ pub(super) const RUNS: &[Run] = &[
 {"commit":{}}
 {"sync":{}}
 {"search":{"request":{"facet":{"cats":{"type":"terms","field":"cat","limit":1,"overrequest":0,"overrefine":0,"refine":true,"facet":{"sizes":{"type":"terms","field":"size","limit":1,"overrequest":0,"overrefine":0,"refine":true}}}}},"session":"a"}}
+---- Done
+{"facets":{"cats":{"buckets":[{"count":5,"sizes":{"buckets":[{"count":3,"val":"l"}]},"val":"x"}]},"count":8},"generations":[1,1],"session":"a"}
 "##,
-        written: r##"{"facets":{"cats":{"buckets":[{"count":5,"sizes":{"buckets":[{"count":3,"val":"l"}]},"val":"x"}]},"count":8},"generations":[1,1],"session":"a"}
-"##,
-    },
-    Run {
-        name: "an empty shard between others",
-        status: Status::Done,
-        script: r##"{"schema":{"shards":3,"fields":{"cat":"string","n":"plong"}}}
+    r##"an empty shard between others
+{"schema":{"shards":3,"fields":{"cat":"string","n":"plong"}}}
 {"add":{"doc":{"id":"1","cat":"a","n":2},"shard":2}}
 {"add":{"doc":{"id":"2","cat":"a","n":2},"shard":2}}
 {"add":{"doc":{"id":"3","cat":"b","n":-4},"shard":0}}
@@ -103,17 +86,14 @@ pub(super) const RUNS: &[Run] = &[
 {"search":{"request":{"facet":{"c":{"type":"terms","field":"cat","limit":1,"overrequest":0,"sort":"total asc","facet":{"total":"sum(n)"}}}},"session":"a"}}
 {"search":{"request":{"facet":{"c":{"type":"terms","field":"cat","limit":1,"overrequest":0,"sort":"total asc","refine":true,"mincount":3,"facet":{"total":"sum(n)"}}}},"session":"a"}}
 {"search":{"request":{"filter":"-cat:b","facet":{"c":{"type":"terms","field":"cat","missing":true}}},"session":"a"}}
-"##,
-        written: r##"{"facets":{"c":{"buckets":[{"count":2,"total":4,"val":"a"}]},"count":4},"generations":[1,1,1],"session":"a"}
+---- Done
+{"facets":{"c":{"buckets":[{"count":2,"total":4,"val":"a"}]},"count":4},"generations":[1,1,1],"session":"a"}
 {"facets":{"c":{"buckets":[{"count":2,"total":-3,"val":"b"}]},"count":4},"generations":[1,1,1],"session":"a"}
 {"facets":{"c":{"buckets":[]},"count":4},"generations":[1,1,1],"session":"a"}
 {"facets":{"c":{"buckets":[{"count":2,"val":"a"}],"missing":{"count":0}},"count":2},"generations":[1,1,1],"session":"a"}
 "##,
-    },
-    Run {
-        name: "shards that commit one after the other",
-        status: Status::Done,
-        script: r##"{"schema":{"shards":2,"fields":{"cat":"string"}}}
+    r##"shards that commit one after the other
+{"schema":{"shards":2,"fields":{"cat":"string"}}}
 {"add":{"doc":{"id":"1","cat":"b"},"shard":1}}
 {"add":{"doc":{"id":"2","cat":"a"},"shard":0}}
 {"commit":{"shard":1}}
@@ -123,9 +103,8 @@ pub(super) const RUNS: &[Run] = &[
 {"commit":{"shard":0}}
 {"sync":{}}
 {"search":{"request":{"facet":{"c":{"type":"terms","field":"cat"}}},"session":"a"}}
-"##,
-        written: r##"{"facets":{"c":{"buckets":[{"count":1,"val":"b"}]},"count":1},"generations":[0,1],"session":"a"}
+---- Done
+{"facets":{"c":{"buckets":[{"count":1,"val":"b"}]},"count":1},"generations":[0,1],"session":"a"}
 {"facets":{"c":{"buckets":[{"count":1,"val":"a"},{"count":1,"val":"b"}]},"count":2},"generations":[1,1],"session":"a"}
 "##,
-    },
 ];
