@@ -22,7 +22,7 @@ use fc_segment::Segment;
 use fc_spec::texts_are_json;
 use serde_json::Value;
 use std::alloc::Global;
-use std::process::Abort;
+use std::fmt::Write;
 use std::test::Fail;
 
 fn json_of(alloc: Global, text: &str) -> Result<Value, Fail>
@@ -33,28 +33,26 @@ fn json_of(alloc: Global, text: &str) -> Result<Value, Fail>
 }
 
 pub(super) fn schema_of(alloc: Global, text: &str) -> Result<Schema, Fail> {
-    Ok(Schema::read(alloc, &json_of(alloc, text)?)?)
+    Ok(Schema::read(alloc, &Value::from_str(alloc, text)?)?)
 }
 
 // The segment of one block of fewer than 1,000 children.
-pub(super) fn segment_of(
-    rt: &impl Abort,
-    alloc: Global,
-    schema: &Schema,
-    text: &str,
-) -> Result<Segment, Fail>
+pub(super) fn segment_of(alloc: Global, schema: &Schema, text: &str) -> Result<Segment, Fail>
     ensures texts { IfOk result (λ segment. segment.texts ≡ texts_held schema.now.fields) }
     ensures limits { IfOk result (λ segment. IsWithinLimits (segment.blocks ∷ [])) }
 {
-    let block = read_block(alloc, schema, json_of(alloc, text)?)?;
-    assert!(rt; block.children.len() < 1_000);
+    let block = read_block(alloc, schema, Value::from_str(alloc, text)?)?;
+    if block.children.len() >= 1_000 {
+        return Err(Fail::new("many children"));
+    }
     let batches = vec![in alloc;
         Batch {
             blocks: vec![in alloc; block]?
         },
     ]?;
-    assert_eq!(rt; batches.len(), 1);
-    assert!(rt; is_within_limits(alloc, &[&batches])?);
+    if batches.len() != 1 || !is_within_limits(alloc, &[&batches])? {
+        return Err(Fail::new("beyond the limits"));
+    }
     Ok(Segment::build(alloc, schema, &batches[0])?)
 }
 
@@ -83,28 +81,39 @@ pub(super) fn facet_at<'a>(
     ensures inside { IfOk result (λ node. AreValidNodes schema.now false (inner_view node.now)) }
 {
     if at >= nodes.len() {
-        return Err("no node".into());
+        return Err(Fail::new("no node"));
     }
     let node = &nodes[at];
     if !is_facet(node) {
-        return Err("a statistic".into());
+        return Err(Fail::new("a statistic"));
     }
     Ok(node)
 }
 
-// The documents at these positions.
-pub(super) fn set_of(
-    rt: &impl Abort,
-    alloc: Global,
-    segment: &Segment,
-    docs: &[u32],
-) -> Result<DocSet, Fail>
+pub(super) fn position_of(text: &str) -> Result<u32, Fail> {
+    text.parse().map_err(|_| Fail::new("a position"))
+}
+
+// The documents at these positions, each before a space.
+pub(super) fn set_of(alloc: Global, segment: &Segment, positions: &str) -> Result<DocSet, Fail>
     ensures { IfOk result (λ set. length set ≡ document_total segment.now.blocks) }
 {
     let mut set = DocSet::empty(alloc, segment.doc_count())?;
-    for at in docs {
-        assert!(rt; *at < set.len());
-        set.add(*at);
+    for text in positions.split_terminator(' ') {
+        let at = position_of(text)?;
+        if at >= set.len() {
+            return Err(Fail::new("no document"));
+        }
+        set.add(at);
     }
     Ok(set)
+}
+
+// The positions in a set, each before a space.
+pub(super) fn positions_of(alloc: Global, set: &DocSet) -> Result<String, Fail> {
+    let mut text = String::new(alloc);
+    for at in set.iter() {
+        write!(text, "{at} ")?;
+    }
+    Ok(text)
 }

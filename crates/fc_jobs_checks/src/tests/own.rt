@@ -11,7 +11,6 @@ use fc_request::Node;
 use fc_segment::Segment;
 use fc_terms::TermsKind;
 use std::alloc::Global;
-use std::process::Abort;
 use std::test::Fail;
 
 #[derive(Drop)]
@@ -51,13 +50,16 @@ impl<K: FacetKind> FacetKind for Own<K> {
 }
 
 // One for each name, and none beside them.
-pub(super) fn own_kinds(rt: &impl Abort, alloc: Global) -> Result<Vec<Box<dyn FacetKind>>, Fail>
+pub(super) fn own_kinds(alloc: Global) -> Result<Vec<Box<dyn FacetKind>>, Fail>
     ensures { IfOk result (λ kinds. Covers (map name kinds.items)) }
 {
     let mut kinds: Vec<Box<dyn FacetKind>> = Vec::new(alloc);
     kinds.push(Box::new(alloc, Own { inner: QueryKind })?)?;
     kinds.push(Box::new(alloc, Own { inner: TermsKind })?)?;
     kinds.push(Box::new(alloc, Own { inner: RangeKind })?)?;
-    assert!(rt; covers(&kinds));
-    Ok(kinds)
+    if covers(&kinds) {
+        Ok(kinds)
+    } else {
+        Err(Fail::new("a name without a kind"))
+    }
 }

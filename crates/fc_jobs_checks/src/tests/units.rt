@@ -1,7 +1,8 @@
 // A unit of a facet's work over one segment: its set and its tally, by hand.
 ghost use Rattle.std.specs.Bool.{IsTrue, OnTrue};
-ghost use Rattle.std.specs.Prelude.{◌≡◌, [], ◌∷◌, map};
+ghost use Rattle.std.specs.Prelude.{◌≡◌, [], ◌∷◌, length, map};
 ghost use Rattle.fc_spec.specs.documents.Schema.{texts_held};
+ghost use Rattle.fc_spec.specs.documents.Totals.{document_total};
 ghost use Rattle.fc_spec.specs.requests.Buckets.{is_key_of, whole};
 ghost use Rattle.fc_spec.specs.requests.ValidRequests.{IsValidRequest};
 ghost use Rattle.fc_spec.specs.scripts.WorldLimits.{IsWithinLimits};
@@ -9,9 +10,10 @@ ghost use Rattle.fc_request.specs.FacetNode.{kind_of, kind_view};
 ghost use Rattle.fc_request.specs.RequestView.{request_view};
 ghost use Rattle.fc_kind.specs.Names.{Covers};
 
-use super::made::{facet_at, request_of, schema_of, segment_of, set_of};
+use super::made::{facet_at, position_of, positions_of, request_of, schema_of, segment_of, set_of};
 use super::own::own_kinds;
 use fc_base::{Schema, Val};
+use fc_docset::DocSet;
 use fc_facet::Kind;
 use fc_jobs::{facet_unit, tally_of};
 use fc_kind::FacetKind;
@@ -20,7 +22,6 @@ use fc_request::{Node, Request};
 use fc_segment::Segment;
 use std::alloc::Global;
 use std::fmt::Write;
-use std::process::Abort;
 use std::test::Fail;
 
 const FIELDS: &str = r#"{"shards":1,"fields":{"cat":"string","n":"plongs"}}"#;
@@ -37,71 +38,34 @@ const REQUEST: &str = r#"{"facet":{"q":{"type":"query","q":"cat:*","facet":{
     "b":{"type":"range","field":"n","start":0,"end":10,"gap":5,"other":"all","domain":{"blockChildren":"cat:p"},"facet":{"s":"sum(n)"}},
     "c":{"type":"query","q":"n:*","domain":{"filter":"cat:b"},"facet":{"s":"sum(n)"}}}}}}"#;
 
-// Which facet in the bucket, with the positions of the query facet's domain and with those of its own; and its buckets, each with
-// its count and its sum.
-struct Row {
-    facet: usize,
-    docs: &'static [u32],
-    set: &'static [u32],
-    buckets: &'static str,
-}
+// In each line: the positions of the query facet's domain, those of a facet's own, each before a space, its buckets, each with
+// its count and its sum, and which facet in the bucket it is. In the third nothing is in the bucket.
+const ROWS: &str = "0 1 2 3 4 ~0 1 2 4 ~a 2 7; b 1 -4; p 1 1; ~0
+1 2 3 ~1 2 ~a 1 0; b 1 -4; ~0
+3 ~~~0
+3 4 ~0 1 2 3 ~0 1 7; 1 1 7; before 1 -4; between 1 7; after 1 12; ~1
+0 3 ~~~1
+0 1 2 ~1 ~whole 1 -4; ~2
+0 2 4 ~~~2";
 
-const ROWS: [Row; 7] = [
-    Row {
-        facet: 0,
-        docs: &[0, 1, 2, 3, 4],
-        set: &[0, 1, 2, 4],
-        buckets: "a 2 7; b 1 -4; p 1 1; ",
-    },
-    Row {
-        facet: 0,
-        docs: &[1, 2, 3],
-        set: &[1, 2],
-        buckets: "a 1 0; b 1 -4; ",
-    },
-    // Nothing is in the bucket.
-    Row {
-        facet: 0,
-        docs: &[3],
-        set: &[],
-        buckets: "",
-    },
-    Row {
-        facet: 1,
-        docs: &[3, 4],
-        set: &[0, 1, 2, 3],
-        buckets: "0 1 7; 1 1 7; before 1 -4; between 1 7; after 1 12; ",
-    },
-    Row {
-        facet: 1,
-        docs: &[0, 3],
-        set: &[],
-        buckets: "",
-    },
-    Row {
-        facet: 2,
-        docs: &[0, 1, 2],
-        set: &[1],
-        buckets: "whole 1 -4; ",
-    },
-    Row {
-        facet: 2,
-        docs: &[0, 2, 4],
-        set: &[],
-        buckets: "",
-    },
-];
+// The word for a key without a value or a number.
+fn word_of(key: &Key) -> &'static str {
+    match key {
+        Key::Missing => "missing",
+        Key::Before => "before",
+        Key::Between => "between",
+        Key::After => "after",
+        Key::Whole => "whole",
+        Key::Value(_) | Key::Gap(_) => "",
+    }
+}
 
 fn write_key(text: &mut String, key: &Key) -> Result<(), Fail> {
     match key {
-        Key::Value(Val::Text(name)) => write!(text, "{}", name.text())?,
+        Key::Value(Val::Text(name)) => text.push_str(name.text())?,
         Key::Value(Val::Long(number)) => write!(text, "{number}")?,
-        Key::Missing => text.push_str("missing")?,
         Key::Gap(number) => write!(text, "{number}")?,
-        Key::Before => text.push_str("before")?,
-        Key::Between => text.push_str("between")?,
-        Key::After => text.push_str("after")?,
-        Key::Whole => text.push_str("whole")?,
+        _ => text.push_str(word_of(key))?,
     }
     Ok(())
 }
@@ -137,24 +101,27 @@ fn has_one(node: &Node) -> bool
     matches!(node.kind, Kind::Query(_))
 }
 
-fn check_facet(
-    rt: &impl Abort,
+// The set that the unit of a facet in the bucket gives, and its buckets.
+fn unit_of(
     alloc: Global,
     kinds: &[Box<dyn FacetKind>],
     schema: &Schema,
     request: &Request,
     segment: &Segment,
-    row: &Row,
-) -> Result<(), Fail>
+    docs: &DocSet,
+    facet: usize,
+) -> Result<(DocSet, Vec<PartialBucket>), Fail>
     requires covers { Covers (map name kinds.now) }
     requires valid { IsValidRequest schema.now (request_view request.now) }
     requires texts { segment.now.texts ≡ texts_held schema.now.fields }
     requires limits { IsWithinLimits (segment.now.blocks ∷ []) }
+    requires docs { length docs.now ≡ document_total segment.now.blocks }
 {
     let around = facet_at(schema, true, &request.root.nodes, 0)?;
-    assert!(rt; has_one(around));
-    let node = facet_at(schema, false, &around.nodes, row.facet)?;
-    let docs = set_of(rt, alloc, segment, row.docs)?;
+    if !has_one(around) {
+        return Err(Fail::new("no query facet"));
+    }
+    let node = facet_at(schema, false, &around.nodes, facet)?;
     let mut tally = tally_of(alloc, node)?;
     let set = facet_unit(
         alloc,
@@ -163,26 +130,47 @@ fn check_facet(
         segment,
         around,
         &Key::Whole,
-        &docs,
+        docs,
         node,
         &mut tally,
     )?;
-    let found: Vec<u32> = set.iter().collect(alloc)?;
-    assert_eq!(rt; found.as_slice(), row.set);
-    let buckets = shown(alloc, &tally.into_buckets()?)?;
-    assert_eq!(rt; buckets.as_str(), row.buckets);
-    Ok(())
+    Ok((set, tally.into_buckets()?))
+}
+
+// What a row's unit gives, as the row tells it.
+fn told(
+    alloc: Global,
+    kinds: &[Box<dyn FacetKind>],
+    schema: &Schema,
+    request: &Request,
+    segment: &Segment,
+    docs: &str,
+    facet: usize,
+) -> Result<(String, String), Fail>
+    requires covers { Covers (map name kinds.now) }
+    requires valid { IsValidRequest schema.now (request_view request.now) }
+    requires texts { segment.now.texts ≡ texts_held schema.now.fields }
+    requires limits { IsWithinLimits (segment.now.blocks ∷ []) }
+{
+    let docs = set_of(alloc, segment, docs)?;
+    let (set, buckets) = unit_of(alloc, kinds, schema, request, segment, &docs, facet)?;
+    Ok((positions_of(alloc, &set)?, shown(alloc, &buckets)?))
 }
 
 #[test]
 fn facets_in_a_bucket(rt: HostRuntime) -> Result<(), Fail> {
     let alloc = rt.alloc();
-    let kinds = own_kinds(&rt, alloc)?;
+    let kinds = own_kinds(alloc)?;
     let schema = schema_of(alloc, FIELDS)?;
     let request = request_of(alloc, &schema, REQUEST)?;
-    let segment = segment_of(&rt, alloc, &schema, BLOCK)?;
-    for row in &ROWS {
-        check_facet(&rt, alloc, &kinds, &schema, &request, &segment, row)?;
+    let segment = segment_of(alloc, &schema, BLOCK)?;
+    for row in ROWS.split('\n') {
+        let (docs, rest) = row.split_once('~').ok_or("a domain")?;
+        let (wanted, facet) = rest.rsplit_once('~').ok_or("a facet")?;
+        let facet = position_of(facet)? as usize;
+        let (set, buckets) = told(alloc, &kinds, &schema, &request, &segment, docs, facet)?;
+        let found = format!(in alloc; "{set}~{buckets}")?;
+        assert!(rt; found.as_str() == wanted, "{found} at {row}");
     }
     Ok(())
 }

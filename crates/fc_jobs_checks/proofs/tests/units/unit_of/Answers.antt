@@ -2,7 +2,7 @@ use Rattle.std.proofs.Common.{sym, subst}
 use Rattle.fc_domain.specs.FieldsFit.{BaseFits}
 use Rattle.fc_domain.proofs.SchemaFits.{base_fits}
 use Rattle.fc_request.specs.RequestView.{request_view}
-use Rattle.fc_jobs_checks.proofs.tests.units.check_facet.Goals as goal
+use Rattle.fc_jobs_checks.proofs.tests.units.unit_of.Goals as goal
 
 pub facet_unit-requires-clause-base : goal.facet_unit-requires-clause-base
 facet_unit-requires-clause-base g c =
