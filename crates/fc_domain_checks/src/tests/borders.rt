@@ -5,10 +5,9 @@ ghost use Rattle.fc_spec.specs.documents.Totals.{document_total};
 ghost use Rattle.fc_facet.specs.KindView.{domain_view};
 ghost use Rattle.fc_domain.specs.FieldsFit.{ChangeFits};
 
-use super::build::{Change, Step, batch_of, domain_of, schema_of, segment_of, shown};
+use super::build::{Change, Step, batch_of, domain_of, schema_of, segment_of, shown, stepped};
 use fc_base::Schema;
 use fc_docset::DocSet;
-use fc_domain::step;
 use fc_facet::Domain;
 use fc_segment::Segment;
 use std::alloc::Global;
@@ -66,9 +65,8 @@ fn made_of(alloc: Global, segment: &Segment, domain: &Domain, at: u32) -> Result
 {
     let mut docs = DocSet::empty(alloc, segment.doc_count())?;
     docs.add(at);
-    let mut into = DocSet::empty(alloc, segment.doc_count())?;
-    step(alloc, segment, domain, &docs, &docs, &mut into)?;
-    Ok(into)
+    let into = DocSet::empty(alloc, segment.doc_count())?;
+    stepped(alloc, segment, domain, &docs, &docs, into)
 }
 
 // What a change makes of every position.
@@ -76,9 +74,8 @@ fn made_of_all(alloc: Global, segment: &Segment, domain: &Domain) -> Result<DocS
     requires { ChangeFits segment.now.texts (domain_view domain.now) }
 {
     let docs = DocSet::full(alloc, segment.doc_count())?;
-    let mut into = DocSet::empty(alloc, segment.doc_count())?;
-    step(alloc, segment, domain, &docs, &docs, &mut into)?;
-    Ok(into)
+    let into = DocSet::empty(alloc, segment.doc_count())?;
+    stepped(alloc, segment, domain, &docs, &docs, into)
 }
 
 // The positions from one up to another, each before a space.
@@ -91,7 +88,7 @@ fn range(alloc: Global, from: u32, to: u32) -> Result<String, Fail> {
 }
 
 // The change that this step makes.
-fn change_of(alloc: Global, schema: &Schema, step: Step) -> Result<Domain, Fail>
+fn change_of(alloc: Global, schema: &Schema, step: Step<'_>) -> Result<Domain, Fail>
     ensures { IfOk result (λ domain.
         ChangeFits (texts_held schema.now.fields) (domain_view domain)) }
 {
@@ -101,6 +98,46 @@ fn change_of(alloc: Global, schema: &Schema, step: Step) -> Result<Domain, Fail>
         filters: &[],
     };
     domain_of(alloc, schema, change)
+}
+
+// A position lies in the block of this parent and this first document.
+fn expect_position(
+    rt: &impl Abort,
+    alloc: Global,
+    segment: &Segment,
+    up: &Domain,
+    first: u32,
+    parent: u32,
+    at: u32,
+) -> Result<(), Fail>
+    requires { ChangeFits segment.now.texts (domain_view up.now) }
+{
+    assert!(rt; at < segment.doc_count());
+    let found = shown(alloc, &made_of(alloc, segment, up, at)?)?;
+    let own = range(alloc, parent, parent.saturating_add(1))?;
+    let is_right = segment.parent_of(at) == parent
+        && segment.first_child(at) == first
+        && found.as_str() == own.as_str();
+    assert!(rt; is_right, "{found} at {at} from {first} to {parent}");
+    Ok(())
+}
+
+// A parent has the children from `first` up to itself.
+fn expect_children(
+    rt: &impl Abort,
+    alloc: Global,
+    segment: &Segment,
+    down: &Domain,
+    first: u32,
+    parent: u32,
+) -> Result<(), Fail>
+    requires { ChangeFits segment.now.texts (domain_view down.now) }
+{
+    assert!(rt; parent < segment.doc_count());
+    let found = shown(alloc, &made_of(alloc, segment, down, parent)?)?;
+    let children = range(alloc, first, parent)?;
+    assert_eq!(rt; found.as_str(), children.as_str());
+    Ok(())
 }
 
 // The positions from `first` to `parent` are a block.
@@ -116,20 +153,31 @@ fn expect_block(
     requires up { ChangeFits segment.now.texts (domain_view up.now) }
     requires down { ChangeFits segment.now.texts (domain_view down.now) }
 {
-    let own = format!(in alloc; "{parent} ")?;
     for at in first..parent.saturating_add(1) {
-        assert!(rt; at < segment.doc_count());
-        assert_eq!(rt; segment.parent_of(at), parent);
-        assert_eq!(rt; segment.first_child(at), first);
-        let found = made_of(alloc, segment, up, at)?;
-        assert_eq!(rt; shown(alloc, &found)?.as_str(), own.as_str());
+        expect_position(rt, alloc, segment, up, first, parent, at)?;
     }
-    assert!(rt; parent < segment.doc_count());
-    let found = made_of(alloc, segment, down, parent)?;
-    assert_eq!(rt;
-        shown(alloc, &found)?.as_str(),
-        range(alloc, first, parent)?.as_str()
-    );
+    expect_children(rt, alloc, segment, down, first, parent)
+}
+
+// How many documents there are, and of these parents and children.
+fn expect_counts(
+    rt: &impl Abort,
+    alloc: Global,
+    segment: &Segment,
+    up: &Domain,
+    down: &Domain,
+    blocks: usize,
+    documents: u32,
+) -> Result<(), Fail>
+    requires up { ChangeFits segment.now.texts (domain_view up.now) }
+    requires down { ChangeFits segment.now.texts (domain_view down.now) }
+{
+    let parents = made_of_all(alloc, segment, up)?.count();
+    let children = made_of_all(alloc, segment, down)?.count();
+    let is_right = segment.doc_count() == documents
+        && parents as usize == blocks
+        && children == documents.saturating_sub(parents);
+    assert!(rt; is_right, "{parents} and {children} of {documents}");
     Ok(())
 }
 
@@ -151,12 +199,7 @@ fn expect_blocks(
         expect_block(rt, alloc, segment, up, down, first, parent)?;
         first = parent.saturating_add(1);
     }
-    assert_eq!(rt; segment.doc_count(), first);
-    let parents = made_of_all(alloc, segment, up)?.count();
-    assert_eq!(rt; parents as usize, sizes.len());
-    let children = made_of_all(alloc, segment, down)?.count();
-    assert_eq!(rt; children, first.saturating_sub(parents));
-    Ok(())
+    expect_counts(rt, alloc, segment, up, down, sizes.len(), first)
 }
 
 fn expect_sizes(
@@ -166,7 +209,7 @@ fn expect_sizes(
     sizes: &[u32],
 ) -> Result<(), Fail> {
     let text = blocks_of(alloc, sizes)?;
-    let batch = batch_of(rt, alloc, schema, text.as_str())?;
+    let batch = batch_of(alloc, schema, text.as_str())?;
     let segment = segment_of(alloc, schema, &batch)?;
     let up = change_of(alloc, schema, Step::Parents("*:*"))?;
     let down = change_of(alloc, schema, Step::Children("*:*"))?;

@@ -4,9 +4,10 @@ ghost use Rattle.fc_facet.specs.KindView.{domain_view};
 ghost use Rattle.fc_request.specs.RequestView.{request_view};
 ghost use Rattle.fc_domain.specs.FieldsFit.{BaseFits, ChangeFits};
 
-use super::build::{Change, Step, batch_of, domain_of, request_of, schema_of, segment_of, shown};
+use super::build::{
+    Change, Step, base_of, batch_of, domain_of, request_of, schema_of, segment_of, shown, stepped,
+};
 use fc_docset::DocSet;
-use fc_domain::{base, step};
 use fc_facet::Domain;
 use fc_places::{Place, Search, domain, is_within_limits, root_domain};
 use fc_segment::Segment;
@@ -31,7 +32,7 @@ const REQUESTS: &[&str] = &[
 
 const EXCLUDED: &[&[&str]] = &[&[], &["A"], &["B"], &["A", "B"], &["D"]];
 
-const STEPS: &[Step] = &[
+const STEPS: &[Step<'static>] = &[
     Step::Stay,
     Step::Parents("*:*"),
     Step::Parents("kind:p"),
@@ -107,7 +108,7 @@ fn blocks(alloc: Global, numbers: &mut Numbers) -> Result<String, Fail> {
     Ok(text)
 }
 
-fn change(numbers: &mut Numbers) -> Change {
+fn change(numbers: &mut Numbers) -> Change<'static> {
     Change {
         exclude: numbers.pick(EXCLUDED),
         step: numbers.pick(STEPS),
@@ -122,6 +123,13 @@ fn positions(alloc: Global, places: &[Place]) -> Result<String, Fail> {
         write!(text, "{} ", place.position)?;
     }
     Ok(text)
+}
+
+// A set has the positions of the places and no others.
+fn expect_at(rt: &impl Abort, alloc: Global, docs: &DocSet, places: &[Place]) -> Result<(), Fail> {
+    let wanted = positions(alloc, places)?;
+    assert_eq!(rt; shown(alloc, docs)?.as_str(), wanted.as_str());
+    Ok(())
 }
 
 // Some of the places, and the set of their positions.
@@ -157,29 +165,15 @@ fn expect_same(
     requires base { BaseFits segment.now.texts (request_view search.now.request.now) }
     requires change { ChangeFits segment.now.texts (domain_view change.now) }
 {
-    let mut docs = DocSet::empty(alloc, segment.doc_count())?;
-    let mut base_docs = DocSet::empty(alloc, segment.doc_count())?;
-    let mut into = DocSet::empty(alloc, segment.doc_count())?;
-    base(alloc, segment, search.request, &[], &mut into)?;
     let root = root_domain(alloc, search)?;
-    assert_eq!(rt;
-        shown(alloc, &into)?.as_str(),
-        positions(alloc, &root)?.as_str()
-    );
-    base(
-        alloc,
-        segment,
-        search.request,
-        &change.exclude,
-        &mut base_docs,
-    )?;
+    let bare = base_of(alloc, segment, search.request, &[])?;
+    expect_at(rt, alloc, &bare, &root)?;
+    let mut docs = DocSet::empty(alloc, segment.doc_count())?;
     let places = chosen(rt, alloc, numbers, &search.places, &mut docs)?;
-    step(alloc, segment, change, &docs, &base_docs, &mut into)?;
+    let base_docs = base_of(alloc, segment, search.request, &change.exclude)?;
+    let into = stepped(alloc, segment, change, &docs, &base_docs, bare)?;
     let found = domain(alloc, search, change, places)?;
-    assert_eq!(rt;
-        shown(alloc, &into)?.as_str(),
-        positions(alloc, &found)?.as_str()
-    );
+    expect_at(rt, alloc, &into, &found)?;
     Ok(())
 }
 
@@ -189,7 +183,7 @@ fn changes_are_those_of_places(rt: HostRuntime) -> Result<(), Fail> {
     let schema = schema_of(alloc, FIELDS)?;
     let mut numbers = Numbers(1);
     for _ in 0..300 {
-        let batch = batch_of(&rt, alloc, &schema, blocks(alloc, &mut numbers)?.as_str())?;
+        let batch = batch_of(alloc, &schema, blocks(alloc, &mut numbers)?.as_str())?;
         let segment = segment_of(alloc, &schema, &batch)?;
         let request = request_of(alloc, &schema, numbers.pick(REQUESTS))?;
         let batches = vec![in alloc; batch]?;

@@ -2,10 +2,10 @@ use Rattle.std.proofs.Common.{◌≤◌, ◌*◌, map, All}
 use Rattle.fc_spec.specs.documents.Totals.{document_total}
 use Rattle.fc_spec.specs.documents.ValidBlocks.{IsBlockOf}
 use Rattle.fc_docs.specs.View.{block_view}
-use Rattle.fc_domain_checks.proofs.tests.build.batch_of.Given as goal
+use Rattle.fc_domain_checks.proofs.tests.build.blocks_of.Given as goal
 
 abbrev pub invariant-loop-item : goal.invariant-loop-item
-invariant-loop-item g l = record {
+invariant-loop-item l = record {
   valid : All (IsBlockOf l.schema) (map block_view l.blocks.items);
   few : document_total (map block_view l.blocks.items) ≤ 65 * l.item-index;
 }
