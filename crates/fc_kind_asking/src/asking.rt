@@ -13,6 +13,8 @@ ghost use Rattle.fc_kind.specs.Collecting.{BucketsAddUp};
 ghost use Rattle.fc_kind.specs.Columns.{FitsColumns, HaveFields};
 
 use crate::fitting::{fits, have_fields, is_key};
+use crate::making::segment_from;
+use crate::showing::{is_bucket, shown};
 use fc_docset::DocSet;
 use fc_kind::{kinds_of, name_of, the_kind};
 use fc_partial::{Key, Tally};
@@ -159,4 +161,39 @@ pub fn selected(
         return Err("no facet of these columns".into());
     }
     selected_by(alloc, segment, docs, node, key)
+}
+
+/// The buckets that a facet has of the documents at these positions of a block, as a text.
+pub fn found(
+    alloc: Global,
+    schema: &str,
+    fields: u16,
+    block: &str,
+    docs: &[u32],
+    node: &Node,
+) -> Result<String, Fail> {
+    let segment = segment_from(alloc, schema, fields, block)?;
+    let tally = collected(alloc, &segment, fields, docs, node)?;
+    shown(alloc, &tally.into_buckets()?)
+}
+
+fn count_of(tally: &Tally, key: &Key) -> Option<u64> {
+    Some(tally.get(key)?.count)
+}
+
+/// Whether a bucket has these of the positions, and is counted so in the tally.
+pub fn has_bucket(
+    alloc: Global,
+    segment: &Segment,
+    fields: u16,
+    docs: &[u32],
+    node: &Node,
+    tally: &Tally,
+    key: &Key,
+    wanted: &[u32],
+) -> Result<bool, Fail>
+    requires { length segment.now.texts ≡ fields }
+{
+    let found = selected(alloc, segment, fields, docs, node, key)?;
+    Ok(is_bucket(&found, wanted, count_of(tally, key)))
 }

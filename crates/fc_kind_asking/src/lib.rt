@@ -6,6 +6,6 @@ mod fitting;
 mod making;
 mod showing;
 
-pub use asking::{collected, collected_by, selected, selected_by};
+pub use asking::{collected, collected_by, found, has_bucket, selected, selected_by};
 pub use making::{node_of, schema_of, segment_from, segment_of, terms_of};
-pub use showing::{is_bucket, shown, write_key};
+pub use showing::{demand, push_number, shown};

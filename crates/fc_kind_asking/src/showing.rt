@@ -8,8 +8,14 @@ use std::alloc::Global;
 use std::fmt::Write;
 use std::test::Fail;
 
-/// Writes a value as it is, and any other key by its name.
-pub fn write_key(text: &mut String, key: &Key) -> Result<(), Fail> {
+/// Writes a number behind a text.
+pub fn push_number(text: &mut String, number: u32) -> Result<(), Fail> {
+    write!(text, "{number}")?;
+    Ok(())
+}
+
+// Writes a value as it is, and any other key by its name.
+fn write_key(text: &mut String, key: &Key) -> Result<(), Fail> {
     match key {
         Key::Value(Val::Text(name)) => write!(text, "{}", name.text())?,
         Key::Value(Val::Long(number)) => write!(text, "{number}")?,
@@ -31,12 +37,17 @@ fn write_value(text: &mut String, value: StatValue) -> Result<(), Fail> {
     Ok(())
 }
 
-/// The keys with their counts and statistics, in order.
+/// The keys with their counts and statistics, if they have any, in order.
 pub fn shown(alloc: Global, buckets: &[PartialBucket]) -> Result<String, Fail> {
     let mut text = String::new(alloc);
     for bucket in buckets {
         write_key(&mut text, &bucket.key)?;
-        write!(text, " {}:", bucket.stats.count)?;
+        write!(text, " {}", bucket.stats.count)?;
+        text.push_str(if bucket.stats.values.is_empty() {
+            ""
+        } else {
+            ":"
+        })?;
         for value in &bucket.stats.values {
             write_value(&mut text, *value)?;
         }
@@ -45,8 +56,17 @@ pub fn shown(alloc: Global, buckets: &[PartialBucket]) -> Result<String, Fail> {
     Ok(text)
 }
 
+/// Fails where the texts differ, and shows both.
+pub fn demand(found: &str, wanted: &str) -> Result<(), Fail> {
+    if found == wanted {
+        Ok(())
+    } else {
+        Err(Fail::new(format_args!("{found} in place of {wanted}")))
+    }
+}
+
 /// Whether a bucket has the positions that are wanted, and so many: it is in a tally where it has a document.
-pub fn is_bucket(found: &[u32], wanted: &[u32], count: Option<u64>) -> bool
+pub(crate) fn is_bucket(found: &[u32], wanted: &[u32], count: Option<u64>) -> bool
     ensures { IsTrue result ↔ (found.now ≡ wanted.now)
         × MatchOption count (wanted.now ≡ []) (λ count. (0 < count) × (count ≡ length wanted.now)) }
 {

@@ -1,15 +1,9 @@
 // Terms facets, behind a box.
-ghost use Rattle.std.specs.Prelude.{◌≡◌, [], ◌∷◌, length};
-ghost use Rattle.fc_spec.specs.scripts.WorldLimits.{IsWithinLimits};
-
 use fc_base::{Name, Val};
-use fc_kind_asking::{collected, node_of, segment_from, selected, terms_of, write_key};
-use fc_partial::{Key, PartialBucket};
+use fc_kind_asking::{demand, found, node_of, segment_from, selected, terms_of};
+use fc_partial::Key;
 use fc_request::Node;
-use fc_segment::Segment;
 use std::alloc::Global;
-use std::fmt::Write;
-use std::process::Abort;
 use std::test::Fail;
 
 pub(super) const FIELDS: &str = r#"{"shards":1,"fields":{"cat":"strings","n":"plongs"}}"#;
@@ -39,42 +33,42 @@ const ROWS: [Row; 9] = [
         prefix: None,
         missing: false,
         docs: &[0, 1],
-        wanted: "a 1, b 2, ",
+        wanted: "a 1; b 2; ",
     },
     Row {
         field: CAT,
         prefix: None,
         missing: true,
         docs: &[0, 1, 2, 3, 4],
-        wanted: "a 1, b 3, ba 1, é 1, missing 1, ",
+        wanted: "a 1; b 3; ba 1; é 1; missing 1; ",
     },
     Row {
         field: CAT,
         prefix: Some("b"),
         missing: false,
         docs: &[0, 1, 2, 3, 4],
-        wanted: "b 3, ba 1, ",
+        wanted: "b 3; ba 1; ",
     },
     Row {
         field: CAT,
         prefix: Some("ba"),
         missing: true,
         docs: &[1, 2, 3],
-        wanted: "ba 1, ",
+        wanted: "ba 1; ",
     },
     Row {
         field: CAT,
         prefix: Some("c"),
         missing: true,
         docs: &[3, 4],
-        wanted: "missing 1, ",
+        wanted: "missing 1; ",
     },
     Row {
         field: CAT,
         prefix: Some(""),
         missing: false,
         docs: &[3],
-        wanted: "b 1, é 1, ",
+        wanted: "b 1; é 1; ",
     },
     Row {
         field: CAT,
@@ -88,55 +82,31 @@ const ROWS: [Row; 9] = [
         prefix: None,
         missing: true,
         docs: &[0, 1, 2, 3, 4],
-        wanted: "-3 1, 5 2, 9223372036854775000 1, missing 3, ",
+        wanted: "-3 1; 5 2; 9223372036854775000 1; missing 3; ",
     },
     Row {
         field: N,
         prefix: None,
         missing: false,
         docs: &[0, 2],
-        wanted: "5 1, 9223372036854775000 1, ",
+        wanted: "5 1; 9223372036854775000 1; ",
     },
 ];
-
-// The keys with their counts, in order.
-fn shown(alloc: Global, buckets: &[PartialBucket]) -> Result<String, Fail> {
-    let mut text = String::new(alloc);
-    for bucket in buckets {
-        write_key(&mut text, &bucket.key)?;
-        write!(text, " {}, ", bucket.stats.count)?;
-    }
-    Ok(text)
-}
 
 fn facet_of(alloc: Global, field: u16, prefix: Option<&str>, missing: bool) -> Result<Node, Fail> {
     node_of(alloc, terms_of(alloc, field, prefix, missing)?, &[])
 }
 
-// What a facet has of the documents at these positions.
-fn found(alloc: Global, segment: &Segment, docs: &[u32], node: &Node) -> Result<String, Fail>
-    requires texts { length segment.now.texts ≡ 3 }
-    requires limits { IsWithinLimits (segment.now.blocks ∷ []) }
-{
-    let tally = collected(alloc, segment, 3, docs, node)?;
-    shown(alloc, &tally.into_buckets()?)
-}
-
-fn check(rt: &impl Abort, alloc: Global, segment: &Segment, row: &Row) -> Result<(), Fail>
-    requires texts { length segment.now.texts ≡ 3 }
-    requires limits { IsWithinLimits (segment.now.blocks ∷ []) }
-{
+// What a facet has of its documents.
+fn found_of(alloc: Global, row: &Row) -> Result<String, Fail> {
     let node = facet_of(alloc, row.field, row.prefix, row.missing)?;
-    let found = found(alloc, segment, row.docs, &node)?;
-    assert!(rt; found.as_str() == row.wanted);
-    Ok(())
+    found(alloc, FIELDS, 3, BLOCK, row.docs, &node)
 }
 
 #[test]
 fn buckets_of_terms(rt: HostRuntime) -> Result<(), Fail> {
-    let segment = segment_from(rt.alloc(), FIELDS, 3, BLOCK)?;
     for row in &ROWS {
-        check(&rt, rt.alloc(), &segment, row)?;
+        demand(&found_of(rt.alloc(), row)?, row.wanted)?;
     }
     Ok(())
 }
@@ -172,41 +142,19 @@ fn key_of(alloc: Global, bucket: Bucket) -> Result<Key, Fail> {
     })
 }
 
-fn check_key(
-    rt: &impl Abort,
-    alloc: Global,
-    segment: &Segment,
-    node: &Node,
-    key: &Key,
-    wanted: &[u32],
-) -> Result<(), Fail>
-    requires { length segment.now.texts ≡ 3 }
-{
-    let found = selected(alloc, segment, 3, &[0, 1, 2, 3, 4], node, key)?;
-    assert!(rt; found.as_slice() == wanted);
-    Ok(())
-}
-
-fn check_selected(
-    rt: &impl Abort,
-    alloc: Global,
-    segment: &Segment,
-    field: u16,
-    bucket: Bucket,
-    wanted: &[u32],
-) -> Result<(), Fail>
-    requires { length segment.now.texts ≡ 3 }
-{
+// The positions of all that are in a bucket.
+fn selected_of(alloc: Global, field: u16, bucket: Bucket) -> Result<Vec<u32>, Fail> {
+    let segment = segment_from(alloc, FIELDS, 3, BLOCK)?;
     let node = facet_of(alloc, field, None, true)?;
     let key = key_of(alloc, bucket)?;
-    check_key(rt, alloc, segment, &node, &key, wanted)
+    selected(alloc, &segment, 3, &[0, 1, 2, 3, 4], &node, &key)
 }
 
 #[test]
 fn selection_of_buckets(rt: HostRuntime) -> Result<(), Fail> {
-    let segment = segment_from(rt.alloc(), FIELDS, 3, BLOCK)?;
-    for (field, bucket, wanted) in SELECTED {
-        check_selected(&rt, rt.alloc(), &segment, field, bucket, wanted)?;
+    for (number, (field, bucket, wanted)) in SELECTED.iter().enumerate() {
+        let found = selected_of(rt.alloc(), *field, *bucket)?;
+        assert!(rt; found.as_slice() == *wanted, "row {number}");
     }
     Ok(())
 }

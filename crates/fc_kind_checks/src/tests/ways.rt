@@ -1,16 +1,9 @@
 // Facets with statistics, of the same documents beside few values and beside many, which are counted in other ways.
-ghost use Rattle.std.specs.Prelude.{◌≡◌, [], ◌∷◌, length};
-ghost use Rattle.fc_spec.specs.scripts.WorldLimits.{IsWithinLimits};
-
 use super::terms::{CAT, FIELDS, N};
 use fc_base::{FieldId, Stat, StatKind};
 use fc_facet::{Kind, Range};
-use fc_kind_asking::{collected, node_of, segment_from, shown, terms_of};
-use fc_request::Node;
-use fc_segment::Segment;
+use fc_kind_asking::{demand, found, node_of, push_number, terms_of};
 use std::alloc::Global;
-use std::fmt::Write;
-use std::process::Abort;
 use std::test::Fail;
 
 // What is asked of each bucket.
@@ -300,23 +293,29 @@ const IN_GAPS: [Row; 2] = [
     },
 ];
 
-// So many texts that begin with b, with one more, and two integers far from all others.
-fn many_values(alloc: Global, count: u32) -> Result<String, Fail> {
-    let mut text = String::from_str(alloc, r#""n":[-1000000000000,1000000000000],"cat":["bb""#)?;
+// So many texts that begin with b, with one more, and two integers far from all others; of none no members at all.
+fn members_of(alloc: Global, count: u32) -> Result<String, Fail> {
+    let mut text = String::new(alloc);
+    if count == 0 {
+        return Ok(text);
+    }
+    text.push_str(r#""n":[-1000000000000,1000000000000],"cat":["bb""#)?;
     for number in 0..count {
-        write!(text, r#","b{number}""#)?;
+        text.push_str(r#","b"#)?;
+        push_number(&mut text, number)?;
+        text.push_str(r#"""#)?;
     }
     text.push_str("],")?;
     Ok(text)
 }
 
-// The block with these children, and with these members of its parent.
-fn block_of(alloc: Global, children: &str, members: &str) -> Result<String, Fail> {
-    let mut text = String::new(alloc);
-    write!(
-        text,
-        r#"{{"id":"parent",{members}"_childDocuments_":[{children}]}}"#
-    )?;
+// The block with these children, and with so many texts of its parent.
+fn block_of(alloc: Global, children: &str, count: u32) -> Result<String, Fail> {
+    let mut text = String::from_str(alloc, r#"{"id":"parent","#)?;
+    text.push_str(&members_of(alloc, count)?)?;
+    text.push_str(r#""_childDocuments_":["#)?;
+    text.push_str(children)?;
+    text.push_str("]}")?;
     Ok(text)
 }
 
@@ -331,34 +330,17 @@ fn kind_of(alloc: Global, facet: Facet) -> Result<Kind, Fail> {
     })
 }
 
-// What a facet has of the documents at these positions.
-fn found(alloc: Global, segment: &Segment, docs: &[u32], node: &Node) -> Result<String, Fail>
-    requires texts { length segment.now.texts ≡ 3 }
-    requires limits { IsWithinLimits (segment.now.blocks ∷ []) }
-{
-    let tally = collected(alloc, segment, 3, docs, node)?;
-    shown(alloc, &tally.into_buckets()?)
-}
-
-// Whether what is collected beside a parent with these members, with these statistics, is what the row says.
-fn check(
-    rt: &impl Abort,
-    alloc: Global,
-    row: &Row,
-    members: &str,
-    stats: &[Stat],
-) -> Result<(), Fail> {
-    let block = block_of(alloc, row.children, members)?;
-    let segment = segment_from(alloc, FIELDS, 3, &block)?;
+// What the facet of a row has, with these statistics, beside a parent with so many texts.
+fn found_of(alloc: Global, row: &Row, stats: &[Stat], count: u32) -> Result<String, Fail> {
+    let block = block_of(alloc, row.children, count)?;
     let node = node_of(alloc, kind_of(alloc, row.facet)?, stats)?;
-    let found = found(alloc, &segment, row.docs, &node)?;
-    assert!(rt; found.as_str() == row.wanted);
-    Ok(())
+    found(alloc, FIELDS, 3, &block, row.docs, &node)
 }
 
-fn check_all(rt: &impl Abort, alloc: Global, rows: &[Row], members: &str) -> Result<(), Fail> {
+// Whether each row is met, with these statistics, beside a parent with so many texts.
+fn compare(alloc: Global, rows: &[Row], stats: &[Stat], count: u32) -> Result<(), Fail> {
     for row in rows {
-        check(rt, alloc, row, members, &STATS)?;
+        demand(&found_of(alloc, row, stats, count)?, row.wanted)?;
     }
     Ok(())
 }
@@ -366,44 +348,38 @@ fn check_all(rt: &impl Abort, alloc: Global, rows: &[Row], members: &str) -> Res
 // Of six documents one is counted side by side with 68 texts, and in runs with 69; two or more are counted text by text.
 #[test]
 fn terms_beside_few_and_many(rt: HostRuntime) -> Result<(), Fail> {
-    let rows: &[Row] = &BOTH;
-    check_all(&rt, rt.alloc(), rows, "")?;
-    for count in [63, 64, 100] {
-        check_all(&rt, rt.alloc(), rows, &many_values(rt.alloc(), count)?)?;
+    for count in [0, 63, 64, 100] {
+        compare(rt.alloc(), &BOTH, &STATS, count)?;
     }
     Ok(())
 }
 
 #[test]
 fn texts_of_all_documents(rt: HostRuntime) -> Result<(), Fail> {
-    check_all(&rt, rt.alloc(), &WHOLE, "")
+    compare(rt.alloc(), &WHOLE, &STATS, 0)
 }
 
 // Three of fourteen documents are counted side by side with 76 texts, and in runs with 77; of the texts two do not begin with b.
 #[test]
 fn texts_of_few_documents(rt: HostRuntime) -> Result<(), Fail> {
-    check_all(&rt, rt.alloc(), &FEW, "")?;
-    for count in [71, 72, 73, 74] {
-        check_all(&rt, rt.alloc(), &FEW, &many_values(rt.alloc(), count)?)?;
+    for count in [0, 71, 72, 73, 74] {
+        compare(rt.alloc(), &FEW, &STATS, count)?;
     }
     Ok(())
 }
 
 #[test]
 fn one_statistic(rt: HostRuntime) -> Result<(), Fail> {
-    for row in &SUMS {
-        check(&rt, rt.alloc(), row, "", &STATS[..1])?;
-    }
-    Ok(())
+    compare(rt.alloc(), &SUMS, &STATS[..1], 0)
 }
 
 // Two documents are counted side by side with integers 72 apart, and in runs with integers 73 apart.
 #[test]
 fn integers_near_and_apart(rt: HostRuntime) -> Result<(), Fail> {
-    check_all(&rt, rt.alloc(), &APART, "")
+    compare(rt.alloc(), &APART, &STATS, 0)
 }
 
 #[test]
 fn statistics_of_gaps(rt: HostRuntime) -> Result<(), Fail> {
-    check_all(&rt, rt.alloc(), &IN_GAPS, "")
+    compare(rt.alloc(), &IN_GAPS, &STATS, 0)
 }

@@ -1,15 +1,13 @@
 // Range facets, behind a box.
-ghost use Rattle.std.specs.Prelude.{◌≡◌, [], ◌∷◌, length};
-ghost use Rattle.fc_spec.specs.scripts.WorldLimits.{IsWithinLimits};
+ghost use Rattle.std.specs.Prelude.{◌≡◌, length};
 
 use fc_base::FieldId;
 use fc_facet::{Kind, Range};
-use fc_kind_asking::{collected, is_bucket, node_of, segment_from, selected};
+use fc_kind_asking::{collected, has_bucket, node_of, segment_from};
 use fc_partial::{Key, Tally};
 use fc_request::Node;
 use fc_segment::Segment;
 use std::alloc::Global;
-use std::process::Abort;
 use std::test::Fail;
 
 const FIELDS: &str = r#"{"shards":1,"fields":{"n":"plongs"}}"#;
@@ -359,84 +357,113 @@ const ROWS: [Row; 22] = [
     },
 ];
 
-// The keys of a row with their positions.
-fn buckets_of(alloc: Global, row: &Row) -> Result<Vec<(Key, &'static [u32])>, Fail> {
-    let mut buckets = vec![in alloc;
-        (Key::Before, row.before),
-        (Key::Between, row.between),
-        (Key::After, row.after),
-    ]?;
-    let mut number = 0;
-    for positions in row.gaps {
-        buckets.push((Key::Gap(number), *positions))?;
-        number = number.wrapping_add(1);
-    }
-    Ok(buckets)
-}
-
-fn is_asked(range: &Range, key: &Key) -> bool {
-    match key {
-        Key::Before => range.before,
-        Key::Between => range.between,
-        Key::After => range.after,
-        _ => true,
-    }
-}
-
-fn count_of(tally: &Tally, key: &Key) -> Option<u64> {
-    Some(tally.get(key)?.count)
-}
-
-// Whether a bucket has these positions, where it is asked for.
-fn check_key(
-    rt: &impl Abort,
+// Whether a bucket beside the gaps has these positions, where it is asked for.
+fn has_beside(
     alloc: Global,
     segment: &Segment,
     row: &Row,
     node: &Node,
+    tally: &Tally,
     key: &Key,
+    asked: bool,
     wanted: &[u32],
-    count: Option<u64>,
-) -> Result<(), Fail>
+) -> Result<bool, Fail>
     requires { length segment.now.texts ≡ 2 }
 {
-    if !is_asked(&row.range, key) {
-        assert!(rt; count.is_none());
-        return Ok(());
+    if !asked {
+        return Ok(tally.get(key).is_none());
     }
-    let found = selected(alloc, segment, 2, row.docs, node, key)?;
-    assert!(rt; is_bucket(&found, wanted, count));
-    Ok(())
+    has_bucket(alloc, segment, 2, row.docs, node, tally, key, wanted)
 }
 
-fn check_node(
-    rt: &impl Abort,
+fn has_all_beside(
     alloc: Global,
     segment: &Segment,
     row: &Row,
     node: &Node,
-) -> Result<(), Fail>
-    requires texts { length segment.now.texts ≡ 2 }
-    requires limits { IsWithinLimits (segment.now.blocks ∷ []) }
+    tally: &Tally,
+) -> Result<bool, Fail>
+    requires { length segment.now.texts ≡ 2 }
 {
-    let tally = collected(alloc, segment, 2, row.docs, node)?;
-    for (key, wanted) in &buckets_of(alloc, row)? {
-        let count = count_of(&tally, key);
-        check_key(rt, alloc, segment, row, node, key, wanted, count)?;
-    }
-    Ok(())
+    let (before, between, after) = (Key::Before, Key::Between, Key::After);
+    let range = &row.range;
+    Ok(
+        has_beside(
+            alloc,
+            segment,
+            row,
+            node,
+            tally,
+            &before,
+            range.before,
+            row.before,
+        )? && has_beside(
+            alloc,
+            segment,
+            row,
+            node,
+            tally,
+            &between,
+            range.between,
+            row.between,
+        )? && has_beside(
+            alloc,
+            segment,
+            row,
+            node,
+            tally,
+            &after,
+            range.after,
+            row.after,
+        )?,
+    )
 }
 
-fn check(rt: &impl Abort, alloc: Global, row: &Row) -> Result<(), Fail> {
+fn has_gaps(
+    alloc: Global,
+    segment: &Segment,
+    row: &Row,
+    node: &Node,
+    tally: &Tally,
+) -> Result<bool, Fail>
+    requires { length segment.now.texts ≡ 2 }
+{
+    let mut number: u32 = 0;
+    for wanted in row.gaps {
+        if !has_bucket(
+            alloc,
+            segment,
+            2,
+            row.docs,
+            node,
+            tally,
+            &Key::Gap(number),
+            wanted,
+        )? {
+            return Ok(false);
+        }
+        number = number.wrapping_add(1);
+    }
+    Ok(true)
+}
+
+// Whether each bucket that is asked for has its positions.
+fn is_counted(alloc: Global, row: &Row) -> Result<bool, Fail> {
     let segment = segment_from(alloc, FIELDS, 2, row.block)?;
     let node = node_of(alloc, Kind::Range(row.range), &[])?;
-    check_node(rt, alloc, &segment, row, &node)
+    let tally = collected(alloc, &segment, 2, row.docs, &node)?;
+    Ok(
+        has_all_beside(alloc, &segment, row, &node, &tally)?
+            && has_gaps(alloc, &segment, row, &node, &tally)?,
+    )
 }
 
 #[test]
 fn buckets_of_ranges(rt: HostRuntime) -> Result<(), Fail> {
-    for row in &ROWS {
-        check(&rt, rt.alloc(), row)?;
+    for (number, row) in ROWS.iter().enumerate() {
+        if !is_counted(rt.alloc(), row)? {
+            return Err(Fail::new(format_args!("row {number}")));
+        }
     }
     Ok(())
 }
