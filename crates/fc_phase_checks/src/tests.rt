@@ -7,5 +7,7 @@ mod driving;
 mod kinds;
 mod messages;
 mod orders;
+mod rows;
 mod shards;
 mod wants;
+mod ways;

@@ -7,8 +7,10 @@ ghost use Rattle.fc_phase_checks.specs.Cases.{CanAsk};
 
 use super::kinds::kinds_of;
 use super::messages::text_of;
+use super::rows::{Row, documents_of, numbers_of, row_of};
 use super::shards::{Cut, generation_of, request_of, schema_of};
-use super::wants::{Way, ask_of, can_ask};
+use super::wants::can_ask;
+use super::ways::ask_of;
 use fc_base::Schema;
 use fc_kind::FacetKind;
 use fc_partial::Message;
@@ -26,19 +28,6 @@ use std::test::Fail;
 
 // In each of these ways a row's documents are committed.
 pub(super) const CUTS: &[Cut] = &[Cut::Once, Cut::Each, Cut::Between];
-
-#[derive(Clone, Copy)]
-pub(super) struct Row {
-    pub name: &'static str,
-    // A block on each line.
-    pub documents: &'static [&'static str],
-    pub request: &'static str,
-    // None where the shard is asked first.
-    pub wants: &'static [Way],
-    // How many jobs are left that are known: at first, and after each job.
-    pub left: &'static [u64],
-    pub message: &'static str,
-}
 
 // What is asked of which generation.
 #[derive(Drop)]
@@ -62,7 +51,7 @@ pub(super) fn case_of(
     rt: &impl Abort,
     alloc: Global,
     schema: &Arc<Schema>,
-    row: &Row,
+    row: &Row<'_>,
     cut: Cut,
 ) -> Result<Case, Fail>
     ensures { IfOk result (λ case. CanAsk (arc_value case.generation) case.request case.ask) }
@@ -70,12 +59,13 @@ pub(super) fn case_of(
     let request = request_of(alloc, schema, row.request)?;
     let ask = ask_of(alloc, row.wants)?;
     expect(rt, can_ask(&request.root.nodes, &ask), row.name, "asked");
-    let generation = generation_of(rt, alloc, schema, row.documents, cut)?;
+    let documents = documents_of(alloc, row.documents)?;
+    let generation = generation_of(alloc, schema, &documents, cut)?;
     Ok(Case {
         request,
         ask,
         generation,
-        segments: segments_of(row.documents, cut),
+        segments: segments_of(&documents, cut),
     })
 }
 
@@ -110,81 +100,139 @@ fn left_after(left: &[u64], each: u64, done: u64) -> Option<u64> {
     jobs.checked_mul(each)?.checked_sub(done.checked_rem(each)?)
 }
 
+// Fails unless so many turns are done, and so many are left.
+fn check_left(rt: &impl Abort, future: &PhaseFuture<'_>, name: &str, done: u64, left: Option<u64>) {
+    expect(rt, !future.spent(), name, "not spent");
+    expect(rt, future.done() == done, name, "done");
+    expect(rt, left == Some(future.left()), name, "left");
+}
+
+// Fails unless all turns are done.
+fn check_spent(rt: &impl Abort, future: &PhaseFuture<'_>, name: &str, done: u64) {
+    expect(rt, future.spent(), name, "spent");
+    expect(rt, future.done() == done, name, "all done");
+    expect(rt, future.left() == 0, name, "nothing left");
+}
+
+// One turn, and the message that it gave, if any.
+pub(super) fn turn_of(
+    rt: &impl Abort,
+    future: &mut PhaseFuture<'_>,
+    answer: &mut Option<Message>,
+) -> Result<(), Fail>
+    requires { Covers (map (λ b. (⟦<dyn FacetKind as FacetKind>⟧ b.vtable).name b.value) future.old.kinds.now) }
+    ensures { future.new.kinds.now ≡ future.old.kinds.now }
+{
+    assert!(rt; !future.spent());
+    if let Turn::Done(message) = future.turn()? {
+        *answer = Some(message);
+    }
+    Ok(())
+}
+
 // Does all its turns, in each of which kinds are called so many times at least. It is spent after the last one, which gives the
 // message.
 fn driven(
     rt: &impl Abort,
     mut future: PhaseFuture<'_>,
-    row: &Row,
+    name: &str,
+    left: &[u64],
     each: u64,
     calls: &AtomicU64,
     least: u64,
 ) -> Result<Message, Fail>
     requires { Covers (map (λ b. (⟦<dyn FacetKind as FacetKind>⟧ b.vtable).name b.value) future.kinds.now) }
 {
-    let units = (row.left.len() as u64)
-        .saturating_sub(1)
-        .saturating_mul(each);
+    let units = (left.len() as u64).saturating_sub(1).saturating_mul(each);
     let mut answer = None;
     for done in 0..units {
-        expect(rt, !future.spent(), row.name, "not spent");
-        expect(rt, future.done() == done, row.name, "done");
-        let left = left_after(row.left, each, done);
-        expect(rt, left == Some(future.left()), row.name, "left");
+        check_left(rt, &future, name, done, left_after(left, each, done));
         let before = calls.load(Ordering::SeqCst);
-        match future.turn()? {
-            Turn::Pending => {}
-            Turn::Done(message) => answer = Some(message),
-        }
+        turn_of(rt, &mut future, &mut answer)?;
         let called = calls.load(Ordering::SeqCst).saturating_sub(before);
-        expect(rt, called >= least, row.name, "calls");
+        expect(rt, called >= least, name, "calls");
     }
-    expect(rt, future.spent(), row.name, "spent");
-    expect(rt, future.done() == units, row.name, "all done");
-    expect(rt, future.left() == 0, row.name, "nothing left");
+    check_spent(rt, &future, name, units);
     Ok(answer.ok_or("an answer")?)
 }
 
-// Whether the message is the row's, turn by turn and by polls.
-fn check(
-    rt: &(impl Abort + Wait + RandomSource + AllocGlobal),
+// Whether the message is the row's, turn by turn.
+fn check_turns(
+    rt: &impl Abort,
     alloc: Global,
     case: &Case,
     kinds: &[Box<dyn FacetKind>],
-    row: &Row,
+    row: &Row<'_>,
     calls: &AtomicU64,
     least: u64,
 ) -> Result<(), Fail>
     requires covers { Covers (map name kinds.now) }
     requires can { CanAsk (arc_value case.now.generation) case.now.request case.now.ask }
 {
-    let each = case.segments.max(1);
+    let left = numbers_of(alloc, row.left)?;
     let future = future_of(alloc, case, kinds)?;
-    let message = driven(rt, future, row, each, calls, least)?;
+    let each = case.segments.max(1);
+    let message = driven(rt, future, row.name, &left, each, calls, least)?;
     let text = text_of(alloc, &message)?;
     expect(rt, text.as_str() == row.message, row.name, text.as_str());
-    let polled = block_on(rt, future_of(alloc, case, kinds)?)??;
-    let text = text_of(alloc, &polled)?;
+    Ok(())
+}
+
+// And by polls.
+fn check_polls(
+    rt: &(impl Abort + Wait + RandomSource + AllocGlobal),
+    alloc: Global,
+    case: &Case,
+    kinds: &[Box<dyn FacetKind>],
+    row: &Row<'_>,
+) -> Result<(), Fail>
+    requires covers { Covers (map name kinds.now) }
+    requires can { CanAsk (arc_value case.now.generation) case.now.request case.now.ask }
+{
+    let message = block_on(rt, future_of(alloc, case, kinds)?)??;
+    let text = text_of(alloc, &message)?;
     expect(rt, text.as_str() == row.message, row.name, "polled");
     Ok(())
 }
 
-// Each row, with its documents committed in each of these ways.
+// The row with its documents committed in each of these ways.
+fn check(
+    rt: &(impl Abort + Wait + RandomSource + AllocGlobal),
+    alloc: Global,
+    kinds: &[Box<dyn FacetKind>],
+    row: &Row<'_>,
+    cuts: &[Cut],
+    calls: &AtomicU64,
+    least: u64,
+) -> Result<(), Fail>
+    requires { Covers (map name kinds.now) }
+{
+    let schema = schema_of(alloc)?;
+    for cut in cuts {
+        let case = case_of(rt, alloc, &schema, row, *cut)?;
+        check_turns(rt, alloc, &case, kinds, row, calls, least)?;
+        check_polls(rt, alloc, &case, kinds, row)?;
+    }
+    Ok(())
+}
+
+// Each of so many rows, which have a line without text between them.
 pub(super) fn run(
     rt: &(impl Abort + Wait + RandomSource + AllocGlobal),
     alloc: Global,
-    rows: &[Row],
+    rows: &str,
     cuts: &[Cut],
     least: u64,
+    count: u64,
 ) -> Result<(), Fail> {
     let calls = Arc::new(alloc, AtomicU64::new(0))?;
     let kinds = kinds_of(rt, alloc, &calls)?;
-    let schema = schema_of(alloc)?;
-    for row in rows {
-        for cut in cuts {
-            let case = case_of(rt, alloc, &schema, row, *cut)?;
-            check(rt, alloc, &case, &kinds, row, &calls, least)?;
-        }
+    let mut rows_run = 0u64;
+    for text in rows.split("\n\n") {
+        let row = row_of(text);
+        check(rt, alloc, &kinds, &row, cuts, &calls, least)?;
+        rows_run = rows_run.wrapping_add(1);
     }
+    assert!(rt; rows_run == count);
     Ok(())
 }

@@ -5,16 +5,24 @@ use std::alloc::Global;
 use std::fmt::Write;
 use std::test::Fail;
 
+// The word for a key without a value or a number.
+fn word_of(key: &Key) -> &'static str {
+    match key {
+        Key::Missing => "missing",
+        Key::Before => "before",
+        Key::Between => "between",
+        Key::After => "after",
+        Key::Whole => "whole",
+        Key::Value(_) | Key::Gap(_) => "",
+    }
+}
+
 fn add_key(text: &mut String, key: &Key) -> Result<(), Fail> {
     match key {
         Key::Value(Val::Text(name)) => text.push_str(name.text())?,
         Key::Value(Val::Long(number)) => write!(text, "{number}")?,
-        Key::Missing => text.push_str("missing")?,
         Key::Gap(number) => write!(text, "#{number}")?,
-        Key::Before => text.push_str("before")?,
-        Key::Between => text.push_str("between")?,
-        Key::After => text.push_str("after")?,
-        Key::Whole => text.push_str("whole")?,
+        _ => text.push_str(word_of(key))?,
     }
     Ok(())
 }

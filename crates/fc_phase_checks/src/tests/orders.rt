@@ -1,64 +1,46 @@
 // Two futures side by side, in every order of their turns.
-ghost use Rattle.std.specs.Prelude.{◌≡◌, map};
+ghost use Rattle.std.specs.Prelude.{map};
 ghost use Rattle.std.specs.Arc.{arc_value};
 ghost use Rattle.fc_kind.specs.Names.{Covers};
 ghost use Rattle.fc_phase_checks.specs.Cases.{CanAsk};
 
-use super::driving::{Case, Row, case_of, future_of};
+use super::driving::{Case, case_of, future_of, turn_of};
 use super::kinds::kinds_of;
 use super::messages::text_of;
+use super::rows::Row;
 use super::shards::{Cut, schema_of};
-use super::wants::Tag;
 use fc_kind::FacetKind;
 use fc_partial::Message;
-use fc_phase::{PhaseFuture, Turn};
+use fc_phase::PhaseFuture;
 use std::alloc::Global;
 use std::process::Abort;
 use std::sync::Arc;
 use std::sync::atomic::AtomicU64;
 use std::test::Fail;
 
-const TWO: &[&str] = &[r#"{"id":"1","cat":"a"}"#, r#"{"id":"2","cat":"b"}"#];
-
 const REQUEST: &str =
     r#"{"facet":{"c":{"type":"terms","field":"cat","facet":{"n":"countvals(id)"}}}}"#;
 
 // The first answer, and one to two wants: four turns each over two segments.
-const ONE: Row = Row {
+const ONE: Row<'static> = Row {
     name: "one",
-    documents: TWO,
+    documents: "pair",
     request: REQUEST,
-    wants: &[],
-    left: &[2, 1, 0],
+    wants: "first",
+    left: "2 1 0",
     message: "whole 2[a 1 1, b 1 1]",
 };
 
-const OTHER: Row = Row {
+const OTHER: Row<'static> = Row {
     name: "other",
-    documents: TWO,
+    documents: "pair",
     request: REQUEST,
-    wants: &[&[(0, Tag::Text("b"))], &[(0, Tag::Text("c"))]],
-    left: &[2, 1, 0],
+    wants: "0:b 0:c",
+    left: "2 1 0",
     message: "b 1 1, c 0 0",
 };
 
 const TURNS: u32 = 4;
-
-// One turn, and the message that it gave, if any.
-fn turn_of(
-    rt: &impl Abort,
-    future: &mut PhaseFuture<'_>,
-    answer: &mut Option<Message>,
-) -> Result<(), Fail>
-    requires { Covers (map (λ b. (⟦<dyn FacetKind as FacetKind>⟧ b.vtable).name b.value) future.old.kinds.now) }
-    ensures { future.new.kinds.now ≡ future.old.kinds.now }
-{
-    assert!(rt; !future.spent());
-    if let Turn::Done(message) = future.turn()? {
-        *answer = Some(message);
-    }
-    Ok(())
-}
 
 fn is_answer(alloc: Global, answer: Option<Message>, wanted: &str) -> Result<bool, Fail> {
     let message = answer.ok_or("an answer")?;

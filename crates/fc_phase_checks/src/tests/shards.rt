@@ -2,23 +2,23 @@
 ghost use Rattle.std.specs.Prelude.{◌≡◌, ◌≤◌, [], ◌∷◌, map, length, All, IfOk};
 ghost use Rattle.std.specs.Arc.{arc_value};
 ghost use Rattle.serde_json.specs.View.{view};
+ghost use Rattle.fc_spec.specs.documents.ValidBlocks.{IsBlockOf};
 ghost use Rattle.fc_spec.specs.requests.ValidRequests.{IsValidRequest};
 ghost use Rattle.fc_spec.specs.scripts.JsonValues.{HasAscendingKeys, HasNumbers};
 ghost use Rattle.fc_spec.specs.scripts.WorldLimits.{IsWithinLimits};
 ghost use Rattle.fc_spec.specs.words.Lists.{joined};
-ghost use Rattle.fc_docs.specs.View.{batch_view};
+ghost use Rattle.fc_docs.specs.View.{batch_view, block_view};
 ghost use Rattle.fc_request.specs.RequestView.{IsRoot, request_view};
 ghost use Rattle.fc_store.specs.Charters.{IsBatchOf};
 
 use fc_base::Schema;
-use fc_docs::{Batch, read_block};
+use fc_docs::{Batch, Block, read_block};
 use fc_places::is_within_limits;
 use fc_request::Request;
 use fc_spec::texts_are_json;
 use fc_store::Generation;
 use serde_json::Value;
 use std::alloc::Global;
-use std::process::Abort;
 use std::sync::Arc;
 use std::test::Fail;
 
@@ -44,7 +44,7 @@ fn json_of(alloc: Global, text: &str) -> Result<Value, Fail>
 }
 
 pub(super) fn schema_of(alloc: Global) -> Result<Arc<Schema>, Fail> {
-    let schema = Schema::read(alloc, &json_of(alloc, SCHEMA)?)?;
+    let schema = Schema::read(alloc, &Value::from_str(alloc, SCHEMA)?)?;
     Ok(Arc::new(alloc, schema)?)
 }
 
@@ -56,16 +56,26 @@ pub(super) fn request_of(alloc: Global, schema: &Schema, text: &str) -> Result<R
     Ok(Request::read(alloc, schema, &json)?)
 }
 
+// A block of at most two children.
+fn block_of(alloc: Global, schema: &Schema, line: &str) -> Result<Block, Fail>
+    ensures valid { IfOk result (λ block. IsBlockOf schema.now (block_view block)) }
+    ensures few { IfOk result (λ block. length block.children.items ≤ 2) }
+{
+    let block = read_block(alloc, schema, Value::from_str(alloc, line)?)?;
+    if block.children.len() > 2 {
+        return Err(Fail::new("many children"));
+    }
+    Ok(block)
+}
+
 // The batch of the blocks of these lines, each of few children.
-fn batch_of(rt: &impl Abort, alloc: Global, schema: &Schema, lines: &[&str]) -> Result<Batch, Fail>
+fn batch_of(alloc: Global, schema: &Schema, lines: &[&str]) -> Result<Batch, Fail>
     requires { length lines.now ≤ 1000 }
     ensures { IfOk result (λ batch. IsBatchOf schema.now (batch_view batch)) }
 {
     let mut blocks = Vec::new(alloc);
     for line in lines {
-        let block = read_block(alloc, schema, json_of(alloc, line)?)?;
-        assert!(rt; block.children.len() <= 2);
-        blocks.push(block)?;
+        blocks.push(block_of(alloc, schema, line)?)?;
     }
     Ok(Batch { blocks })
 }
@@ -97,36 +107,30 @@ fn commits_of<'a>(
     Ok(commits)
 }
 
-fn batches_of(
-    rt: &impl Abort,
-    alloc: Global,
-    schema: &Schema,
-    commits: &[&[&str]],
-) -> Result<Vec<Batch>, Fail>
+fn batches_of(alloc: Global, schema: &Schema, commits: &[&[&str]]) -> Result<Vec<Batch>, Fail>
     ensures { IfOk result (λ batches. All (IsBatchOf schema.now) (map batch_view batches.items)) }
 {
     let mut batches = Vec::new(alloc);
     for lines in commits {
-        assert!(rt; lines.len() <= 1_000);
-        batches.push(batch_of(rt, alloc, schema, lines)?)?;
+        if lines.len() > 1_000 {
+            return Err(Fail::new("many blocks"));
+        }
+        batches.push(batch_of(alloc, schema, lines)?)?;
     }
     Ok(batches)
 }
 
 // The generation of all batches.
-fn last_of(
-    rt: &impl Abort,
-    alloc: Global,
-    schema: &Arc<Schema>,
-    batches: &[Batch],
-) -> Result<Arc<Generation>, Fail>
+fn last_of(alloc: Global, schema: &Arc<Schema>, batches: &[Batch]) -> Result<Arc<Generation>, Fail>
     requires { All (IsBatchOf (arc_value schema.now)) (map batch_view batches.now) }
     ensures schema { IfOk result (λ last. (arc_value last).schema ≡ arc_value schema.now) }
     ensures blocks { IfOk result (λ last. (arc_value last).blocks ≡ joined (map batch_view batches.now)) }
 {
     let mut last = Generation::first(alloc, Arc::try_clone(schema)?)?;
     for batch in batches {
-        assert!(rt; last.number() < 100);
+        if last.number() >= 100 {
+            return Err(Fail::new("many generations"));
+        }
         last = Generation::next(alloc, &last, batch)?;
     }
     Ok(last)
@@ -134,7 +138,6 @@ fn last_of(
 
 // The last generation of a shard with the blocks of these lines.
 pub(super) fn generation_of(
-    rt: &impl Abort,
     alloc: Global,
     schema: &Arc<Schema>,
     lines: &[&str],
@@ -144,7 +147,9 @@ pub(super) fn generation_of(
     ensures limits { IfOk result (λ last. IsWithinLimits ((arc_value last).blocks ∷ [])) }
 {
     let commits = commits_of(alloc, lines, cut)?;
-    let batches = batches_of(rt, alloc, schema, &commits)?;
-    assert!(rt; is_within_limits(alloc, &[&batches])?);
-    last_of(rt, alloc, schema, &batches)
+    let batches = batches_of(alloc, schema, &commits)?;
+    if !is_within_limits(alloc, &[&batches])? {
+        return Err(Fail::new("beyond the limits"));
+    }
+    last_of(alloc, schema, &batches)
 }

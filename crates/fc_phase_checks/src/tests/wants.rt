@@ -1,4 +1,4 @@
-// What shards are asked, of tables.
+// Whether what is wanted names facets and keys of a request.
 ghost use Rattle.std.specs.Prelude.{◌≡◌, ◌<◌, None, true, map, IfSome, IsTrue};
 ghost use Rattle.std.specs.Bool.{OnTrue};
 ghost use Rattle.std.specs.List.{AllByRecursion};
@@ -15,69 +15,9 @@ ghost use Rattle.fc_request.specs.NodeView.{nodes_view};
 ghost use Rattle.fc_refine.specs.Named.{NamesKeys};
 ghost use Rattle.fc_phase.specs.Asked.{asked_count};
 
-use fc_base::{Name, Val};
 use fc_partial::Key;
-use fc_refine::{Ask, Step, Want};
+use fc_refine::{Ask, Want};
 use fc_request::{Kind, Node, Range, Terms};
-use std::alloc::Global;
-use std::test::Fail;
-
-// The key of a bucket.
-#[derive(Clone, Copy)]
-pub(super) enum Tag {
-    Text(&'static str),
-    Long(i64),
-    Missing,
-    Gap(u32),
-    Before,
-    Between,
-    After,
-    Whole,
-}
-
-// The nodes and keys from the outermost bucket to the wanted one.
-pub(super) type Way = &'static [(u32, Tag)];
-
-fn key_of(alloc: Global, tag: Tag) -> Result<Key, Fail> {
-    Ok(match tag {
-        Tag::Text(text) => Key::Value(Val::Text(Name::new(alloc, text)?)),
-        Tag::Long(number) => Key::Value(Val::Long(number)),
-        Tag::Missing => Key::Missing,
-        Tag::Gap(number) => Key::Gap(number),
-        Tag::Before => Key::Before,
-        Tag::Between => Key::Between,
-        Tag::After => Key::After,
-        Tag::Whole => Key::Whole,
-    })
-}
-
-fn want_of(alloc: Global, way: Way) -> Result<Want, Fail> {
-    let (last, before) = way.split_last().ok_or("a step")?;
-    let mut path = Vec::new(alloc);
-    for (node, tag) in before {
-        path.push(Step {
-            node: *node,
-            key: key_of(alloc, *tag)?,
-        })?;
-    }
-    Ok(Want {
-        path,
-        node: last.0,
-        key: key_of(alloc, last.1)?,
-    })
-}
-
-// The first ask where there is none of them.
-pub(super) fn ask_of(alloc: Global, ways: &[Way]) -> Result<Ask, Fail> {
-    if ways.is_empty() {
-        return Ok(Ask::First);
-    }
-    let mut wants = Vec::new(alloc);
-    for way in ways {
-        wants.push(want_of(alloc, way)?)?;
-    }
-    Ok(Ask::More(wants))
-}
 
 // Whether there are so few gaps that they have numbers.
 fn has_few_gaps(range: &Range) -> bool

@@ -5,7 +5,7 @@ use Rattle.fc_docs.specs.View.{block_view}
 use Rattle.fc_phase_checks.proofs.tests.shards.batch_of.Given as goal
 
 abbrev pub invariant-loop-line : goal.invariant-loop-line
-invariant-loop-line g l = record {
+invariant-loop-line l = record {
   valid : All (IsBlockOf l.schema) (map block_view l.blocks.items);
   few : document_total (map block_view l.blocks.items) ≤ 3 * l.line-index;
 }

@@ -6,7 +6,7 @@ use Rattle.fc_store.specs.Charters.{IsBatchOf}
 use Rattle.fc_phase_checks.proofs.tests.shards.batches_of.Goals as goal
 
 pub loop-lines-preserved : goal.loop-lines-preserved
-loop-lines-preserved g c =
+loop-lines-preserved c =
     let Fits = IsBatchOf c.args.schema.now in
     let before = c.loop-lines.batches.items in
     let batch = c.in_ok-batch_of.field-0 in

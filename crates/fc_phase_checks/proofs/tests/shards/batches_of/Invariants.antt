@@ -4,4 +4,4 @@ use Rattle.fc_store.specs.Charters.{IsBatchOf}
 use Rattle.fc_phase_checks.proofs.tests.shards.batches_of.Given as goal
 
 abbrev pub invariant-loop-lines : goal.invariant-loop-lines
-invariant-loop-lines g l = All (IsBatchOf l.schema) (map batch_view l.batches.items)
+invariant-loop-lines l = All (IsBatchOf l.schema) (map batch_view l.batches.items)

@@ -8,13 +8,13 @@ use Rattle.fc_phase_checks.proofs.Mapped.{all_at, mapped_from}
 use Rattle.fc_phase_checks.proofs.tests.shards.last_of.Goals as goal
 
 pub next-requires-clause-batch : goal.next-requires-clause-batch
-next-requires-clause-batch g c =
+next-requires-clause-batch c =
     let batch = c.batch-item.result in
     subst (λ s. IsBatchOf s (batch_view batch)) (sym (ap (λ x. x.schema) c.deref-in-loop-batch.ensures ∙ c.loop-batch.invariant.schema))
     (all_at batch_view (IsBatchOf (arc_value c.args.schema.now)) c.args.batches.now c.loop-batch.batch-index batch c.loop-batch-test.true c.batch-item.is c.requires)
 
 pub loop-batch-preserved : goal.loop-batch-preserved
-loop-batch-preserved g c =
+loop-batch-preserved c =
     let batches = c.args.batches.now in
     let at = c.loop-batch.batch-index in
     let batch = c.batch-item.result in

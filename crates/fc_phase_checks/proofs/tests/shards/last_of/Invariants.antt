@@ -5,7 +5,7 @@ use Rattle.fc_docs.specs.View.{batch_view}
 use Rattle.fc_phase_checks.proofs.tests.shards.last_of.Given as goal
 
 abbrev pub invariant-loop-batch : goal.invariant-loop-batch
-invariant-loop-batch g l = record {
+invariant-loop-batch l = record {
   schema : (arc_value l.last).schema ≡ arc_value l.schema;
   blocks : (arc_value l.last).blocks ++ joined (map batch_view (drop l.batch-index l.batches)) ≡ joined (map batch_view l.batches);
 }
