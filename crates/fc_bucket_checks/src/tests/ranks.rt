@@ -10,7 +10,6 @@ use fc_facet::{Sort, SortKey};
 use fc_partial::{StatValue, Stats};
 use fc_refine::{Ranked, below_rank, page, rank_bound};
 use std::alloc::Global;
-use std::process::Abort;
 use std::test::Fail;
 
 // A value with its bucket's count and one statistic, which may be absent.
@@ -58,12 +57,16 @@ fn items(alloc: Global) -> Result<Vec<Item>, Fail>
     ]?)
 }
 
-// Checks the values of some items.
-fn check(rt: &impl Abort, items: &[Item], values: &[i64]) {
-    assert_eq!(rt; items.len(), values.len());
-    for (item, value) in items.iter().zip(values) {
-        assert!(rt; item.val == Val::Long(*value));
+fn have_values(items: &[Item], values: &[i64]) -> bool {
+    if items.len() != values.len() {
+        return false;
     }
+    for (item, value) in items.iter().zip(values) {
+        if item.val != Val::Long(*value) {
+            return false;
+        }
+    }
+    true
 }
 
 const COUNT_DESCENDING: Sort = Sort {
@@ -92,7 +95,7 @@ const LEAST_ASCENDING: Sort = Sort {
 };
 
 // Sort, offset and limit; the values of the page.
-const PAGES: [(Sort, u32, Option<u32>, &[i64]); 10] = [
+const PAGES: &[(Sort, u32, Option<u32>, &[i64])] = &[
     (COUNT_DESCENDING, 0, None, &[2, 5, 1, 3, 4]),
     (COUNT_ASCENDING, 0, None, &[4, 1, 3, 2, 5]),
     (INDEX_DESCENDING, 0, None, &[5, 4, 3, 2, 1]),
@@ -108,14 +111,14 @@ const PAGES: [(Sort, u32, Option<u32>, &[i64]); 10] = [
 #[test]
 fn pages(rt: HostRuntime) -> Result<(), Fail> {
     for (sort, offset, limit, values) in PAGES {
-        let page = page(sort, offset, limit, items(rt.alloc())?)?;
-        check(&rt, &page, values);
+        let page = page(*sort, *offset, *limit, items(rt.alloc())?)?;
+        assert!(rt; have_values(&page, values), "{offset} {limit:?} {values:?}");
     }
     Ok(())
 }
 
 // Sort and bound; the values below it.
-const FRONTS: [(Sort, Option<u64>, &[i64]); 8] = [
+const FRONTS: &[(Sort, Option<u64>, &[i64])] = &[
     (COUNT_DESCENDING, None, &[1, 2, 3, 4, 5]),
     (COUNT_DESCENDING, Some(0), &[]),
     (COUNT_DESCENDING, Some(3), &[1, 2, 5]),
@@ -129,14 +132,14 @@ const FRONTS: [(Sort, Option<u64>, &[i64]); 8] = [
 #[test]
 fn fronts(rt: HostRuntime) -> Result<(), Fail> {
     for (sort, bound, values) in FRONTS {
-        let front = below_rank(sort, bound, items(rt.alloc())?)?;
-        check(&rt, &front, values);
+        let front = below_rank(*sort, *bound, items(rt.alloc())?)?;
+        assert!(rt; have_values(&front, values), "{bound:?} {values:?}");
     }
     Ok(())
 }
 
 // Offset, limit and what goes beyond; the bound.
-const BOUNDS: [(u32, Option<u32>, u32, Option<u64>); 3] = [
+const BOUNDS: &[(u32, Option<u32>, u32, Option<u64>)] = &[
     (2, Some(3), 4, Some(9)),
     (2, None, 0, None),
     (u32::MAX, Some(u32::MAX), u32::MAX, Some(12_884_901_885)),
@@ -145,6 +148,9 @@ const BOUNDS: [(u32, Option<u32>, u32, Option<u64>); 3] = [
 #[test]
 fn bounds(rt: HostRuntime) {
     for (offset, limit, beyond, bound) in BOUNDS {
-        assert_eq!(rt; rank_bound(offset, limit, beyond), bound);
+        assert!(rt;
+            rank_bound(*offset, *limit, *beyond) == *bound,
+            "{offset} {limit:?} {beyond}"
+        );
     }
 }

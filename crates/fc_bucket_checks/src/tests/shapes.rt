@@ -29,18 +29,22 @@ fn terms(limit: Option<u32>, overrequest: u32, missing: bool, prefix: Option<Nam
     }
 }
 
+// The domain change that changes nothing.
+fn stay(alloc: Global) -> Domain {
+    Domain {
+        exclude: Vec::new(alloc),
+        block: BlockStep::Stay,
+        filters: Vec::new(alloc),
+    }
+}
+
 // A request of one terms facet.
 fn request(alloc: Global, terms: Terms) -> Result<Request, Fail>
     ensures { IfOk result (λ request. AreCountable (request_view request).nodes) }
 {
-    let domain = Domain {
-        exclude: Vec::new(alloc),
-        block: BlockStep::Stay,
-        filters: Vec::new(alloc),
-    };
     let facet = Node {
         name: Name::new(alloc, "c")?,
-        domain,
+        domain: stay(alloc),
         kind: Kind::Terms(terms),
         nodes: Vec::new(alloc),
     };
@@ -51,11 +55,7 @@ fn request(alloc: Global, terms: Terms) -> Result<Request, Fail>
         filters: Vec::new(alloc),
         root: Node {
             name: Name::new(alloc, "")?,
-            domain: Domain {
-                exclude: Vec::new(alloc),
-                block: BlockStep::Stay,
-                filters: Vec::new(alloc),
-            },
+            domain: stay(alloc),
             kind: Kind::Query(Query::All),
             nodes,
         },
@@ -73,16 +73,19 @@ fn bucket(alloc: Global, key: Key, count: u64, nodes: Vec<PartialNode>) -> Parti
     }
 }
 
+// The key of a value; without a text that of the missing values.
+fn key(alloc: Global, text: &str) -> Result<Key, Fail> {
+    if text.is_empty() {
+        return Ok(Key::Missing);
+    }
+    Ok(Key::Value(Val::Text(Name::new(alloc, text)?)))
+}
+
 // A first message that lists these buckets of the facet; one without a text is of the missing values.
 fn message(alloc: Global, listed: &[(&str, u64)]) -> Result<Message, Fail> {
     let mut buckets = Vec::new(alloc);
     for (text, count) in listed {
-        let key = if text.is_empty() {
-            Key::Missing
-        } else {
-            Key::Value(Val::Text(Name::new(alloc, *text)?))
-        };
-        buckets.push(bucket(alloc, key, *count, Vec::new(alloc)))?;
+        buckets.push(bucket(alloc, key(alloc, text)?, *count, Vec::new(alloc)))?;
     }
     let nodes = vec![in alloc; PartialNode { buckets }]?;
     Ok(Message {
@@ -91,7 +94,16 @@ fn message(alloc: Global, listed: &[(&str, u64)]) -> Result<Message, Fail> {
 }
 
 // Limit, over-request, missing and prefix of the facet; the listed buckets; whether they are shaped.
-const SHAPES: [(Option<u32>, u32, bool, &str, &[(&str, u64)], bool); 12] = [
+type Shape = (
+    Option<u32>,
+    u32,
+    bool,
+    &'static str,
+    &'static [(&'static str, u64)],
+    bool,
+);
+
+const SHAPES: &[Shape] = &[
     (Some(1), 0, false, "", &[("a", 3)], true),
     (Some(1), 0, false, "", &[("a", 3), ("b", 2)], false),
     (Some(1), 1, false, "", &[("a", 3), ("b", 2)], true),
@@ -106,45 +118,65 @@ const SHAPES: [(Option<u32>, u32, bool, &str, &[(&str, u64)], bool); 12] = [
     (Some(1), 0, false, "a", &[("ba", 1)], false),
 ];
 
+fn prefix_of(alloc: Global, text: &str) -> Result<Option<Name>, Fail> {
+    if text.is_empty() {
+        return Ok(None);
+    }
+    Ok(Some(Name::new(alloc, text)?))
+}
+
+// Whether the listed buckets are shaped as the row says.
+fn is_as_said(alloc: Global, row: &Shape) -> Result<bool, Fail> {
+    let (limit, overrequest, missing, prefix, listed, fits) = *row;
+    let message = message(alloc, listed)?;
+    let prefix = prefix_of(alloc, prefix)?;
+    let request = request(alloc, terms(limit, overrequest, missing, prefix))?;
+    Ok(shaped(&request, &Ask::First, &message) == fits)
+}
+
 #[test]
 fn shapes(rt: HostRuntime) -> Result<(), Fail> {
-    let alloc = rt.alloc();
-    for (limit, overrequest, missing, prefix, listed, fits) in SHAPES {
-        let prefix = if prefix.is_empty() {
-            None
-        } else {
-            Some(Name::new(alloc, prefix)?)
-        };
-        let request = request(alloc, terms(limit, overrequest, missing, prefix))?;
-        let message = message(alloc, listed)?;
-        assert_eq!(rt; shaped(&request, &Ask::First, &message), fits);
+    for (number, row) in SHAPES.iter().enumerate() {
+        assert!(rt; is_as_said(rt.alloc(), row)?, "row {number}");
     }
     Ok(())
+}
+
+// A message of one bucket without documents.
+fn lone_message(alloc: Global, text: &str) -> Result<Message, Fail> {
+    let lone = bucket(alloc, key(alloc, text)?, 0, Vec::new(alloc));
+    Ok(Message {
+        buckets: vec![in alloc; lone]?,
+    })
+}
+
+// What asks for one value.
+fn more(alloc: Global, text: &str) -> Result<Ask, Fail> {
+    let want = Want {
+        path: Vec::new(alloc),
+        node: 0,
+        key: key(alloc, text)?,
+    };
+    Ok(Ask::More(vec![in alloc; want]?))
+}
+
+// Whether one bucket of this value is shaped where `a` is asked for.
+fn is_wanted(alloc: Global, text: &str) -> Result<bool, Fail> {
+    let request = request(alloc, terms(Some(1), 0, false, None))?;
+    let ask = more(alloc, "a")?;
+    Ok(shaped(&request, &ask, &lone_message(alloc, text)?))
 }
 
 // One bucket for each want, of its key, whatever its count.
 #[test]
 fn wants(rt: HostRuntime) -> Result<(), Fail> {
-    let alloc = rt.alloc();
-    let request = request(alloc, terms(Some(1), 0, false, None))?;
-    let want = Want {
-        path: Vec::new(alloc),
-        node: 0,
-        key: Key::Value(Val::Text(Name::new(alloc, "a")?)),
-    };
-    let ask = Ask::More(vec![in alloc; want]?);
-    for (text, fits) in [("a", true), ("b", false)] {
-        let key = Key::Value(Val::Text(Name::new(alloc, text)?));
-        let message = Message {
-            buckets: vec![in alloc; bucket(alloc, key, 0, Vec::new(alloc))]?,
-        };
-        assert_eq!(rt; shaped(&request, &ask, &message), fits);
-    }
+    assert!(rt; is_wanted(rt.alloc(), "a")?);
+    assert!(rt; !is_wanted(rt.alloc(), "b")?);
     Ok(())
 }
 
 #[test]
 fn offers(rt: HostRuntime) {
-    assert_eq!(rt; offered(&terms(Some(3), 10, false, None)), Some(13));
-    assert_eq!(rt; offered(&terms(None, 0, false, None)), None);
+    assert!(rt; offered(&terms(Some(3), 10, false, None)) == Some(13));
+    assert!(rt; offered(&terms(None, 0, false, None)).is_none());
 }

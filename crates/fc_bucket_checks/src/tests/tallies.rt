@@ -5,7 +5,7 @@ ghost use Rattle.fc_partial.specs.View.{key_view};
 ghost use Rattle.fc_partial.specs.Tallying.{entry_at};
 
 use fc_base::{FieldId, Name, Stat, StatKind, Val};
-use fc_partial::{Key, StatValue, Stats, Tally};
+use fc_partial::{Key, PartialBucket, StatValue, Stats, Tally};
 use std::alloc::Global;
 use std::process::Abort;
 use std::test::Fail;
@@ -20,13 +20,20 @@ const MIN: Stat = Stat {
     field: FieldId(1),
 };
 
+// Whether statistics have this count and these two values.
+fn is_of(stats: &Stats, count: u64, values: [StatValue; 2]) -> bool {
+    stats.count == count && stats.values.as_slice() == values.as_slice()
+}
+
 #[test]
 fn neutral_statistics(rt: HostRuntime) -> Result<(), Fail> {
     let neutral = Stats::neutral(rt.alloc(), &[SUM, MIN])?;
-    assert_eq!(rt; neutral.count, 0);
-    assert_eq!(rt;
-        neutral.values.as_slice(),
-        [StatValue::Number(0), StatValue::Extreme(None)].as_slice()
+    assert!(rt;
+        is_of(
+            &neutral,
+            0,
+            [StatValue::Number(0), StatValue::Extreme(None)]
+        )
     );
     Ok(())
 }
@@ -43,17 +50,19 @@ fn combined_statistics(rt: HostRuntime) -> Result<(), Fail> {
         values: vec![in alloc; StatValue::Number(-7), StatValue::Extreme(Some(4))]?,
     };
     first.combine(&[SUM, MIN], &other);
-    assert_eq!(rt; first.count, 3);
-    assert_eq!(rt;
-        first.values.as_slice(),
-        [StatValue::Number(-2), StatValue::Extreme(Some(4))].as_slice()
+    assert!(rt;
+        is_of(
+            &first,
+            3,
+            [StatValue::Number(-2), StatValue::Extreme(Some(4))]
+        )
     );
     Ok(())
 }
 
 // Keys of every kind, in descending order.
 fn keys_of(alloc: Global) -> Result<Vec<Key>, Fail> {
-    Ok(vec![in alloc;
+    let mut keys = vec![in alloc;
         Key::Whole,
         Key::After,
         Key::Between,
@@ -61,11 +70,14 @@ fn keys_of(alloc: Global) -> Result<Vec<Key>, Fail> {
         Key::Gap(10),
         Key::Gap(9),
         Key::Missing,
-        Key::Value(Val::Text(Name::new(alloc, "b")?)),
-        Key::Value(Val::Text(Name::new(alloc, "a")?)),
-        Key::Value(Val::Long(10)),
-        Key::Value(Val::Long(9)),
-    ]?)
+    ]?;
+    for text in ["b", "a"] {
+        keys.push(Key::Value(Val::Text(Name::new(alloc, text)?)))?;
+    }
+    for number in [10, 9] {
+        keys.push(Key::Value(Val::Long(number)))?;
+    }
+    Ok(keys)
 }
 
 // How many documents a key has.
@@ -117,6 +129,24 @@ fn add_lent(rt: &impl Abort, alloc: Global, tally: &mut Tally, keys: &[Key]) -> 
     Ok(())
 }
 
+// Whether it is the bucket of a key with so many documents.
+fn is_bucket(bucket: &PartialBucket, key: &Key, count: u64) -> bool {
+    bucket.key == *key && bucket.stats.count == count && bucket.nodes.is_empty()
+}
+
+// Whether there is one bucket for each key, in ascending order, with so many documents.
+fn are_each(buckets: &[PartialBucket], keys: &[Key], count: u64) -> bool {
+    if buckets.len() != keys.len() {
+        return false;
+    }
+    for (bucket, key) in buckets.iter().zip(keys.iter().rev()) {
+        if !is_bucket(bucket, key, count) {
+            return false;
+        }
+    }
+    true
+}
+
 #[test]
 fn tallied_keys(rt: HostRuntime) -> Result<(), Fail> {
     let alloc = rt.alloc();
@@ -125,15 +155,9 @@ fn tallied_keys(rt: HostRuntime) -> Result<(), Fail> {
     add_lent(&rt, alloc, &mut tally, &keys)?;
     add_each(&rt, alloc, &mut tally, &keys)?;
     add_lent(&rt, alloc, &mut tally, &keys)?;
-    assert_eq!(rt; count_at(&tally, &Key::Gap(9)), 3);
+    assert!(rt; count_at(&tally, &Key::Gap(9)) == 3);
     assert!(rt; tally.get(&Key::Gap(8)).is_none());
-    let buckets = tally.into_buckets()?;
-    assert_eq!(rt; buckets.len(), keys.len());
-    for (bucket, key) in buckets.iter().zip(keys.iter().rev()) {
-        assert!(rt; bucket.key == *key, "{:?} at {key:?}", &bucket.key);
-        assert_eq!(rt; bucket.stats.count, 3);
-        assert!(rt; bucket.nodes.is_empty());
-    }
+    assert!(rt; are_each(&tally.into_buckets()?, &keys, 3));
     Ok(())
 }
 
@@ -145,16 +169,13 @@ fn one_text_added_twice(rt: HostRuntime) -> Result<(), Fail> {
     let mut tally = Tally::new(alloc, Vec::new(alloc))?;
     add_each(&rt, alloc, &mut tally, &keys)?;
     add_each(&rt, alloc, &mut tally, &keys)?;
-    assert_eq!(rt; count_at(&tally, &key), 2);
-    let buckets = tally.into_buckets()?;
-    assert_eq!(rt; buckets.len(), 1);
-    assert!(rt; buckets[0].key == key);
-    assert_eq!(rt; buckets[0].stats.count, 2);
+    assert!(rt; count_at(&tally, &key) == 2);
+    assert!(rt; are_each(&tally.into_buckets()?, &keys, 2));
     Ok(())
 }
 
 // The statistics of one document, of how many texts.
-const OF_TEXTS: [(StatKind, usize, StatValue); 5] = [
+const OF_TEXTS: &[(StatKind, usize, StatValue)] = &[
     (StatKind::Sum, 2, StatValue::Number(0)),
     (StatKind::Max, 2, StatValue::Extreme(None)),
     (StatKind::CountVals, 2, StatValue::Number(2)),
@@ -165,8 +186,11 @@ const OF_TEXTS: [(StatKind, usize, StatValue); 5] = [
 #[test]
 fn statistics_of_texts(rt: HostRuntime) -> Result<(), Fail> {
     for (of, count, value) in OF_TEXTS {
-        assert!(rt; count < 9);
-        assert_eq!(rt; StatValue::of_texts(of, count), value);
+        assert!(rt; *count < 9);
+        assert!(rt;
+            StatValue::of_texts(*of, *count) == *value,
+            "{of:?} at {count}"
+        );
     }
     Ok(())
 }
