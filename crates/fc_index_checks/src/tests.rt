@@ -6,23 +6,20 @@ mod segments;
 mod sets;
 mod sums;
 
-ghost use Rattle.std.specs.Prelude.{IfOk};
-ghost use Rattle.fc_spec.specs.documents.ValidBlocks.{IsBlockOf};
-ghost use Rattle.fc_docs.specs.View.{block_view};
+ghost use Rattle.std.specs.Prelude.{◌≡◌, length, IfOk};
+ghost use Rattle.fc_spec.specs.documents.Schema.{texts_held};
 
 use fc_base::Schema;
-use fc_docs::{Block, read_block};
-use serde_json::Value;
+use fc_fixtures::{batch_of, values_of};
+use fc_segment::Segment;
 use std::alloc::Global;
 use std::test::Fail;
 
-fn schema_of(alloc: Global, text: &str) -> Result<Schema, Fail> {
-    Ok(Schema::read(alloc, &Value::from_str(alloc, text)?)?)
-}
-
-// A block without a fault.
-fn block_of(alloc: Global, schema: &Schema, text: &str) -> Result<Block, Fail>
-    ensures { IfOk result (λ block. IsBlockOf schema.now (block_view block)) }
+// The segment of these blocks, which may be beyond the limits.
+fn segment_with(alloc: Global, schema: &Schema, blocks: &[&str]) -> Result<Segment, Fail>
+    ensures texts { IfOk result (λ segment. segment.texts ≡ texts_held schema.now.fields) }
+    ensures fields { IfOk result (λ segment. length segment.texts ≡ length schema.now.fields) }
 {
-    Ok(read_block(alloc, schema, Value::from_str(alloc, text)?)?)
+    let batch = batch_of(alloc, schema, &values_of(alloc, blocks)?)?;
+    Ok(Segment::build(alloc, schema, &batch)?)
 }

@@ -1,5 +1,5 @@
 // What kinds collect and select, behind their boxes.
-ghost use Rattle.std.specs.Prelude.{◌≡◌, [], ◌∷◌, length, IfOk};
+ghost use Rattle.std.specs.Prelude.{◌≡◌, ◌<◌, ◌↔◌, [], ◌∷◌, length, IfOk, MatchOption};
 ghost use Rattle.std.specs.Bool.{IsTrue};
 ghost use Rattle.fc_spec.specs.documents.Sets.{places_on};
 ghost use Rattle.fc_spec.specs.documents.Totals.{document_total};
@@ -12,10 +12,10 @@ ghost use Rattle.fc_request.specs.NodeView.{inner_view};
 ghost use Rattle.fc_kind.specs.Collecting.{BucketsAddUp};
 ghost use Rattle.fc_kind.specs.Columns.{FitsColumns, HaveFields};
 
-use crate::fitting::{fits, have_fields, is_key};
+use crate::fitting::fits;
 use crate::making::segment_from;
-use crate::showing::{is_bucket, shown};
 use fc_docset::DocSet;
+use fc_fixtures::{have_fields, is_key, shown};
 use fc_kind::{kinds_of, name_of, the_kind};
 use fc_partial::{Key, Tally};
 use fc_range::{QueryKind, RangeKind};
@@ -179,6 +179,20 @@ pub fn found(
 
 fn count_of(tally: &Tally, key: &Key) -> Option<u64> {
     Some(tally.get(key)?.count)
+}
+
+// Whether a bucket has the positions that are wanted, and so many: it is in a tally where it has a document.
+fn is_bucket(found: &[u32], wanted: &[u32], count: Option<u64>) -> bool
+    ensures { IsTrue result ↔ (found.now ≡ wanted.now)
+        × MatchOption count (wanted.now ≡ []) (λ count. (0 < count) × (count ≡ length wanted.now)) }
+{
+    if found != wanted {
+        return false;
+    }
+    match count {
+        Some(count) => count > 0 && count == wanted.len() as u64,
+        None => wanted.is_empty(),
+    }
 }
 
 /// Whether a bucket has these of the positions, and is counted so in the tally.

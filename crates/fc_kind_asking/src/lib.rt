@@ -4,8 +4,6 @@
 mod asking;
 mod fitting;
 mod making;
-mod showing;
 
 pub use asking::{collected, collected_by, found, has_bucket, selected, selected_by};
-pub use making::{node_of, schema_of, segment_from, segment_of, terms_of};
-pub use showing::{demand, push_number, shown};
+pub use making::{node_of, schema_with, segment_from, terms_of};

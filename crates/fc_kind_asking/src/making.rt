@@ -1,56 +1,33 @@
 // What a facet is asked of, and facets.
 ghost use Rattle.std.specs.Prelude.{◌≡◌, [], ◌∷◌, length, IfOk};
-ghost use Rattle.fc_spec.specs.documents.Schema.{texts_held};
 ghost use Rattle.fc_spec.specs.scripts.WorldLimits.{IsWithinLimits};
 ghost use Rattle.fc_request.specs.FacetNode.{kind_of};
 
 use fc_base::{FieldId, Name, Schema, Stat};
-use fc_docs::{Batch, read_block};
 use fc_facet::{BlockStep, Domain, Kind, Sort, SortKey, Terms};
-use fc_places::is_within_limits;
+use fc_fixtures::{schema_of, segment_of};
 use fc_request::Node;
 use fc_segment::Segment;
-use serde_json::Value;
 use std::alloc::Global;
 use std::test::Fail;
 
-/// The schema of so many fields, with that of the ids.
-pub fn schema_of(alloc: Global, text: &str, fields: u16) -> Result<Schema, Fail>
+/// The schema of a JSON text of so many fields, with that of the ids.
+pub fn schema_with(alloc: Global, text: &str, fields: u16) -> Result<Schema, Fail>
     ensures { IfOk result (λ schema. length schema.fields ≡ fields) }
 {
-    let schema = Schema::read(alloc, &Value::from_str(alloc, text)?)?;
+    let schema = schema_of(alloc, text)?;
     if schema.fields() != fields {
         return Err("another number of fields".into());
     }
     Ok(schema)
 }
 
-/// The segment of one block with fewer children than 2,000.
-pub fn segment_of(alloc: Global, schema: &Schema, text: &str) -> Result<Segment, Fail>
-    ensures texts { IfOk result (λ segment. segment.texts ≡ texts_held schema.now.fields) }
-    ensures limits { IfOk result (λ segment. IsWithinLimits (segment.blocks ∷ [])) }
-{
-    let block = read_block(alloc, schema, Value::from_str(alloc, text)?)?;
-    if block.children.len() >= 2_000 {
-        return Err("too many children".into());
-    }
-    let batches = vec![in alloc;
-        Batch {
-            blocks: vec![in alloc; block]?
-        },
-    ]?;
-    if batches.len() != 1 || !is_within_limits(alloc, &[&batches])? {
-        return Err("more than a world may have".into());
-    }
-    Ok(Segment::build(alloc, schema, &batches[0])?)
-}
-
-/// The same with the text of a schema of so many fields.
+/// The segment of one block over such a schema.
 pub fn segment_from(alloc: Global, schema: &str, fields: u16, block: &str) -> Result<Segment, Fail>
     ensures texts { IfOk result (λ segment. length segment.texts ≡ fields) }
     ensures limits { IfOk result (λ segment. IsWithinLimits (segment.blocks ∷ [])) }
 {
-    let schema = schema_of(alloc, schema, fields)?;
+    let schema = schema_with(alloc, schema, fields)?;
     segment_of(alloc, &schema, block)
 }
 

@@ -14,6 +14,7 @@ use crate::Refused;
 use fc_base::Stat;
 use fc_docset::DocSet;
 use fc_facet::Kind;
+use fc_fixtures::have_fields;
 use fc_kind::FacetKind;
 use fc_partial::{Key, PartialBucket, Tally};
 use fc_request::Node;
@@ -36,21 +37,6 @@ pub fn domain_of(alloc: Global, segment: &Segment, one_of: u32) -> Result<DocSet
         }
     }
     Ok(docs)
-}
-
-// Whether the fields of the statistics are below a number.
-fn have_fields(stats: &[Stat], fields: u16) -> bool
-    ensures { OnTrue result ((texts : List Bool) → fields ≤ length texts
-        → HaveFields texts (map stat_view stats.now)) }
-{
-    let mut rest = stats;
-    while let Some((stat, others)) = rest.split_first() {
-        if stat.field.0 >= fields {
-            return false;
-        }
-        rest = others;
-    }
-    true
 }
 
 // Whether it is a terms facet without a prefix over a field below a number.

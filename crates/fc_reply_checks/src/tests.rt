@@ -9,22 +9,19 @@ mod statistics;
 mod terms;
 
 ghost use Rattle.std.specs.Prelude.{IfOk};
-ghost use Rattle.serde_json.specs.View.{view};
-ghost use Rattle.fc_spec.specs.scripts.JsonValues.{HasAscendingKeys, HasNumbers};
 ghost use Rattle.fc_request.specs.RequestView.{request_view};
 ghost use Rattle.fc_refine.specs.CountableRanges.{AreCountable};
 ghost use Rattle.fc_spec.specs.scripts.WorldLimits.{IsWithinLimits};
 ghost use Rattle.fc_places.specs.WorldView.{world_view};
 
 use fc_base::{Name, Schema};
-use fc_docs::{Batch, read_block};
+use fc_docs::Batch;
+use fc_fixtures::{batch_of, json_of, list_of, numbers_of, request_of, schema_of};
 use fc_places::is_within_limits;
 use fc_plain::reply;
 use fc_reading::valid_requests_are_countable;
 use fc_reply::{Reply, reply_line};
 use fc_request::Request;
-use fc_spec::texts_are_json;
-use serde_json::Value;
 use std::alloc::Global;
 use std::test::Fail;
 
@@ -39,45 +36,27 @@ fn cut<'a>(text: &'a str, at: &str) -> Result<(&'a str, &'a str), Fail> {
     }
 }
 
-fn json_of(alloc: Global, text: &str) -> Result<Value, Fail>
-    ensures { IfOk result (λ json. HasNumbers (view json) × HasAscendingKeys (view json)) }
-{
-    texts_are_json();
-    Ok(Value::from_slice(alloc, text.as_bytes())?)
-}
-
-fn batch_of(alloc: Global, schema: &Schema, json: Value) -> Result<Batch, Fail> {
-    let mut blocks = Vec::new(alloc);
-    if let Value::Array(items) = json {
-        for item in items {
-            blocks.push(read_block(alloc, schema, item)?)?;
-        }
-    }
-    Ok(Batch { blocks })
-}
-
+// The batches of a shard, each an array of blocks.
 fn batches_of(alloc: Global, schema: &Schema, text: &str) -> Result<Vec<Batch>, Fail> {
+    let json = json_of(alloc, text)?;
     let mut batches = Vec::new(alloc);
-    if let Value::Array(items) = json_of(alloc, text)? {
-        for item in items {
-            batches.push(batch_of(alloc, schema, item)?)?;
-        }
+    for blocks in list_of(&json)? {
+        batches.push(batch_of(alloc, schema, list_of(blocks)?)?)?;
     }
     Ok(batches)
 }
 
-fn request_of(alloc: Global, schema: &Schema, text: &str) -> Result<Request, Fail>
+fn countable_request(alloc: Global, schema: &Schema, text: &str) -> Result<Request, Fail>
     ensures { IfOk result (λ request. AreCountable (request_view request).nodes) }
 {
     valid_requests_are_countable();
-    let json = json_of(alloc, text)?;
-    Ok(Request::read(alloc, schema, &json)?)
+    Ok(request_of(alloc, schema, text)?)
 }
 
 fn reply_to(alloc: Global, schema: &Schema, world: &[&[Batch]], asked: &str) -> Result<Reply, Fail>
     requires { IsWithinLimits (world_view world.now) }
 {
-    let request = request_of(alloc, schema, asked)?;
+    let request = countable_request(alloc, schema, asked)?;
     Ok(reply(alloc, &request, world)?)
 }
 
@@ -89,20 +68,12 @@ fn shards_of(alloc: Global, schema: &Schema, texts: &str) -> Result<Vec<Vec<Batc
     Ok(shards)
 }
 
-fn generations_of(alloc: Global, text: &str) -> Result<Vec<u64>, Fail> {
-    let mut generations = Vec::new(alloc);
-    for number in text.split(' ') {
-        generations.push(number.parse()?)?;
-    }
-    Ok(generations)
-}
-
 // The line of a reply, with the text that has the session and the generations.
 fn line_of(alloc: Global, about: &str, reply: &Reply) -> Result<String, Fail> {
     let (session, rest) = cut(about, "\n")?;
     let (generations, _) = cut(rest, "\n")?;
     let session = Name::new(alloc, session)?;
-    let generations = generations_of(alloc, generations)?;
+    let generations = numbers_of(alloc, generations)?;
     let line = reply_line(alloc, reply, &generations, &session)?;
     Ok(String::from_utf8_lossy(alloc, &line)?)
 }
@@ -171,7 +142,7 @@ fn compare_world(
 fn compare_table(alloc: Global, table: &str) -> Result<(), Fail> {
     let (world, rest) = cut(table, "\n\n")?;
     let (schema, shards) = cut(world, "\n")?;
-    let schema = Schema::read(alloc, &json_of(alloc, schema)?)?;
+    let schema = schema_of(alloc, schema)?;
     let shards = shards_of(alloc, &schema, shards)?;
     compare_world(alloc, &schema, &shards, rest)
 }

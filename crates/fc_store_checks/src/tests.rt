@@ -1,13 +1,12 @@
 // What no clause says of stores: that readers see what is published, and that memory is enough.
 ghost use Rattle.std.specs.Prelude.{◌≡◌, ◌≤◌, length, All, IfOk};
 ghost use Rattle.std.specs.Arc.{arc_value};
-ghost use Rattle.fc_docs.specs.View.{batch_view};
 ghost use Rattle.fc_store.specs.Charters.{IsBatchOf};
 
 use fc_base::{Schema, WantMemory};
-use fc_docs::{Batch, read_block};
+use fc_docs::Batch;
+use fc_fixtures::{batch_of, schema_of, values_of};
 use fc_store::{Charter, Generation, ShardReader, ShardWriter, Told, open_shard};
-use serde_json::Value;
 use std::alloc::Global;
 use std::process::Abort;
 use std::sync::{Arc, Wait};
@@ -24,41 +23,18 @@ const BATCHES: [&[&str]; 3] = [
     &[r#"{"id":"3","cat":"c"}"#],
 ];
 
-fn schema_of(alloc: Global) -> Result<Arc<Schema>, Fail> {
-    Ok(Arc::new(
-        alloc,
-        Schema::read(alloc, &Value::from_str(alloc, SCHEMA)?)?,
-    )?)
-}
-
-// The batch of these blocks, which have no children.
-fn batch_of(rt: &impl Abort, alloc: Global, schema: &Schema, blocks: &[&str]) -> Result<Batch, Fail>
-    requires { length blocks.now ≤ 2 }
-    ensures { IfOk result (λ batch. IsBatchOf schema.now (batch_view batch)) }
-{
-    let mut read = Vec::new(alloc);
-    for text in blocks {
-        let block = read_block(alloc, schema, Value::from_str(alloc, text)?)?;
-        assert!(rt; block.children.is_empty());
-        read.push(block)?;
-    }
-    Ok(Batch { blocks: read })
+fn shared_schema(alloc: Global) -> Result<Arc<Schema>, Fail> {
+    Ok(Arc::new(alloc, schema_of(alloc, SCHEMA)?)?)
 }
 
 // A charter of batches with these blocks.
-fn charter_of(
-    rt: &impl Abort,
-    alloc: Global,
-    schema: &Schema,
-    batches: &[&[&str]],
-) -> Result<Charter, Fail>
+fn charter_of(alloc: Global, schema: &Schema, batches: &[&[&str]]) -> Result<Charter, Fail>
     requires { length batches.now ≤ 4096 }
     ensures { IfOk result (λ charter. All (IsBatchOf schema.now) charter) }
 {
     let mut read = Vec::new(alloc);
     for blocks in batches {
-        assert!(rt; blocks.len() <= 2);
-        read.push(batch_of(rt, alloc, schema, blocks)?)?;
+        read.push(batch_of(alloc, schema, &values_of(alloc, blocks)?)?)?;
     }
     let last = read.len() as u32;
     Ok(Charter::new(Arc::new(alloc, read)?, last))
@@ -75,8 +51,8 @@ struct Opened {
 fn open(rt: &(impl Abort + Wait), alloc: Global, batches: &[&[&str]]) -> Result<Opened, Fail>
     requires { length batches.now ≤ 4096 }
 {
-    let schema = schema_of(alloc)?;
-    let charter = charter_of(rt, alloc, &schema, batches)?;
+    let schema = shared_schema(alloc)?;
+    let charter = charter_of(alloc, &schema, batches)?;
     let start = Generation::first(alloc, schema)?;
     let (writer, mut readers) = open_shard(rt, alloc, start, charter, 2)?;
     match (readers.pop(), readers.pop()) {
@@ -212,13 +188,12 @@ fn committed(
     earlier: &Generation,
     blocks: &[&str],
 ) -> Result<Arc<Generation>, Fail>
-    requires few { length blocks.now ≤ 2 }
-    requires schema { earlier.now.schema ≡ schema.now }
+    requires { earlier.now.schema ≡ schema.now }
     ensures schema { IfOk result (λ later. (arc_value later).schema ≡ schema.now) }
     ensures number { IfOk result (λ later. (arc_value later).number ≤ 100) }
 {
     assert!(rt; earlier.number() < 100);
-    let batch = batch_of(rt, alloc, schema, blocks)?;
+    let batch = batch_of(alloc, schema, &values_of(alloc, blocks)?)?;
     Ok(Generation::next(alloc, earlier, &batch)?)
 }
 
@@ -245,7 +220,7 @@ fn counts(generation: &Generation) -> (u64, usize) {
 #[test]
 fn a_commit_without_a_block_makes_no_segment(rt: HostRuntime) -> Result<(), Fail> {
     let alloc = rt.alloc();
-    let schema = schema_of(alloc)?;
+    let schema = shared_schema(alloc)?;
     let first = Generation::first(alloc, Arc::try_clone(&schema)?)?;
     let empty = committed(&rt, alloc, &schema, &first, BATCHES[1])?;
     let one = committed(&rt, alloc, &schema, &empty, BATCHES[0])?;

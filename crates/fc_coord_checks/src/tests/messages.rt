@@ -5,6 +5,7 @@
 // and behind them the list of buckets of each of its facets. A message is a list of buckets. A bucket that is asked for is the
 // list of steps to it, each a node and a key.
 use fc_base::{Name, Val};
+use fc_fixtures::list_of;
 use fc_partial::{Key, Message, PartialBucket, PartialNode, StatValue, Stats};
 use fc_refine::{Ask, Want};
 use serde_json::Value;
@@ -18,13 +19,6 @@ fn integer_of(json: &Value) -> Result<i64, Fail> {
 // A shard, a node or a gap.
 pub(super) fn number_of(json: &Value) -> Result<u32, Fail> {
     Ok(u32::try_from(integer_of(json)?)?)
-}
-
-pub(super) fn list_of(json: &Value) -> Result<&[Value], Fail> {
-    match json {
-        Value::Array(items) => Ok(items.as_slice()),
-        _ => Err("no list".into()),
-    }
 }
 
 fn key_of(alloc: Global, json: &Value) -> Result<Key, Fail> {

@@ -1,19 +1,18 @@
 // Searches that are driven by hand: round after round, with the messages of a round in several orders.
 ghost use Rattle.std.specs.Prelude.{IfOk, ◌+◌, ◌<◌, ◌^◌};
-ghost use Rattle.serde_json.specs.View.{view};
-ghost use Rattle.fc_spec.specs.scripts.JsonValues.{HasAscendingKeys, HasNumbers};
 ghost use Rattle.fc_spec.specs.messages.Lacks.{terms_depth};
 ghost use Rattle.fc_request.specs.RequestView.{request_view};
 ghost use Rattle.fc_refine.specs.CountableRanges.{AreCountable};
 
-use super::messages::{is_ask, list_of, message_of, number_of};
-use fc_base::{Name, Schema};
+use super::messages::{is_ask, message_of, number_of};
+use fc_base::Name;
 use fc_coord::Coord;
+use fc_fixtures::{json_of, list_of, request_of, schema_of};
 use fc_reading::valid_requests_are_countable;
 use fc_refine::Taken;
 use fc_reply::reply_line;
 use fc_request::Request;
-use fc_spec::{texts_are_json, valid_requests_have_few_rounds};
+use fc_spec::valid_requests_have_few_rounds;
 use serde_json::Value;
 use std::alloc::Global;
 use std::process::Abort;
@@ -40,22 +39,15 @@ pub(super) struct Search {
 const SCHEMA: &str =
     r#"{"shards":64,"fields":{"cat":"string","n":"plong","price":"plong","size":"string"}}"#;
 
-pub(super) fn json_of(alloc: Global, text: &str) -> Result<Value, Fail>
-    ensures { IfOk result (λ json. HasNumbers (view json) × HasAscendingKeys (view json)) }
-{
-    texts_are_json();
-    Ok(Value::from_slice(alloc, text.as_bytes())?)
-}
-
-pub(super) fn request_of(alloc: Global, text: &str) -> Result<Request, Fail>
+// The request of a text, with the facts that a coordinator wants of it.
+pub(super) fn countable_request(alloc: Global, text: &str) -> Result<Request, Fail>
     ensures countable { IfOk result (λ request. AreCountable (request_view request).nodes) }
     ensures depth { IfOk result (λ request. terms_depth (request_view request).nodes + 1 < 2 ^ 32) }
 {
     valid_requests_are_countable();
     valid_requests_have_few_rounds();
-    let schema = Schema::read(alloc, &json_of(alloc, SCHEMA)?)?;
-    let json = json_of(alloc, text)?;
-    Ok(Request::read(alloc, &schema, &json)?)
+    let schema = schema_of(alloc, SCHEMA)?;
+    Ok(request_of(alloc, &schema, text)?)
 }
 
 fn sent_of(row: &Value) -> Result<Sent<'_>, Fail> {
@@ -77,59 +69,53 @@ fn all_sent(alloc: Global, round: &Value) -> Result<Vec<Sent<'_>>, Fail> {
     Ok(sent)
 }
 
-// Exactly the shards of these messages are awaited.
-fn check_awaited(rt: &impl Abort, coord: &Coord, shards: u32, sent: &[Sent], name: &str) {
+// Whether exactly the shards of these messages are awaited.
+fn awaits_these(coord: &Coord, shards: u32, sent: &[Sent]) -> bool {
     for shard in 0..shards {
         let awaited = sent.iter().any(|one| one.shard == shard);
-        assert!(rt; coord.awaits(shard) == awaited, "{name}: shard {shard}");
+        if coord.awaits(shard) != awaited {
+            return false;
+        }
     }
+    true
 }
 
-// Tells one message, which fits.
-pub(super) fn tell(
-    rt: &impl Abort,
-    alloc: Global,
-    coord: &mut Coord,
-    one: &Sent,
-    name: &str,
-) -> Result<Taken, Fail> {
+// Tells one message: nothing is taken where the shard is not awaited, is asked for something else, or does not fit.
+pub(super) fn tell(alloc: Global, coord: &mut Coord, one: &Sent) -> Result<Option<Taken>, Fail> {
     let shard = one.shard;
-    assert!(rt; coord.awaits(shard), "{name}: shard {shard}");
-    assert!(rt;
-        is_ask(alloc, coord.ask(shard), one.asked)?,
-        "{name}: shard {shard}"
-    );
-    let message = message_of(alloc, one.message)?;
-    assert!(rt; coord.fits(shard, &message), "{name}: shard {shard}");
-    assert!(rt; !coord.spent());
-    Ok(coord.take(shard, message)?)
-}
-
-// The messages of a round, from one of them on and round about.
-fn run_round(
-    rt: &impl Abort,
-    alloc: Global,
-    coord: &mut Coord,
-    sent: &[Sent],
-    turn: usize,
-    name: &str,
-) -> Result<Taken, Fail> {
-    let mut taken = Taken::More;
-    for step in 0..sent.len() {
-        assert!(rt; taken == Taken::More, "{name}");
-        let at = (step + turn % sent.len()) % sent.len();
-        taken = tell(rt, alloc, coord, &sent[at], name)?;
+    if !coord.awaits(shard) {
+        return Ok(None);
     }
-    Ok(taken)
+    if !is_ask(alloc, coord.ask(shard), one.asked)? {
+        return Ok(None);
+    }
+    let message = message_of(alloc, one.message)?;
+    if !coord.fits(shard, &message) {
+        return Ok(None);
+    }
+    if coord.spent() {
+        return Ok(None);
+    }
+    Ok(Some(coord.take(shard, message)?))
 }
 
-pub(super) fn line_of(
-    rt: &impl Abort,
-    alloc: Global,
-    coord: Coord,
-    name: &str,
-) -> Result<String, Fail> {
-    assert!(rt; coord.ready(), "{name}");
+// Whether all messages of a round are taken, from one of them on and round about, the last alone as the last.
+fn takes_round(alloc: Global, coord: &mut Coord, sent: &[Sent], turn: usize) -> Result<bool, Fail> {
+    let mut taken = Some(Taken::More);
+    for step in 0..sent.len() {
+        if taken != Some(Taken::More) {
+            return Ok(false);
+        }
+        let at = (step + turn % sent.len()) % sent.len();
+        taken = tell(alloc, coord, &sent[at])?;
+    }
+    Ok(taken.is_some())
+}
+
+pub(super) fn line_of(alloc: Global, coord: Coord) -> Result<String, Fail> {
+    if !coord.ready() {
+        return Err("not ready".into());
+    }
     let reply = coord.into_reply()?;
     let session = Name::new(alloc, "a")?;
     let line = reply_line(alloc, &reply, &[1], &session)?;
@@ -142,39 +128,39 @@ fn wanted_line(alloc: Global, facets: &str) -> Result<String, Fail> {
 }
 
 // Whether this round stands open, and awaits exactly the shards of these messages.
-fn check_round(rt: &impl Abort, coord: &Coord, search: &Search, round: u32, sent: &[Sent]) {
-    assert!(rt;
-        !coord.ready() && coord.round() == round,
-        "{}: {round}",
-        search.name
-    );
-    check_awaited(rt, coord, search.shards, sent, search.name);
+fn is_open(coord: &Coord, search: &Search, round: u32, sent: &[Sent]) -> bool {
+    !coord.ready() && coord.round() == round && awaits_these(coord, search.shards, sent)
 }
 
-// The search with its rounds turned by so much: whom it asks for what, and its line.
-fn run_turned(rt: &impl Abort, alloc: Global, search: &Search, turn: usize) -> Result<(), Fail> {
-    let request = request_of(alloc, search.request)?;
-    assert!(rt; 1 <= search.shards && search.shards <= 64);
+// The line of the search with its rounds turned by so much; the number of the first round that goes wrong in its place.
+fn told_line(alloc: Global, search: &Search, turn: usize) -> Result<String, Fail> {
+    let request = countable_request(alloc, search.request)?;
+    if search.shards < 1 || 64 < search.shards {
+        return Err("too few or too many shards".into());
+    }
     let mut coord = Coord::begin(alloc, &request, search.shards)?;
     let mut round = 0_u32;
     for text in search.rounds {
         round = round.saturating_add(1);
         let json = json_of(alloc, text)?;
         let sent = all_sent(alloc, &json)?;
-        check_round(rt, &coord, search, round, &sent);
-        let _taken = run_round(rt, alloc, &mut coord, &sent, turn, search.name)?;
+        if !is_open(&coord, search, round, &sent) {
+            return Ok(format!(in alloc; "round {round} is not the one awaited")?);
+        }
+        if !takes_round(alloc, &mut coord, &sent, turn)? {
+            return Ok(format!(in alloc; "round {round} is not taken")?);
+        }
     }
-    let line = line_of(rt, alloc, coord, search.name)?;
-    let wanted = wanted_line(alloc, search.facets)?;
-    assert!(rt; line.as_str() == wanted.as_str(), "{}: {line}", search.name);
-    Ok(())
+    line_of(alloc, coord)
 }
 
 // Each search, with the messages of each round turned by none, one and two.
 pub(super) fn run(rt: &impl Abort, alloc: Global, searches: &[Search]) -> Result<(), Fail> {
     for search in searches {
+        let wanted = wanted_line(alloc, search.facets)?;
         for turn in 0..3 {
-            run_turned(rt, alloc, search, turn)?;
+            let line = told_line(alloc, search, turn)?;
+            assert!(rt; line.as_str() == wanted.as_str(), "{}: {line}", search.name);
         }
     }
     Ok(())

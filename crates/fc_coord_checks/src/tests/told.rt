@@ -15,7 +15,6 @@ use fc_refine::{Ask, Want};
 use fc_request::{BlockStep, Domain, Kind, Node, Sort, SortKey, Terms};
 use fc_told::ToldBucket;
 use std::alloc::Global;
-use std::process::Abort;
 use std::test::Fail;
 
 // A value, its count and its sum.
@@ -166,28 +165,35 @@ fn is_text(alloc: Global, val: &Val, text: &str) -> Result<bool, Fail> {
     Ok(*val == Val::Text(Name::new(alloc, text)?))
 }
 
-// What one shard listed.
-fn check_listed(
-    rt: &impl Abort,
-    alloc: Global,
-    told: &ToldBucket,
-    shard: u32,
-    texts: &[&str],
-) -> Result<(), Fail> {
-    let lists = told.listed(alloc, 0, &[shard])?;
-    assert!(rt; lists.len() == 1);
-    assert!(rt; lists[0].len() == texts.len());
-    for (val, text) in lists[0].iter().zip(texts) {
-        assert!(rt; is_text(alloc, val, text)?);
+fn are_texts(alloc: Global, vals: &[&Val], texts: &[&str]) -> Result<bool, Fail> {
+    if vals.len() != texts.len() {
+        return Ok(false);
     }
-    Ok(())
+    for (val, text) in vals.iter().zip(texts) {
+        if !is_text(alloc, val, text)? {
+            return Ok(false);
+        }
+    }
+    Ok(true)
+}
+
+// Whether these are what one shard listed.
+fn are_listed(alloc: Global, told: &ToldBucket, shard: u32, texts: &[&str]) -> Result<bool, Fail> {
+    let lists = told.listed(alloc, 0, &[shard])?;
+    match lists.as_slice() {
+        [vals] => are_texts(alloc, vals, texts),
+        _ => Ok(false),
+    }
 }
 
 #[test]
 fn lists(rt: HostRuntime) -> Result<(), Fail> {
     let told = all_told(rt.alloc())?;
     for (shard, texts) in &LISTED {
-        check_listed(&rt, rt.alloc(), &told, *shard, texts)?;
+        assert!(rt;
+            are_listed(rt.alloc(), &told, *shard, texts)?,
+            "shard {shard}"
+        );
     }
     Ok(())
 }

@@ -5,10 +5,11 @@ ghost use Rattle.fc_spec.specs.documents.Totals.{document_total};
 ghost use Rattle.fc_facet.specs.KindView.{domain_view};
 ghost use Rattle.fc_domain.specs.FieldsFit.{ChangeFits};
 
-use super::build::{Change, Step, batch_of, domain_of, schema_of, segment_of, shown, stepped};
+use super::build::{Change, Step, batch_in, domain_of, stepped};
 use fc_base::Schema;
 use fc_docset::DocSet;
 use fc_facet::Domain;
+use fc_fixtures::{positions_of, schema_of};
 use fc_segment::Segment;
 use std::alloc::Global;
 use std::fmt::Write;
@@ -113,7 +114,7 @@ fn expect_position(
     requires { ChangeFits segment.now.texts (domain_view up.now) }
 {
     assert!(rt; at < segment.doc_count());
-    let found = shown(alloc, &made_of(alloc, segment, up, at)?)?;
+    let found = positions_of(alloc, &made_of(alloc, segment, up, at)?)?;
     let own = range(alloc, parent, parent.saturating_add(1))?;
     let is_right = segment.parent_of(at) == parent
         && segment.first_child(at) == first
@@ -134,7 +135,7 @@ fn expect_children(
     requires { ChangeFits segment.now.texts (domain_view down.now) }
 {
     assert!(rt; parent < segment.doc_count());
-    let found = shown(alloc, &made_of(alloc, segment, down, parent)?)?;
+    let found = positions_of(alloc, &made_of(alloc, segment, down, parent)?)?;
     let children = range(alloc, first, parent)?;
     assert_eq!(rt; found.as_str(), children.as_str());
     Ok(())
@@ -209,8 +210,8 @@ fn expect_sizes(
     sizes: &[u32],
 ) -> Result<(), Fail> {
     let text = blocks_of(alloc, sizes)?;
-    let batch = batch_of(alloc, schema, text.as_str())?;
-    let segment = segment_of(alloc, schema, &batch)?;
+    let batch = batch_in(alloc, schema, text.as_str())?;
+    let segment = Segment::build(alloc, schema, &batch)?;
     let up = change_of(alloc, schema, Step::Parents("*:*"))?;
     let down = change_of(alloc, schema, Step::Children("*:*"))?;
     expect_blocks(rt, alloc, &segment, &up, &down, sizes)

@@ -1,26 +1,23 @@
 // What the tests are made of.
 ghost use Rattle.std.specs.Prelude.{◌≡◌, ◌≤◌, length, map, All, IfOk};
-ghost use Rattle.serde_json.specs.View.{view};
 ghost use Rattle.fc_spec.specs.documents.Schema.{texts_held};
 ghost use Rattle.fc_spec.specs.documents.Totals.{document_total};
 ghost use Rattle.fc_spec.specs.documents.ValidBlocks.{IsBlockOf};
-ghost use Rattle.fc_spec.specs.scripts.JsonValues.{HasAscendingKeys, HasNumbers};
-ghost use Rattle.fc_docs.specs.View.{batch_view, block_view};
+ghost use Rattle.fc_docs.specs.View.{batch_view};
 ghost use Rattle.fc_query.specs.QueryView.{query_view};
 ghost use Rattle.fc_facet.specs.KindView.{domain_view, step_view};
 ghost use Rattle.fc_request.specs.RequestView.{request_view};
 ghost use Rattle.fc_domain.specs.FieldsFit.{BaseFits, ChangeFits, FitsFields, StepFits};
 
 use fc_base::{Name, Schema};
-use fc_docs::{Batch, Block, read_block};
+use fc_docs::Batch;
 use fc_docset::DocSet;
 use fc_domain::{base, step};
 use fc_facet::{BlockStep, Domain};
+use fc_fixtures::{batch_of, json_of, list_of, request_of};
 use fc_query::{Query, parse};
 use fc_request::Request;
 use fc_segment::Segment;
-use fc_spec::texts_are_json;
-use serde_json::Value;
 use std::alloc::Global;
 use std::test::Fail;
 
@@ -40,69 +37,21 @@ pub(super) struct Change<'a> {
     pub filters: &'a [&'a str],
 }
 
-fn json_of(alloc: Global, text: &str) -> Result<Value, Fail>
-    ensures { IfOk result (λ json. HasNumbers (view json) × HasAscendingKeys (view json)) }
-{
-    texts_are_json();
-    Ok(Value::from_slice(alloc, text.as_bytes())?)
-}
-
-pub(super) fn schema_of(alloc: Global, text: &str) -> Result<Schema, Fail> {
-    Ok(Schema::read(alloc, &Value::from_str(alloc, text)?)?)
-}
-
-// A block of at most 64 children.
-fn block_of(alloc: Global, schema: &Schema, json: Value) -> Result<Block, Fail>
-    ensures valid { IfOk result (λ block. IsBlockOf schema.now (block_view block)) }
-    ensures few { IfOk result (λ block. length block.children.items ≤ 64) }
-{
-    let block = read_block(alloc, schema, json)?;
-    if block.children.len() > 64 {
-        return Err(Fail::new("many children"));
-    }
-    Ok(block)
-}
-
-fn blocks_of(alloc: Global, schema: &Schema, items: &[Value]) -> Result<Vec<Block>, Fail>
-    requires { length items.now ≤ 1_000 }
-    ensures valid { IfOk result (λ blocks. All (IsBlockOf schema.now) (map block_view blocks.items)) }
-    ensures few { IfOk result (λ blocks. document_total (map block_view blocks.items) ≤ 65_000) }
-{
-    let mut blocks = Vec::new(alloc);
-    for item in items {
-        blocks.push(block_of(alloc, schema, item.clone()?)?)?;
-    }
-    Ok(blocks)
-}
-
-// The batch of the blocks in an array: at most 1,000, each of at most 64 children.
-pub(super) fn batch_of(alloc: Global, schema: &Schema, text: &str) -> Result<Batch, Fail>
+// The batch of the blocks in an array.
+pub(super) fn batch_in(alloc: Global, schema: &Schema, text: &str) -> Result<Batch, Fail>
     ensures valid { IfOk result (λ batch. All (IsBlockOf schema.now) (batch_view batch)) }
-    ensures few { IfOk result (λ batch. document_total (batch_view batch) ≤ 65_000) }
+    ensures few { IfOk result (λ batch. document_total (batch_view batch) ≤ 1_048_576) }
 {
-    let json = Value::from_str(alloc, text)?;
-    let items = json.as_array().ok_or("no array")?;
-    if items.len() > 1_000 {
-        return Err(Fail::new("many blocks"));
-    }
-    let blocks = blocks_of(alloc, schema, items)?;
-    Ok(Batch { blocks })
+    let json = json_of(alloc, text)?;
+    batch_of(alloc, schema, list_of(&json)?)
 }
 
-pub(super) fn segment_of(alloc: Global, schema: &Schema, batch: &Batch) -> Result<Segment, Fail>
-    requires valid { All (IsBlockOf schema.now) (batch_view batch.now) }
-    requires few { document_total (batch_view batch.now) ≤ 65_000 }
-    ensures { IfOk result (λ segment. segment.texts ≡ texts_held schema.now.fields) }
-{
-    Ok(Segment::build(alloc, schema, batch)?)
-}
-
-pub(super) fn request_of(alloc: Global, schema: &Schema, text: &str) -> Result<Request, Fail>
+// The request of a text, whose base fits the columns.
+pub(super) fn fitting_request(alloc: Global, schema: &Schema, text: &str) -> Result<Request, Fail>
     ensures { IfOk result (λ request.
         BaseFits (texts_held schema.now.fields) (request_view request)) }
 {
-    let json = json_of(alloc, text)?;
-    Ok(Request::read(alloc, schema, &json)?)
+    Ok(request_of(alloc, schema, text)?)
 }
 
 pub(super) fn names_of(alloc: Global, texts: &[&str]) -> Result<Vec<Name>, Fail> {
@@ -185,13 +134,4 @@ pub(super) fn stepped(
 {
     step(alloc, segment, change, docs, base_docs, &mut into)?;
     Ok(into)
-}
-
-// The positions in a set, each before a space.
-pub(super) fn shown(alloc: Global, set: &DocSet) -> Result<String, Fail> {
-    let mut text = String::new(alloc);
-    for at in set.iter() {
-        text.push_str(format!(in alloc; "{at} ")?.as_str())?;
-    }
-    Ok(text)
 }

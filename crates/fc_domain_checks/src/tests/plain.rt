@@ -4,11 +4,10 @@ ghost use Rattle.fc_facet.specs.KindView.{domain_view};
 ghost use Rattle.fc_request.specs.RequestView.{request_view};
 ghost use Rattle.fc_domain.specs.FieldsFit.{BaseFits, ChangeFits};
 
-use super::build::{
-    Change, Step, base_of, batch_of, domain_of, request_of, schema_of, segment_of, shown, stepped,
-};
+use super::build::{Change, Step, base_of, batch_in, domain_of, fitting_request, stepped};
 use fc_docset::DocSet;
 use fc_facet::Domain;
+use fc_fixtures::{positions_of, schema_of};
 use fc_places::{Place, Search, domain, is_within_limits, root_domain};
 use fc_segment::Segment;
 use std::alloc::Global;
@@ -128,7 +127,7 @@ fn positions(alloc: Global, places: &[Place]) -> Result<String, Fail> {
 // A set has the positions of the places and no others.
 fn expect_at(rt: &impl Abort, alloc: Global, docs: &DocSet, places: &[Place]) -> Result<(), Fail> {
     let wanted = positions(alloc, places)?;
-    assert_eq!(rt; shown(alloc, docs)?.as_str(), wanted.as_str());
+    assert_eq!(rt; positions_of(alloc, docs)?.as_str(), wanted.as_str());
     Ok(())
 }
 
@@ -183,9 +182,9 @@ fn changes_are_those_of_places(rt: HostRuntime) -> Result<(), Fail> {
     let schema = schema_of(alloc, FIELDS)?;
     let mut numbers = Numbers(1);
     for _ in 0..300 {
-        let batch = batch_of(alloc, &schema, blocks(alloc, &mut numbers)?.as_str())?;
-        let segment = segment_of(alloc, &schema, &batch)?;
-        let request = request_of(alloc, &schema, numbers.pick(REQUESTS))?;
+        let batch = batch_in(alloc, &schema, blocks(alloc, &mut numbers)?.as_str())?;
+        let segment = Segment::build(alloc, &schema, &batch)?;
+        let request = fitting_request(alloc, &schema, numbers.pick(REQUESTS))?;
         let batches = vec![in alloc; batch]?;
         let world = [batches.as_slice()];
         assert!(rt; is_within_limits(alloc, &world)?);

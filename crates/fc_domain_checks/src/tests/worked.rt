@@ -5,13 +5,13 @@ ghost use Rattle.fc_facet.specs.KindView.{domain_view};
 ghost use Rattle.fc_domain.specs.FieldsFit.{ChangeFits};
 
 use super::build::{
-    Change, Step, base_of, batch_of, domain_of, query_of, request_of, schema_of, segment_of, shown,
-    stepped,
+    Change, Step, base_of, batch_in, domain_of, fitting_request, query_of, stepped,
 };
 use fc_base::Schema;
 use fc_docset::DocSet;
 use fc_domain::matches;
 use fc_facet::Domain;
+use fc_fixtures::{positions_of, schema_of};
 use fc_segment::Segment;
 use std::alloc::Global;
 use std::process::Abort;
@@ -130,12 +130,12 @@ fn told(
     requires texts { segment.now.texts ≡ texts_held schema.now.fields }
     requires change { ChangeFits (texts_held schema.now.fields) (domain_view change.now) }
 {
-    let request = request_of(alloc, schema, request)?;
+    let request = fitting_request(alloc, schema, request)?;
     let docs = base_of(alloc, segment, &request, &[])?;
     let base_docs = base_of(alloc, segment, &request, &change.exclude)?;
     let full = DocSet::full(alloc, segment.doc_count())?;
     let into = stepped(alloc, segment, change, &docs, &base_docs, full)?;
-    Ok((shown(alloc, &docs)?, shown(alloc, &into)?))
+    Ok((positions_of(alloc, &docs)?, positions_of(alloc, &into)?))
 }
 
 fn compare_line(
@@ -166,8 +166,8 @@ fn compare(
     blocks: &str,
     table: &str,
 ) -> Result<u32, Fail> {
-    let batch = batch_of(alloc, schema, blocks)?;
-    let segment = segment_of(alloc, schema, &batch)?;
+    let batch = batch_in(alloc, schema, blocks)?;
+    let segment = Segment::build(alloc, schema, &batch)?;
     let mut lines = 0u32;
     for line in table.split('\n') {
         if line.contains('~') {
@@ -200,11 +200,11 @@ fn changes_are_those_worked_out(rt: HostRuntime) -> Result<(), Fail> {
 fn one_of_two_matches(rt: HostRuntime) -> Result<(), Fail> {
     let alloc = rt.alloc();
     let schema = schema_of(alloc, FIELDS)?;
-    let batch = batch_of(alloc, &schema, CATS)?;
-    let segment = segment_of(alloc, &schema, &batch)?;
+    let batch = batch_in(alloc, &schema, CATS)?;
+    let segment = Segment::build(alloc, &schema, &batch)?;
     let query = query_of(alloc, &schema, "color:a")?;
     let mut docs = DocSet::empty(alloc, segment.doc_count())?;
     matches(alloc, &segment, &query, &mut docs)?;
-    assert_eq!(rt; shown(alloc, &docs)?.as_str(), "1 ");
+    assert_eq!(rt; positions_of(alloc, &docs)?.as_str(), "1 ");
     Ok(())
 }

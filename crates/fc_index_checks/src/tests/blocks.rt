@@ -1,8 +1,7 @@
 // Blocks, read from their JSON: their values, or the first fault.
-use super::{block_of, schema_of};
 use fc_base::{FieldId, Refusal, Schema, Val};
 use fc_docs::{Block, Document, read_block};
-use serde_json::Value;
+use fc_fixtures::{block_of, json_of, schema_of};
 use std::alloc::Global;
 use std::fmt::Write;
 use std::test::Fail;
@@ -111,7 +110,7 @@ fn blocks_have_their_values(rt: HostRuntime) -> Result<(), Fail> {
     let alloc = rt.alloc();
     let schema = schema_of(alloc, FIELDS)?;
     for (text, values) in VALUES {
-        let block = block_of(alloc, &schema, text)?;
+        let block = block_of(alloc, &schema, json_of(alloc, text)?)?;
         let found = shown(alloc, &block)?;
         assert!(rt; found.as_str() == *values, "{found} at {text}");
     }
@@ -121,7 +120,7 @@ fn blocks_have_their_values(rt: HostRuntime) -> Result<(), Fail> {
 // The text of the fault, or none where the block is taken.
 fn fault_of(alloc: Global, schema: &Schema, text: &str) -> Result<String, Fail> {
     let mut out = String::new(alloc);
-    match read_block(alloc, schema, Value::from_str(alloc, text)?) {
+    match read_block(alloc, schema, json_of(alloc, text)?) {
         Err(Refusal::Fault(fault)) => write!(out, "{fault}")?,
         Err(Refusal::Memory) => out.push_str("memory")?,
         Ok(_) => (),

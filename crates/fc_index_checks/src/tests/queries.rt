@@ -1,16 +1,15 @@
 // Queries on the segment of one block.
-ghost use Rattle.std.specs.Prelude.{◌≡◌, IfOk};
+ghost use Rattle.std.specs.Prelude.{◌≡◌};
 ghost use Rattle.fc_spec.specs.documents.Schema.{texts_held};
 
-use super::{block_of, schema_of};
+use super::segment_with;
 use fc_base::Schema;
-use fc_docs::Batch;
 use fc_docset::DocSet;
 use fc_domain::matches;
+use fc_fixtures::schema_of;
 use fc_query::parse;
 use fc_segment::Segment;
 use std::alloc::Global;
-use std::process::Abort;
 use std::test::Fail;
 
 const FIELDS: &str =
@@ -66,16 +65,6 @@ const MATCHES: &[(&str, u64)] = &[
     ("color:b -(color:a -sizes:3)", 0b01000),
 ];
 
-fn segment_of(rt: &impl Abort, alloc: Global, schema: &Schema) -> Result<Segment, Fail>
-    ensures { IfOk result (λ segment.
-        segment.texts ≡ texts_held schema.now.fields) }
-{
-    let block = block_of(alloc, schema, BLOCK)?;
-    assert!(rt; block.children.len() < 5);
-    let blocks = vec![in alloc; block]?;
-    Ok(Segment::build(alloc, schema, &Batch { blocks })?)
-}
-
 // The positions that match a query.
 fn matching(alloc: Global, schema: &Schema, segment: &Segment, text: &str) -> Result<DocSet, Fail>
     requires { segment.now.texts ≡ texts_held schema.now.fields }
@@ -90,7 +79,7 @@ fn matching(alloc: Global, schema: &Schema, segment: &Segment, text: &str) -> Re
 fn queries_match(rt: HostRuntime) -> Result<(), Fail> {
     let alloc = rt.alloc();
     let schema = schema_of(alloc, FIELDS)?;
-    let segment = segment_of(&rt, alloc, &schema)?;
+    let segment = segment_with(alloc, &schema, &[BLOCK])?;
     for (text, positions) in MATCHES {
         let set = matching(alloc, &schema, &segment, text)?;
         assert!(rt; set.words() == [*positions].as_slice(), "at {text}");

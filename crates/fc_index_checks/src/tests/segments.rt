@@ -1,44 +1,14 @@
 // Segments of small batches.
-ghost use Rattle.std.specs.Prelude.{◌≡◌, ◌<◌, ◌≤◌, ◌*◌, length, All, IfOk};
-ghost use Rattle.fc_spec.specs.documents.Totals.{document_total};
-ghost use Rattle.fc_spec.specs.documents.ValidBlocks.{IsBlockOf};
-ghost use Rattle.fc_docs.specs.View.{batch_view};
+ghost use Rattle.std.specs.Prelude.{◌≡◌, ◌<◌, length};
 
-use super::{block_of, schema_of};
+use super::segment_with;
 use fc_base::{FieldId, Schema};
-use fc_docs::Batch;
+use fc_fixtures::schema_of;
 use fc_segment::{Column, Segment};
 use std::alloc::Global;
 use std::fmt::Write;
 use std::process::Abort;
 use std::test::Fail;
-
-// The batch of these blocks, each of at most 4 documents.
-fn batch_of(rt: &impl Abort, alloc: Global, schema: &Schema, blocks: &[&str]) -> Result<Batch, Fail>
-    ensures valid { IfOk result (λ batch. All (IsBlockOf schema.now) (batch_view batch)) }
-    ensures few { IfOk result (λ batch. document_total (batch_view batch) ≤ 4 * length blocks.now) }
-{
-    let mut read = Vec::new(alloc);
-    for text in blocks {
-        let block = block_of(alloc, schema, text)?;
-        assert!(rt; block.children.len() < 4);
-        read.push(block)?;
-    }
-    Ok(Batch { blocks: read })
-}
-
-fn segment_of(
-    rt: &impl Abort,
-    alloc: Global,
-    schema: &Schema,
-    blocks: &[&str],
-) -> Result<Segment, Fail>
-    requires { length blocks.now ≤ 3 }
-    ensures { IfOk result (λ segment. length segment.texts ≡ length schema.now.fields) }
-{
-    let batch = batch_of(rt, alloc, schema, blocks)?;
-    Ok(Segment::build(alloc, schema, &batch)?)
-}
 
 // The values of each position, before a `/`.
 fn shown(alloc: Global, column: &Column) -> Result<String, Fail> {
@@ -160,8 +130,7 @@ fn check_segment(
 fn children_stand_before_their_parent(rt: HostRuntime) -> Result<(), Fail> {
     let schema = schema_of(rt.alloc(), FIELDS)?;
     for (blocks, count, parents, columns) in BATCHES {
-        assert!(rt; blocks.len() <= 3);
-        let segment = segment_of(&rt, rt.alloc(), &schema, blocks)?;
+        let segment = segment_with(rt.alloc(), &schema, blocks)?;
         assert!(rt; segment.doc_count() == count);
         check_segment(&rt, rt.alloc(), &schema, &segment, parents, &columns)?;
     }

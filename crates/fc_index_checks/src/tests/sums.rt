@@ -1,9 +1,9 @@
 // Absolute values of documents, added field by field, and how many values they have.
 ghost use Rattle.std.specs.Prelude.{◌≡◌, length};
 
-use super::{block_of, schema_of};
 use fc_base::Schema;
 use fc_docs::Document;
+use fc_fixtures::{block_of, json_of, schema_of};
 use std::alloc::Global;
 use std::test::Fail;
 
@@ -32,8 +32,8 @@ fn told(alloc: Global, first: &Document, second: &Document) -> Result<String, Fa
 }
 
 fn told_of(alloc: Global, schema: &Schema, first: &str, second: &str) -> Result<String, Fail> {
-    let first = block_of(alloc, schema, first)?;
-    let second = block_of(alloc, schema, second)?;
+    let first = block_of(alloc, schema, json_of(alloc, first)?)?;
+    let second = block_of(alloc, schema, json_of(alloc, second)?)?;
     told(alloc, &first.parent, &second.parent)
 }
 

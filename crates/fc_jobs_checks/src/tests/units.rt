@@ -10,18 +10,18 @@ ghost use Rattle.fc_request.specs.FacetNode.{kind_of, kind_view};
 ghost use Rattle.fc_request.specs.RequestView.{request_view};
 ghost use Rattle.fc_kind.specs.Names.{Covers};
 
-use super::made::{facet_at, position_of, positions_of, request_of, schema_of, segment_of, set_of};
+use super::made::{facet_at, position_of, set_of};
 use super::own::own_kinds;
-use fc_base::{Schema, Val};
+use fc_base::Schema;
 use fc_docset::DocSet;
 use fc_facet::Kind;
+use fc_fixtures::{positions_of, request_of, schema_of, segment_of, shown};
 use fc_jobs::{facet_unit, tally_of};
 use fc_kind::FacetKind;
-use fc_partial::{Key, PartialBucket, StatValue, Stats};
+use fc_partial::{Key, PartialBucket};
 use fc_request::{Node, Request};
 use fc_segment::Segment;
 use std::alloc::Global;
-use std::fmt::Write;
 use std::test::Fail;
 
 const FIELDS: &str = r#"{"shards":1,"fields":{"cat":"string","n":"plongs"}}"#;
@@ -43,56 +43,10 @@ const REQUEST: &str = r#"{"facet":{"q":{"type":"query","q":"cat:*","facet":{
 const ROWS: &str = "0 1 2 3 4 ~0 1 2 4 ~a 2 7; b 1 -4; p 1 1; ~0
 1 2 3 ~1 2 ~a 1 0; b 1 -4; ~0
 3 ~~~0
-3 4 ~0 1 2 3 ~0 1 7; 1 1 7; before 1 -4; between 1 7; after 1 12; ~1
+3 4 ~0 1 2 3 ~#0 1 7; #1 1 7; before 1 -4; between 1 7; after 1 12; ~1
 0 3 ~~~1
 0 1 2 ~1 ~whole 1 -4; ~2
 0 2 4 ~~~2";
-
-// The word for a key without a value or a number.
-fn word_of(key: &Key) -> &'static str {
-    match key {
-        Key::Missing => "missing",
-        Key::Before => "before",
-        Key::Between => "between",
-        Key::After => "after",
-        Key::Whole => "whole",
-        Key::Value(_) | Key::Gap(_) => "",
-    }
-}
-
-fn write_key(text: &mut String, key: &Key) -> Result<(), Fail> {
-    match key {
-        Key::Value(Val::Text(name)) => text.push_str(name.text())?,
-        Key::Value(Val::Long(number)) => write!(text, "{number}")?,
-        Key::Gap(number) => write!(text, "{number}")?,
-        _ => text.push_str(word_of(key))?,
-    }
-    Ok(())
-}
-
-fn write_stats(text: &mut String, stats: &Stats) -> Result<(), Fail> {
-    write!(text, "{}", stats.count)?;
-    for value in &stats.values {
-        match value {
-            StatValue::Number(number) | StatValue::Extreme(Some(number)) => {
-                write!(text, " {number}")?;
-            }
-            StatValue::Extreme(None) => text.push_str(" -")?,
-        }
-    }
-    Ok(())
-}
-
-fn shown(alloc: Global, buckets: &[PartialBucket]) -> Result<String, Fail> {
-    let mut text = String::new(alloc);
-    for bucket in buckets {
-        write_key(&mut text, &bucket.key)?;
-        text.push_str(" ")?;
-        write_stats(&mut text, &bucket.stats)?;
-        text.push_str("; ")?;
-    }
-    Ok(text)
-}
 
 // Whether it is a query facet, which has one bucket.
 fn has_one(node: &Node) -> bool

@@ -1,6 +1,7 @@
 // Terms facets, behind a box.
 use fc_base::{Name, Val};
-use fc_kind_asking::{demand, found, node_of, segment_from, selected, terms_of};
+use fc_fixtures::demand;
+use fc_kind_asking::{found, node_of, segment_from, selected, terms_of};
 use fc_partial::Key;
 use fc_request::Node;
 use std::alloc::Global;

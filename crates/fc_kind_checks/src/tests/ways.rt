@@ -2,7 +2,8 @@
 use super::terms::{CAT, FIELDS, N};
 use fc_base::{FieldId, Stat, StatKind};
 use fc_facet::{Kind, Range};
-use fc_kind_asking::{demand, found, node_of, push_number, terms_of};
+use fc_fixtures::{demand, push_number};
+use fc_kind_asking::{found, node_of, terms_of};
 use std::alloc::Global;
 use std::test::Fail;
 
@@ -113,20 +114,20 @@ const BOTH: [Row; 7] = [
         children: FIVE,
         facet: CATS,
         docs: &[0, 1, 2, 3, 4],
-        wanted: "a 1: 4 1 3 2 0; b 3: 14 1 7 4 1; ba 1: 1 -2 3 2 0; c 1: 1 -2 3 2 0; \
-            missing 1: 5 5 5 0 0; ",
+        wanted: "a 1 4 1 3 2 0; b 3 14 1 7 4 1; ba 1 1 -2 3 2 0; c 1 1 -2 3 2 0; \
+            missing 1 5 5 5 0 0; ",
     },
     Row {
         children: FIVE,
         facet: BS,
         docs: &[1, 2, 3, 4],
-        wanted: "b 2: 10 3 7 2 1; ba 1: 1 -2 3 2 0; ",
+        wanted: "b 2 10 3 7 2 1; ba 1 1 -2 3 2 0; ",
     },
     Row {
         children: FIVE,
         facet: CATS,
         docs: &[1],
-        wanted: "b 1: 0 - - 1 1; ",
+        wanted: "b 1 0 - - 1 1; ",
     },
     Row {
         children: FIVE,
@@ -138,14 +139,14 @@ const BOTH: [Row; 7] = [
         children: FIVE,
         facet: LONGS,
         docs: &[0, 1, 2, 3, 4],
-        wanted: "-2 1: 1 -2 3 2 0; 1 1: 4 1 3 2 0; 3 3: 15 -2 7 5 0; 5 1: 5 5 5 0 0; \
-            7 1: 10 3 7 1 0; missing 1: 0 - - 1 1; ",
+        wanted: "-2 1 1 -2 3 2 0; 1 1 4 1 3 2 0; 3 3 15 -2 7 5 0; 5 1 5 5 5 0 0; \
+            7 1 10 3 7 1 0; missing 1 0 - - 1 1; ",
     },
     Row {
         children: FIVE,
         facet: LONGS,
         docs: &[1],
-        wanted: "missing 1: 0 - - 1 1; ",
+        wanted: "missing 1 0 - - 1 1; ",
     },
     Row {
         children: FIVE,
@@ -161,14 +162,14 @@ const WHOLE: [Row; 2] = [
         children: FIVE,
         facet: CATS,
         docs: &[0, 1, 2, 3, 4, 5],
-        wanted: "a 1: 4 1 3 2 0; b 3: 14 1 7 4 1; ba 1: 1 -2 3 2 0; c 1: 1 -2 3 2 0; \
-            missing 2: 5 5 5 0 1; ",
+        wanted: "a 1 4 1 3 2 0; b 3 14 1 7 4 1; ba 1 1 -2 3 2 0; c 1 1 -2 3 2 0; \
+            missing 2 5 5 5 0 1; ",
     },
     Row {
         children: FIVE,
         facet: BS,
         docs: &[0, 1, 2, 3, 4, 5],
-        wanted: "b 3: 14 1 7 4 1; ba 1: 1 -2 3 2 0; ",
+        wanted: "b 3 14 1 7 4 1; ba 1 1 -2 3 2 0; ",
     },
 ];
 
@@ -178,19 +179,19 @@ const FEW: [Row; 3] = [
         children: THIRTEEN,
         facet: CATS,
         docs: &[0, 2, 4],
-        wanted: "a 1: 4 1 3 2 0; b 2: 14 1 7 3 0; ba 1: 1 -2 3 2 0; c 1: 1 -2 3 2 0; ",
+        wanted: "a 1 4 1 3 2 0; b 2 14 1 7 3 0; ba 1 1 -2 3 2 0; c 1 1 -2 3 2 0; ",
     },
     Row {
         children: THIRTEEN,
         facet: CATS,
         docs: &[1, 2, 3],
-        wanted: "b 1: 0 - - 1 1; ba 1: 1 -2 3 2 0; c 1: 1 -2 3 2 0; missing 1: 5 5 5 0 0; ",
+        wanted: "b 1 0 - - 1 1; ba 1 1 -2 3 2 0; c 1 1 -2 3 2 0; missing 1 5 5 5 0 0; ",
     },
     Row {
         children: THIRTEEN,
         facet: BS,
         docs: &[0, 1, 4],
-        wanted: "b 3: 14 1 7 4 1; ",
+        wanted: "b 3 14 1 7 4 1; ",
     },
 ];
 
@@ -200,31 +201,31 @@ const SUMS: [Row; 5] = [
         children: FIVE,
         facet: CATS,
         docs: &[0, 1, 2, 3, 4, 5],
-        wanted: "a 1: 4; b 3: 14; ba 1: 1; c 1: 1; missing 2: 5; ",
+        wanted: "a 1 4; b 3 14; ba 1 1; c 1 1; missing 2 5; ",
     },
     Row {
         children: FIVE,
         facet: BS,
         docs: &[0, 2, 3],
-        wanted: "b 1: 4; ba 1: 1; ",
+        wanted: "b 1 4; ba 1 1; ",
     },
     Row {
         children: THIRTEEN,
         facet: CATS,
         docs: &[0, 3, 4],
-        wanted: "a 1: 4; b 2: 14; missing 1: 5; ",
+        wanted: "a 1 4; b 2 14; missing 1 5; ",
     },
     Row {
         children: FIVE,
         facet: LONGS,
         docs: &[0, 1, 2, 3, 4],
-        wanted: "-2 1: 1; 1 1: 4; 3 3: 15; 5 1: 5; 7 1: 10; missing 1: 0; ",
+        wanted: "-2 1 1; 1 1 4; 3 3 15; 5 1 5; 7 1 10; missing 1 0; ",
     },
     Row {
         children: FIVE,
         facet: Facet::Gaps,
         docs: &[0, 1, 2, 3, 4],
-        wanted: "gap 0 1: 4; gap 1 4: 20; before 1: 1; between 4: 20; after 1: 10; ",
+        wanted: "#0 1 4; #1 4 20; before 1 1; between 4 20; after 1 10; ",
     },
 ];
 
@@ -234,46 +235,46 @@ const APART: [Row; 7] = [
         children: NEAR,
         facet: LONGS,
         docs: &[0, 1],
-        wanted: "-36 1: -36 -36 -36 0 0; 0 1: 36 0 36 0 0; 36 1: 36 0 36 0 0; ",
+        wanted: "-36 1 -36 -36 -36 0 0; 0 1 36 0 36 0 0; 36 1 36 0 36 0 0; ",
     },
     Row {
         children: NEXT,
         facet: LONGS,
         docs: &[0, 1],
-        wanted: "-36 1: -36 -36 -36 0 0; 0 1: 37 0 37 0 0; 37 1: 37 0 37 0 0; ",
+        wanted: "-36 1 -36 -36 -36 0 0; 0 1 37 0 37 0 0; 37 1 37 0 37 0 0; ",
     },
     Row {
         children: LEAST,
         facet: LONGS,
         docs: &[0],
-        wanted: "-9223372036854775807 1: -9223372036854775807 -9223372036854775807 -9223372036854775807 0 0; ",
+        wanted: "-9223372036854775807 1 -9223372036854775807 -9223372036854775807 -9223372036854775807 0 0; ",
     },
     Row {
         children: GREATEST,
         facet: LONGS,
         docs: &[0, 1],
-        wanted: "9223372036854775807 1: 9223372036854775807 9223372036854775807 9223372036854775807 0 0; \
-            missing 1: 0 - - 0 1; ",
+        wanted: "9223372036854775807 1 9223372036854775807 9223372036854775807 9223372036854775807 0 0; \
+            missing 1 0 - - 0 1; ",
     },
     Row {
         children: LEAST_AND_ZERO,
         facet: LONGS,
         docs: &[0, 1],
-        wanted: "-9223372036854775807 1: -9223372036854775807 -9223372036854775807 0 0 0; \
-            0 2: -9223372036854775807 -9223372036854775807 0 0 0; ",
+        wanted: "-9223372036854775807 1 -9223372036854775807 -9223372036854775807 0 0 0; \
+            0 2 -9223372036854775807 -9223372036854775807 0 0 0; ",
     },
     Row {
         children: GREATEST_AND_ZERO,
         facet: LONGS,
         docs: &[0, 1],
-        wanted: "0 2: 9223372036854775807 0 9223372036854775807 0 0; \
-            9223372036854775807 1: 9223372036854775807 0 9223372036854775807 0 0; ",
+        wanted: "0 2 9223372036854775807 0 9223372036854775807 0 0; \
+            9223372036854775807 1 9223372036854775807 0 9223372036854775807 0 0; ",
     },
     Row {
         children: GREATEST_AND_ZERO,
         facet: LONGS,
         docs: &[1],
-        wanted: "0 1: 0 0 0 0 0; ",
+        wanted: "0 1 0 0 0 0 0; ",
     },
 ];
 
@@ -282,14 +283,14 @@ const IN_GAPS: [Row; 2] = [
         children: FIVE,
         facet: Facet::Gaps,
         docs: &[0, 1, 2, 3, 4],
-        wanted: "gap 0 1: 4 1 3 2 0; gap 1 4: 20 -2 7 5 0; before 1: 1 -2 3 2 0; \
-            between 4: 20 -2 7 5 0; after 1: 10 3 7 1 0; ",
+        wanted: "#0 1 4 1 3 2 0; #1 4 20 -2 7 5 0; before 1 1 -2 3 2 0; \
+            between 4 20 -2 7 5 0; after 1 10 3 7 1 0; ",
     },
     Row {
         children: GREATEST,
         facet: Facet::Gaps,
         docs: &[0, 1],
-        wanted: "after 1: 9223372036854775807 9223372036854775807 9223372036854775807 0 0; ",
+        wanted: "after 1 9223372036854775807 9223372036854775807 9223372036854775807 0 0; ",
     },
 ];
 

@@ -7,11 +7,12 @@ ghost use Rattle.fc_phase_checks.specs.Cases.{CanAsk};
 
 use super::kinds::kinds_of;
 use super::messages::text_of;
-use super::rows::{Row, documents_of, numbers_of, row_of};
-use super::shards::{Cut, generation_of, request_of, schema_of};
+use super::rows::{Row, documents_of, row_of};
+use super::shards::{Cut, generation_of, shared_schema};
 use super::wants::can_ask;
 use super::ways::ask_of;
 use fc_base::Schema;
+use fc_fixtures::{numbers_of, request_of};
 use fc_kind::FacetKind;
 use fc_partial::Message;
 use fc_phase::{PhaseFuture, Turn};
@@ -19,6 +20,7 @@ use fc_refine::Ask;
 use fc_request::Request;
 use fc_store::Generation;
 use futures::executor::block_on;
+use serde_json::Value;
 use std::alloc::{AllocGlobal, Global};
 use std::process::Abort;
 use std::random::RandomSource;
@@ -40,7 +42,7 @@ pub(super) struct Case {
 }
 
 // A commit makes a segment if it has a document.
-fn segments_of(documents: &[&str], cut: Cut) -> u64 {
+fn segments_of(documents: &[Value], cut: Cut) -> u64 {
     match cut {
         Cut::Each => documents.len() as u64,
         Cut::Once | Cut::Between => u64::from(!documents.is_empty()),
@@ -207,7 +209,7 @@ fn check(
 ) -> Result<(), Fail>
     requires { Covers (map name kinds.now) }
 {
-    let schema = schema_of(alloc)?;
+    let schema = shared_schema(alloc)?;
     for cut in cuts {
         let case = case_of(rt, alloc, &schema, row, *cut)?;
         check_turns(rt, alloc, &case, kinds, row, calls, least)?;

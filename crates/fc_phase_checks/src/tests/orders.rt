@@ -8,7 +8,7 @@ use super::driving::{Case, case_of, future_of, turn_of};
 use super::kinds::kinds_of;
 use super::messages::text_of;
 use super::rows::Row;
-use super::shards::{Cut, schema_of};
+use super::shards::{Cut, shared_schema};
 use fc_kind::FacetKind;
 use fc_partial::Message;
 use fc_phase::PhaseFuture;
@@ -102,7 +102,7 @@ fn orders_of_turns(rt: HostRuntime) -> Result<(), Fail> {
     let alloc = rt.alloc();
     let calls = Arc::new(alloc, AtomicU64::new(0))?;
     let kinds = kinds_of(&rt, alloc, &calls)?;
-    let schema = schema_of(alloc)?;
+    let schema = shared_schema(alloc)?;
     let one = case_of(&rt, alloc, &schema, &ONE, Cut::Each)?;
     let other = case_of(&rt, alloc, &schema, &OTHER, Cut::Each)?;
     in_all_orders(&rt, alloc, &one, &other, &kinds)

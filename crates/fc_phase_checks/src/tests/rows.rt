@@ -1,4 +1,6 @@
 // Rows of tests, and the documents that they name.
+use fc_fixtures::json_of;
+use serde_json::Value;
 use std::alloc::Global;
 use std::test::Fail;
 
@@ -30,15 +32,6 @@ pub(super) fn row_of(text: &str) -> Row<'_> {
         left: line_at(text, 4),
         message: line_at(text, 5),
     }
-}
-
-// The numbers between spaces.
-pub(super) fn numbers_of(alloc: Global, text: &str) -> Result<Vec<u64>, Fail> {
-    let mut numbers = Vec::new(alloc);
-    for word in text.split(' ') {
-        numbers.push(word.parse().map_err(|_| Fail::new("a number"))?)?;
-    }
-    Ok(numbers)
 }
 
 // Names, and behind each a block on each line. Those of `left` and `right` stand in two shards; of `skus`, there are
@@ -119,11 +112,11 @@ fn lines_behind(name: &str) -> Result<&'static str, Fail> {
 }
 
 // The blocks of a name.
-pub(super) fn documents_of(alloc: Global, name: &str) -> Result<Vec<&'static str>, Fail> {
+pub(super) fn documents_of(alloc: Global, name: &str) -> Result<Vec<Value>, Fail> {
     let mut documents = Vec::new(alloc);
     for line in lines_behind(name)?.split('\n') {
         if !line.is_empty() {
-            documents.push(line)?;
+            documents.push(json_of(alloc, line)?)?;
         }
     }
     Ok(documents)

@@ -1,71 +1,20 @@
 // Whether what is wanted names facets and keys of a request.
-ghost use Rattle.std.specs.Prelude.{◌≡◌, ◌<◌, None, true, map, IfSome, IsTrue};
+ghost use Rattle.std.specs.Prelude.{◌≡◌, ◌<◌, map, IfSome, IsTrue};
 ghost use Rattle.std.specs.Bool.{OnTrue};
 ghost use Rattle.std.specs.List.{AllByRecursion};
 ghost use Rattle.fc_spec.specs.laws.LacksLaws.{has_key, names_keys};
 ghost use Rattle.fc_spec.specs.messages.Message.{way_of};
 ghost use Rattle.fc_spec.specs.messages.Target.{facet_at, nodes_in};
-ghost use Rattle.fc_spec.specs.requests.Buckets.{is_key_of, is_range_key, is_terms_key};
-ghost use Rattle.fc_facet.specs.KindView.{range_view, terms_view};
-ghost use Rattle.fc_facet.specs.RangeGaps.{HasFewGaps};
 ghost use Rattle.fc_partial.specs.View.{key_view};
 ghost use Rattle.fc_refine.specs.AskView.{ask_view, want_view};
-ghost use Rattle.fc_request.specs.FacetNode.{has_buckets, kind_of, kind_view};
 ghost use Rattle.fc_request.specs.NodeView.{nodes_view};
 ghost use Rattle.fc_refine.specs.Named.{NamesKeys};
 ghost use Rattle.fc_phase.specs.Asked.{asked_count};
 
+use fc_fixtures::is_key;
 use fc_partial::Key;
 use fc_refine::{Ask, Want};
-use fc_request::{Kind, Node, Range, Terms};
-
-// Whether there are so few gaps that they have numbers.
-fn has_few_gaps(range: &Range) -> bool
-    ensures { result ≡ true → HasFewGaps (range_view range.now) }
-{
-    if range.end < range.start || range.gap < 1 {
-        return false;
-    }
-    let width = range.end.abs_diff(range.start);
-    width.div_ceil(range.gap.unsigned_abs()) <= 10_000
-}
-
-fn has_range_key(range: &Range, key: &Key) -> bool
-    requires { HasFewGaps (range_view range.now) }
-    ensures { result ≡ is_range_key (range_view range.now) (key_view key.now) }
-{
-    match key {
-        Key::Gap(number) => *number < range.gaps(),
-        Key::Before => range.before,
-        Key::Between => range.between,
-        Key::After => range.after,
-        _ => false,
-    }
-}
-
-fn has_terms_key(terms: &Terms, key: &Key) -> bool
-    requires { terms.now.prefix ≡ None }
-    ensures { result ≡ is_terms_key (terms_view terms.now) (key_view key.now) }
-{
-    match key {
-        Key::Value(_) => true,
-        Key::Missing => terms.missing,
-        _ => false,
-    }
-}
-
-// Whether it is a key of a facet without a prefix.
-fn is_key(node: &Node, key: &Key) -> bool
-    ensures facet { OnTrue result (IsTrue (has_buckets (kind_of node.now))) }
-    ensures key { OnTrue result (IsTrue (is_key_of (kind_view (kind_of node.now)) (key_view key.now))) }
-{
-    match &node.kind {
-        Kind::Terms(terms) => terms.prefix.is_none() && has_terms_key(terms, key),
-        Kind::Range(range) => has_few_gaps(range) && has_range_key(range, key),
-        Kind::Query(_) => matches!(key, Key::Whole),
-        Kind::Stat(_) => false,
-    }
-}
+use fc_request::Node;
 
 // The nodes nested in the facet of a number, where the key is one of its own.
 fn nodes_inside<'a>(nodes: &'a [Node], number: u32, key: &Key) -> Option<&'a [Node]>

@@ -10,8 +10,9 @@ ghost use Rattle.fc_kind.specs.Columns.{FitsColumns};
 use fc_base::{FieldId, Schema, Stat, StatKind};
 use fc_docset::DocSet;
 use fc_facet::Kind;
+use fc_fixtures::{segment_of, shown};
 use fc_kind::set_stats;
-use fc_kind_asking::{collected_by, node_of, schema_of, segment_of, selected_by, shown};
+use fc_kind_asking::{collected_by, node_of, schema_with, selected_by};
 use fc_partial::{Key, StatValue};
 use fc_query::{Query, parse};
 use fc_request::Node;
@@ -48,7 +49,7 @@ const STATS: [Stat; 4] = [
 #[test]
 fn statistics_of_sets(rt: HostRuntime) -> Result<(), Fail> {
     let alloc = rt.alloc();
-    let schema = schema_of(alloc, FIELDS, 3)?;
+    let schema = schema_with(alloc, FIELDS, 3)?;
     let segment = segment_of(alloc, &schema, BLOCK)?;
     let all = DocSet::full(alloc, segment.doc_count())?;
     let stats = set_stats(alloc, &segment, &STATS, &all)?;
@@ -82,31 +83,31 @@ const ROWS: [Row; 9] = [
         query: "*:*",
         docs: &[1, 3],
         whole: &[1, 3],
-        wanted: "whole 2: 5 -4 2 0; ",
+        wanted: "whole 2 5 -4 2 0; ",
     },
     Row {
         query: "cat:a",
         docs: &[0, 1, 2],
         whole: &[0, 2],
-        wanted: "whole 2: 7 2 2 1; ",
+        wanted: "whole 2 7 2 2 1; ",
     },
     Row {
         query: "-cat:a",
         docs: &[0, 1, 2, 3],
         whole: &[1],
-        wanted: "whole 1: -4 -4 1 0; ",
+        wanted: "whole 1 -4 -4 1 0; ",
     },
     Row {
         query: "cat:a AND price:[3 TO 9]",
         docs: &[0, 1, 2],
         whole: &[0],
-        wanted: "whole 1: 7 2 1 0; ",
+        wanted: "whole 1 7 2 1 0; ",
     },
     Row {
         query: "-price:*",
         docs: &[2, 3],
         whole: &[2],
-        wanted: "whole 1: 0 - 1 1; ",
+        wanted: "whole 1 0 - 1 1; ",
     },
     // What matches is not in the domain.
     Row {
@@ -181,7 +182,7 @@ fn check(
 #[test]
 fn buckets_of_queries(rt: HostRuntime) -> Result<(), Fail> {
     let alloc = rt.alloc();
-    let schema = schema_of(alloc, FIELDS, 3)?;
+    let schema = schema_with(alloc, FIELDS, 3)?;
     let segment = segment_of(alloc, &schema, FOUR)?;
     for row in &ROWS {
         check(&rt, alloc, &schema, &segment, row)?;

@@ -12,12 +12,12 @@ batches-push : (s : Schema) (batches : List Batch) (b : Batch) → All (IsBatchO
 batches-push s batches b before here = subst (All (IsBatchOf s)) (sym (map_push batch_view batches b)) (All-push (IsBatchOf s) (map batch_view batches) (batch_view b) before here)
 
 pub loop-blocks-preserved : goal.loop-blocks-preserved
-loop-blocks-preserved g c =
+loop-blocks-preserved c =
     let before = c.loop-blocks.read.items in
     let batch = c.in_ok-batch_of.field-0 in
     let push : c.push.new.self.items ≡ before ++ batch ∷ [] = search rules in
     let count : length c.push.new.self.items ≡ c.loop-blocks.blocks-index + 1 = search rules in
     record {
-      all = subst (λ z. All (IsBatchOf c.args.schema.now) (map batch_view z)) (sym push) (batches-push c.args.schema.now before batch c.loop-blocks.invariant.all c.in_ok-batch_of.ensures);
+      all = subst (λ z. All (IsBatchOf c.args.schema.now) (map batch_view z)) (sym push) (batches-push c.args.schema.now before batch c.loop-blocks.invariant.all (record { valid = c.in_ok-batch_of.ensures.valid; few = c.in_ok-batch_of.ensures.few }));
       count = count;
     }

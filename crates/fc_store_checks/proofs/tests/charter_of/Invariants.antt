@@ -4,7 +4,7 @@ use Rattle.fc_store.specs.Charters.{IsBatchOf}
 use Rattle.fc_store_checks.proofs.tests.charter_of.Given as goal
 
 abbrev pub invariant-loop-blocks : goal.invariant-loop-blocks
-invariant-loop-blocks g l = record {
+invariant-loop-blocks l = record {
   all : All (IsBatchOf l.schema) (map batch_view l.read.items);
   count : length l.read.items ≡ l.blocks-index;
 }

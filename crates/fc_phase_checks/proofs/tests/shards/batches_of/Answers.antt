@@ -5,10 +5,10 @@ use Rattle.fc_docs.specs.View.{batch_view}
 use Rattle.fc_store.specs.Charters.{IsBatchOf}
 use Rattle.fc_phase_checks.proofs.tests.shards.batches_of.Goals as goal
 
-pub loop-lines-preserved : goal.loop-lines-preserved
-loop-lines-preserved c =
+pub loop-documents-preserved : goal.loop-documents-preserved
+loop-documents-preserved c =
     let Fits = IsBatchOf c.args.schema.now in
-    let before = c.loop-lines.batches.items in
+    let before = c.loop-documents.batches.items in
     let batch = c.in_ok-batch_of.field-0 in
     subst (All Fits) (sym (ap (map batch_view) c.in_ok-push.ensures.items ∙ map_push batch_view before batch))
-    (All-push Fits (map batch_view before) (batch_view batch) c.loop-lines.invariant c.in_ok-batch_of.ensures)
+    (All-push Fits (map batch_view before) (batch_view batch) c.loop-documents.invariant (record { valid = c.in_ok-batch_of.ensures.valid; few = c.in_ok-batch_of.ensures.few }))

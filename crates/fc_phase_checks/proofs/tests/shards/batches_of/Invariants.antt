@@ -3,5 +3,5 @@ use Rattle.fc_docs.specs.View.{batch_view}
 use Rattle.fc_store.specs.Charters.{IsBatchOf}
 use Rattle.fc_phase_checks.proofs.tests.shards.batches_of.Given as goal
 
-abbrev pub invariant-loop-lines : goal.invariant-loop-lines
-invariant-loop-lines l = All (IsBatchOf l.schema) (map batch_view l.batches.items)
+abbrev pub invariant-loop-documents : goal.invariant-loop-documents
+invariant-loop-documents l = All (IsBatchOf l.schema) (map batch_view l.batches.items)
