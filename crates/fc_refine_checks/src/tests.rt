@@ -4,3 +4,4 @@ mod gather;
 mod lists;
 mod rows;
 mod shards;
+mod words;

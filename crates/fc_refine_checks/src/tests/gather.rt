@@ -12,6 +12,7 @@ ghost use Rattle.fc_refine_checks.specs.Asked.{AsksTerms, IsAsked, outermost};
 ghost use Rattle.fc_refine_checks.specs.Small.{AreSmallParts, are_small, are_small_stats, are_small_values, has_told, is_small_value};
 
 use super::build::{Bucket, only, tally};
+use super::words::buckets_of;
 use fc_partial::{Key, Message, PartialBucket, PartialNode, StatValue, Stats};
 use fc_refine::{Ask, Candidate, Candidates, offered, shaped, top};
 use fc_request::{Kind, Node, Request};
@@ -23,7 +24,7 @@ use std::test::Fail;
 const MOST: u64 = 4_294_967_296;
 
 // What a shard that has these buckets tells of the facet when it is asked first.
-pub(super) fn message(
+fn message(
     rt: &impl Abort,
     alloc: Global,
     request: &Request,
@@ -144,18 +145,20 @@ fn add<'a>(
     Ok(())
 }
 
-// What each of these shards tells.
+// What each of these shards tells: a shard is its number and its buckets, and stands before `/`.
 pub(super) fn messages(
     rt: &impl Abort,
     alloc: Global,
     request: &Request,
-    shards: &[(u32, &[Bucket])],
+    shards: &str,
 ) -> Result<Vec<(u32, Message)>, Fail>
     requires { AsksTerms request.now }
 {
     let mut messages = Vec::new(alloc);
-    for (shard, buckets) in shards {
-        messages.push((*shard, message(rt, alloc, request, buckets)?))?;
+    for text in shards.split_terminator('/') {
+        let (shard, buckets) = text.split_once(' ').ok_or("no shard")?;
+        let buckets = buckets_of(alloc, buckets)?;
+        messages.push((shard.parse()?, message(rt, alloc, request, &buckets)?))?;
     }
     Ok(messages)
 }

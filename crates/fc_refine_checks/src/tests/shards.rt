@@ -1,146 +1,100 @@
 // Many shards, and shards in every order.
 ghost use Rattle.fc_refine_checks.specs.Asked.{AsksTerms};
 
-use super::build::{Asked, Bucket, request};
-use super::gather::{chosen, message, messages};
-use super::rows::{Chosen, ONE, check_candidate, check_chosen};
-use fc_partial::Message;
-use fc_refine::Candidate;
+use super::build::request;
+use super::gather::{chosen, messages};
+use super::rows::candidates_text;
+use super::words::asked_of;
+use fc_fixtures::demand;
 use fc_request::Request;
 use std::alloc::Global;
+use std::fmt::Write;
 use std::process::Abort;
 use std::test::Fail;
 
+fn candidates_of(
+    rt: &impl Abort,
+    alloc: Global,
+    request: &Request,
+    shards: &str,
+) -> Result<String, Fail>
+    requires { AsksTerms request.now }
+{
+    let messages = messages(rt, alloc, request, shards)?;
+    candidates_text(alloc, chosen(rt, alloc, request, &messages)?)
+}
+
+// What is chosen of what shards have.
+fn found(rt: &impl Abort, alloc: Global, asked: &str, shards: &str) -> Result<String, Fail> {
+    let request = request(alloc, asked_of(asked)?)?;
+    candidates_of(rt, alloc, &request, shards)
+}
+
 // The value that this shard alone has: of two digits, so that they stand in the order of the shards.
-fn value_of(alloc: Global, shard: u32) -> Result<String, Fail> {
-    let number = 10 + u64::from(shard);
-    Ok(format!(in alloc; "v{number}")?)
+fn number_of(shard: u32) -> u64 {
+    10 + u64::from(shard)
 }
 
-// What the shard tells that has a value of its own, and one in common with all.
-fn own_message(
-    rt: &impl Abort,
-    alloc: Global,
-    request: &Request,
-    shard: u32,
-) -> Result<Message, Fail>
-    requires { AsksTerms request.now }
-{
-    let own = value_of(alloc, shard)?;
-    let has = [("all", 2, -1, Some(-1)), (own.as_str(), 1, 1, None)];
-    message(rt, alloc, request, &has)
-}
-
-fn own_messages(
-    rt: &impl Abort,
-    alloc: Global,
-    request: &Request,
-) -> Result<Vec<(u32, Message)>, Fail>
-    requires { AsksTerms request.now }
-{
-    let mut messages = Vec::new(alloc);
+// What 64 shards have: each a value of its own, and one in common with all.
+fn all_shards(alloc: Global) -> Result<String, Fail> {
+    let mut text = String::new(alloc);
     for shard in 0..64 {
-        messages.push((shard, own_message(rt, alloc, request, shard)?))?;
+        write!(text, "{shard} all 2 -1 -1; v{} 1 1 -; /", number_of(shard))?;
     }
-    Ok(messages)
+    Ok(text)
 }
 
-fn chosen_of_own(rt: &impl Abort, alloc: Global, request: &Request) -> Result<Vec<Candidate>, Fail>
-    requires { AsksTerms request.now }
-{
-    let messages = own_messages(rt, alloc, request)?;
-    chosen(rt, alloc, request, &messages)
-}
-
-fn chosen_of_many(rt: &impl Abort, alloc: Global) -> Result<Vec<Candidate>, Fail> {
-    let asked = Asked {
-        limit: Some(2),
-        ..ONE
-    };
-    let request = request(alloc, asked)?;
-    chosen_of_own(rt, alloc, &request)
-}
-
-fn all_shards(alloc: Global) -> Result<Vec<u32>, Fail> {
-    let mut shards = Vec::new(alloc);
+fn all_values(alloc: Global) -> Result<String, Fail> {
+    let mut text = String::from_str(alloc, "all 128 -64 -1 of")?;
     for shard in 0..64 {
-        shards.push(shard)?;
+        write!(text, " {shard}")?;
     }
-    Ok(shards)
+    text.push_str("/")?;
+    for shard in 0..64 {
+        write!(text, "v{} 1 1 - of {shard}/", number_of(shard))?;
+    }
+    Ok(text)
 }
 
-fn check_alone(
-    rt: &impl Abort,
-    alloc: Global,
-    shard: u32,
-    candidate: &Candidate,
-) -> Result<(), Fail> {
-    let own = value_of(alloc, shard)?;
-    let own_shard = [shard];
-    let alone = ((own.as_str(), 1, 1, None), own_shard.as_slice());
-    check_candidate(rt, alloc, 1, candidate, &alone)
-}
-
-// 64 shards, each with a value of its own and one in common.
 #[test]
 fn many(rt: HostRuntime) -> Result<(), Fail> {
     let alloc = rt.alloc();
-    let chosen = chosen_of_many(&rt, alloc)?;
-    assert!(rt; chosen.len() == 65);
     let shards = all_shards(alloc)?;
-    let all = (("all", 128, -64, Some(-1)), shards.as_slice());
-    check_candidate(&rt, alloc, 0, &chosen[0], &all)?;
-    for (shard, candidate) in shards.iter().zip(&chosen[1..]) {
-        check_alone(&rt, alloc, *shard, candidate)?;
-    }
-    Ok(())
+    let found = found(&rt, alloc, "limit=2", &shards)?;
+    demand(&found, &all_values(alloc)?)
 }
 
-const SHARDS: [(u32, &[Bucket<'static>]); 3] = [
-    (0, &[("a", 3, 1, Some(1)), ("b", 2, 2, None)]),
-    (1, &[("b", 2, 4, Some(8)), ("c", 3, -5, Some(-3))]),
-    (7, &[("a", 1, 16, None), ("c", 2, 32, Some(-4))]),
+const SHARDS: [&str; 3] = [
+    "0 a 3 1 1; b 2 2 -; /",
+    "1 b 2 4 8; c 3 -5 -3; /",
+    "7 a 1 16 -; c 2 32 -4; /",
 ];
 
 // a: 4 on the first and the last; b: 4 on the first two; c: 5 on the last two.
-const CHOSEN: &[Chosen<'static>] = &[
-    (("c", 5, 27, Some(-4)), &[1, 7]),
-    (("a", 4, 17, Some(1)), &[0, 7]),
-    (("b", 4, 6, Some(8)), &[0, 1]),
-];
+const CHOSEN: &str = "c 5 27 -4 of 1 7/a 4 17 1 of 0 7/b 4 6 8 of 0 1/";
 
-const ORDERS: [(usize, usize, usize); 6] = [
-    (0, 1, 2),
-    (0, 2, 1),
-    (1, 0, 2),
-    (1, 2, 0),
-    (2, 0, 1),
-    (2, 1, 0),
-];
+const ORDERS: &str = "0 1 2
+0 2 1
+1 0 2
+1 2 0
+2 0 1
+2 1 0";
 
-fn check_order(
-    rt: &impl Abort,
-    alloc: Global,
-    row: usize,
-    request: &Request,
-    order: (usize, usize, usize),
-) -> Result<(), Fail>
-    requires { AsksTerms request.now }
-{
-    let (a, b, c) = order;
-    assert!(rt; a < 3 && b < 3 && c < 3);
-    let shards = [SHARDS[a], SHARDS[b], SHARDS[c]];
-    let messages = messages(rt, alloc, request, &shards)?;
-    let chosen = chosen(rt, alloc, request, &messages)?;
-    check_chosen(rt, alloc, row, &chosen, CHOSEN)
+fn ordered(alloc: Global, order: &str) -> Result<String, Fail> {
+    let mut text = String::new(alloc);
+    for word in order.split(' ') {
+        let at: usize = word.parse()?;
+        text.push_str(SHARDS.get(at).ok_or("no shard")?)?;
+    }
+    Ok(text)
 }
 
 #[test]
 fn orders(rt: HostRuntime) -> Result<(), Fail> {
     let alloc = rt.alloc();
-    let request = request(alloc, Asked { limit: None, ..ONE })?;
-    for (row, order) in ORDERS.iter().enumerate() {
-        check_order(&rt, alloc, row, &request, *order)?;
+    for order in ORDERS.split('\n') {
+        let shards = ordered(alloc, order)?;
+        demand(&found(&rt, alloc, "sort=count:desc", &shards)?, CHOSEN)?;
     }
     Ok(())
 }
