@@ -1,5 +1,5 @@
 // Futures that are driven turn by turn, and what each turn leaves.
-ghost use Rattle.std.specs.Prelude.{◌≡◌, IfOk, false, map, true};
+ghost use Rattle.std.specs.Prelude.{◌≡◌, IfOk, false, map};
 ghost use Rattle.std.specs.Arc.{arc_value};
 ghost use Rattle.fc_kind.specs.Names.{Covers};
 ghost use Rattle.fc_phase.specs.Futures.{phase_of};
@@ -22,7 +22,6 @@ use fc_store::Generation;
 use futures::executor::block_on;
 use serde_json::Value;
 use std::alloc::{AllocGlobal, Global};
-use std::process::Abort;
 use std::random::RandomSource;
 use std::sync::atomic::{AtomicU64, Ordering};
 use std::sync::{Arc, Wait};
@@ -50,7 +49,6 @@ fn segments_of(documents: &[Value], cut: Cut) -> u64 {
 }
 
 pub(super) fn case_of(
-    rt: &impl Abort,
     alloc: Global,
     schema: &Arc<Schema>,
     row: &Row<'_>,
@@ -60,7 +58,9 @@ pub(super) fn case_of(
 {
     let request = request_of(alloc, schema, row.request)?;
     let ask = ask_of(alloc, row.wants)?;
-    expect(rt, can_ask(&request.root.nodes, &ask), row.name, "asked");
+    if !can_ask(&request.root.nodes, &ask) {
+        return Err("what cannot be asked".into());
+    }
     let documents = documents_of(alloc, row.documents)?;
     let generation = generation_of(alloc, schema, &documents, cut)?;
     Ok(Case {
@@ -89,43 +89,33 @@ pub(super) fn future_of<'a>(
     }
 }
 
-// Fails with the name of the row where it does not hold.
-fn expect(rt: &impl Abort, holds: bool, name: &str, what: &str)
-    ensures { holds ≡ true }
-{
-    assert!(rt; holds, "{name}: {what}");
-}
-
 // How many units are left after so many, where each job has so many.
 fn left_after(left: &[u64], each: u64, done: u64) -> Option<u64> {
     let jobs = left.get(done.checked_div(each)? as usize)?;
     jobs.checked_mul(each)?.checked_sub(done.checked_rem(each)?)
 }
 
-// Fails unless so many turns are done, and so many are left.
-fn check_left(rt: &impl Abort, future: &PhaseFuture<'_>, name: &str, done: u64, left: Option<u64>) {
-    expect(rt, !future.spent(), name, "not spent");
-    expect(rt, future.done() == done, name, "done");
-    expect(rt, left == Some(future.left()), name, "left");
+// Whether so many turns are done, and so many are left.
+fn has_left(future: &PhaseFuture<'_>, done: u64, left: Option<u64>) -> bool {
+    !future.spent() && future.done() == done && left == Some(future.left())
 }
 
-// Fails unless all turns are done.
-fn check_spent(rt: &impl Abort, future: &PhaseFuture<'_>, name: &str, done: u64) {
-    expect(rt, future.spent(), name, "spent");
-    expect(rt, future.done() == done, name, "all done");
-    expect(rt, future.left() == 0, name, "nothing left");
+// Whether all turns are done, which are so many.
+fn is_spent(future: &PhaseFuture<'_>, done: u64) -> bool {
+    future.spent() && future.done() == done && future.left() == 0
 }
 
 // One turn, and the message that it gave, if any.
 pub(super) fn turn_of(
-    rt: &impl Abort,
     future: &mut PhaseFuture<'_>,
     answer: &mut Option<Message>,
 ) -> Result<(), Fail>
     requires { Covers (map (λ b. (⟦<dyn FacetKind as FacetKind>⟧ b.vtable).name b.value) future.old.kinds.now) }
     ensures { future.new.kinds.now ≡ future.old.kinds.now }
 {
-    assert!(rt; !future.spent());
+    if future.spent() {
+        return Err("a turn of a future that is spent".into());
+    }
     if let Turn::Done(message) = future.turn()? {
         *answer = Some(message);
     }
@@ -133,73 +123,80 @@ pub(super) fn turn_of(
 }
 
 // Does all its turns, in each of which kinds are called so many times at least. It is spent after the last one, which gives the
-// message.
+// message; there is none where a turn, or what is left, is another.
 fn driven(
-    rt: &impl Abort,
     mut future: PhaseFuture<'_>,
-    name: &str,
     left: &[u64],
     each: u64,
     calls: &AtomicU64,
     least: u64,
-) -> Result<Message, Fail>
+) -> Result<Option<Message>, Fail>
     requires { Covers (map (λ b. (⟦<dyn FacetKind as FacetKind>⟧ b.vtable).name b.value) future.kinds.now) }
 {
     let units = (left.len() as u64).saturating_sub(1).saturating_mul(each);
     let mut answer = None;
     for done in 0..units {
-        check_left(rt, &future, name, done, left_after(left, each, done));
+        if !has_left(&future, done, left_after(left, each, done)) {
+            return Ok(None);
+        }
         let before = calls.load(Ordering::SeqCst);
-        turn_of(rt, &mut future, &mut answer)?;
-        let called = calls.load(Ordering::SeqCst).saturating_sub(before);
-        expect(rt, called >= least, name, "calls");
+        turn_of(&mut future, &mut answer)?;
+        if calls.load(Ordering::SeqCst).saturating_sub(before) < least {
+            return Ok(None);
+        }
     }
-    check_spent(rt, &future, name, units);
-    Ok(answer.ok_or("an answer")?)
+    Ok(if is_spent(&future, units) {
+        answer
+    } else {
+        None
+    })
 }
 
-// Whether the message is the row's, turn by turn.
-fn check_turns(
-    rt: &impl Abort,
+// The message, turn by turn.
+fn told_by_turns(
     alloc: Global,
     case: &Case,
     kinds: &[Box<dyn FacetKind>],
     row: &Row<'_>,
     calls: &AtomicU64,
     least: u64,
-) -> Result<(), Fail>
+) -> Result<String, Fail>
     requires covers { Covers (map name kinds.now) }
     requires can { CanAsk (arc_value case.now.generation) case.now.request case.now.ask }
 {
     let left = numbers_of(alloc, row.left)?;
     let future = future_of(alloc, case, kinds)?;
-    let each = case.segments.max(1);
-    let message = driven(rt, future, row.name, &left, each, calls, least)?;
-    let text = text_of(alloc, &message)?;
-    expect(rt, text.as_str() == row.message, row.name, text.as_str());
-    Ok(())
+    match driven(future, &left, case.segments.max(1), calls, least)? {
+        Some(message) => text_of(alloc, &message),
+        None => Ok(String::from_str(alloc, "other units or calls")?),
+    }
 }
 
 // And by polls.
-fn check_polls(
-    rt: &(impl Abort + Wait + RandomSource + AllocGlobal),
+fn told_by_polls(
+    rt: &(impl Wait + RandomSource + AllocGlobal),
     alloc: Global,
     case: &Case,
     kinds: &[Box<dyn FacetKind>],
-    row: &Row<'_>,
-) -> Result<(), Fail>
+) -> Result<String, Fail>
     requires covers { Covers (map name kinds.now) }
     requires can { CanAsk (arc_value case.now.generation) case.now.request case.now.ask }
 {
     let message = block_on(rt, future_of(alloc, case, kinds)?)??;
-    let text = text_of(alloc, &message)?;
-    expect(rt, text.as_str() == row.message, row.name, "polled");
-    Ok(())
+    text_of(alloc, &message)
+}
+
+fn compare(row: &Row<'_>, told: &str) -> Result<(), Fail> {
+    if told == row.message {
+        Ok(())
+    } else {
+        Err(Fail::new(format_args!("{}: {told}", row.name)))
+    }
 }
 
 // The row with its documents committed in each of these ways.
 fn check(
-    rt: &(impl Abort + Wait + RandomSource + AllocGlobal),
+    rt: &(impl Wait + RandomSource + AllocGlobal),
     alloc: Global,
     kinds: &[Box<dyn FacetKind>],
     row: &Row<'_>,
@@ -211,16 +208,16 @@ fn check(
 {
     let schema = shared_schema(alloc)?;
     for cut in cuts {
-        let case = case_of(rt, alloc, &schema, row, *cut)?;
-        check_turns(rt, alloc, &case, kinds, row, calls, least)?;
-        check_polls(rt, alloc, &case, kinds, row)?;
+        let case = case_of(alloc, &schema, row, *cut)?;
+        compare(row, &told_by_turns(alloc, &case, kinds, row, calls, least)?)?;
+        compare(row, &told_by_polls(rt, alloc, &case, kinds)?)?;
     }
     Ok(())
 }
 
 // Each of so many rows, which have a line without text between them.
 pub(super) fn run(
-    rt: &(impl Abort + Wait + RandomSource + AllocGlobal),
+    rt: &(impl Wait + RandomSource + AllocGlobal),
     alloc: Global,
     rows: &str,
     cuts: &[Cut],
@@ -228,13 +225,15 @@ pub(super) fn run(
     count: u64,
 ) -> Result<(), Fail> {
     let calls = Arc::new(alloc, AtomicU64::new(0))?;
-    let kinds = kinds_of(rt, alloc, &calls)?;
+    let kinds = kinds_of(alloc, &calls)?;
     let mut rows_run = 0u64;
     for text in rows.split("\n\n") {
-        let row = row_of(text);
-        check(rt, alloc, &kinds, &row, cuts, &calls, least)?;
+        check(rt, alloc, &kinds, &row_of(text), cuts, &calls, least)?;
         rows_run = rows_run.wrapping_add(1);
     }
-    assert!(rt; rows_run == count);
-    Ok(())
+    if rows_run == count {
+        Ok(())
+    } else {
+        Err("another number of rows".into())
+    }
 }

@@ -11,7 +11,6 @@ use fc_request::Node;
 use fc_segment::Segment;
 use fc_terms::TermsKind;
 use std::alloc::Global;
-use std::process::Abort;
 use std::sync::Arc;
 use std::sync::atomic::{AtomicU64, Ordering};
 use std::test::Fail;
@@ -57,7 +56,6 @@ impl<K: FacetKind> FacetKind for Counted<K> {
 
 // One for each name.
 pub(super) fn kinds_of(
-    rt: &impl Abort,
     alloc: Global,
     calls: &Arc<AtomicU64>,
 ) -> Result<Vec<Box<dyn FacetKind>>, Fail>
@@ -88,6 +86,9 @@ pub(super) fn kinds_of(
             calls: shared,
         },
     )?)?;
-    assert!(rt; covers(&kinds));
-    Ok(kinds)
+    if covers(&kinds) {
+        Ok(kinds)
+    } else {
+        Err("a name without a kind".into())
+    }
 }

@@ -13,7 +13,6 @@ use fc_kind::FacetKind;
 use fc_partial::Message;
 use fc_phase::PhaseFuture;
 use std::alloc::Global;
-use std::process::Abort;
 use std::sync::Arc;
 use std::sync::atomic::AtomicU64;
 use std::test::Fail;
@@ -48,14 +47,13 @@ fn is_answer(alloc: Global, answer: Option<Message>, wanted: &str) -> Result<boo
     Ok(text.as_str() == wanted)
 }
 
-// The turns in an order: the bits that are set are those of the first future.
+// Whether both give their answers by turns in an order: the bits that are set are those of the first future.
 fn in_order(
-    rt: &impl Abort,
     alloc: Global,
     mut one: PhaseFuture<'_>,
     mut other: PhaseFuture<'_>,
     order: u32,
-) -> Result<(), Fail>
+) -> Result<bool, Fail>
     requires one { Covers (map (λ b. (⟦<dyn FacetKind as FacetKind>⟧ b.vtable).name b.value) one.kinds.now) }
     requires other { Covers (map (λ b. (⟦<dyn FacetKind as FacetKind>⟧ b.vtable).name b.value) other.kinds.now) }
 {
@@ -63,23 +61,21 @@ fn in_order(
     let mut second = None;
     for at in 0..2 * TURNS {
         if order & (1 << at) != 0 {
-            turn_of(rt, &mut one, &mut first)?;
+            turn_of(&mut one, &mut first)?;
         } else {
-            turn_of(rt, &mut other, &mut second)?;
+            turn_of(&mut other, &mut second)?;
         }
     }
-    assert!(rt; is_answer(alloc, first, ONE.message)?);
-    assert!(rt; is_answer(alloc, second, OTHER.message)?);
-    Ok(())
+    Ok(is_answer(alloc, first, ONE.message)? && is_answer(alloc, second, OTHER.message)?)
 }
 
+// How many orders there are, if both give their answers in each.
 fn in_all_orders(
-    rt: &impl Abort,
     alloc: Global,
     one: &Case,
     other: &Case,
     kinds: &[Box<dyn FacetKind>],
-) -> Result<(), Fail>
+) -> Result<Option<u32>, Fail>
     requires covers { Covers (map name kinds.now) }
     requires one { CanAsk (arc_value one.now.generation) one.now.request one.now.ask }
     requires other { CanAsk (arc_value other.now.generation) other.now.request other.now.ask }
@@ -90,20 +86,22 @@ fn in_all_orders(
             orders = orders.saturating_add(1);
             let first = future_of(alloc, one, kinds)?;
             let second = future_of(alloc, other, kinds)?;
-            in_order(rt, alloc, first, second, order)?;
+            if !in_order(alloc, first, second, order)? {
+                return Ok(None);
+            }
         }
     }
-    assert!(rt; orders == 70);
-    Ok(())
+    Ok(Some(orders))
 }
 
 #[test]
 fn orders_of_turns(rt: HostRuntime) -> Result<(), Fail> {
     let alloc = rt.alloc();
     let calls = Arc::new(alloc, AtomicU64::new(0))?;
-    let kinds = kinds_of(&rt, alloc, &calls)?;
+    let kinds = kinds_of(alloc, &calls)?;
     let schema = shared_schema(alloc)?;
-    let one = case_of(&rt, alloc, &schema, &ONE, Cut::Each)?;
-    let other = case_of(&rt, alloc, &schema, &OTHER, Cut::Each)?;
-    in_all_orders(&rt, alloc, &one, &other, &kinds)
+    let one = case_of(alloc, &schema, &ONE, Cut::Each)?;
+    let other = case_of(alloc, &schema, &OTHER, Cut::Each)?;
+    assert!(rt; in_all_orders(alloc, &one, &other, &kinds)? == Some(70));
+    Ok(())
 }
