@@ -6,7 +6,7 @@ use Rattle.serde_json.specs.Find.{as_object}
 use Rattle.serde_json.specs.View.{view, members_view}
 use Rattle.serde_json.specs.declared.value.Value.{Value}
 use Rattle.fc_spec.specs.documents.Val.{Text, same_text}
-use Rattle.fc_spec.specs.scripts.JsonObjects.{sole_member, only_names, member_count, has_members}
+use Rattle.fc_spec.specs.scripts.JsonObjects.{sole_member, only_names, member_count}
 
 abbrev pub MapEntry : Type 0
 MapEntry = String Global × Value
@@ -62,14 +62,3 @@ not_among names e rest is = rw (list_any-map (same_text (string_bytes e.0)) (λ 
 pub count-members_view : (es : List MapEntry) → member_count (members_view es) ≡ length es
 count-members_view [] = refl
 count-members_view (e ∷ es) = omega (arith, count-members_view es)
-
-pub seen_as : (d : Data) (es : List MapEntry) → Some (members_view es) ≡ as_object d → d ≡ object (members_view es)
-seen_as (object ms) es is = cc
-seen_as null es is = cc
-seen_as (boolean b) es is = cc
-seen_as (number x) es is = cc
-seen_as (string s) es is = cc
-seen_as (array ds) es is = cc
-
-pub has_members-entries : (d : Data) (es : List MapEntry) (n : ℕ) → Some (members_view es) ≡ as_object d → has_members n d ≡ (length es == n)
-has_members-entries d es n is = ap (has_members n) (seen_as d es is) ∙ ap (λ k. k == n) (count-members_view es)

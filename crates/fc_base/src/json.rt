@@ -57,26 +57,6 @@ pub fn has_only(members: &Map<String, Value>, names: &[&str]) -> bool
     true
 }
 
-/// Whether it is an object of so many members.
-pub fn has_members(value: &Value, count: usize) -> bool
-    ensures { result ≡ objects.has_members count (view value.now) }
-{
-    match value.as_object() {
-        Some(members) => members.len() == count,
-        None => false,
-    }
-}
-
-/// Whether an object's member of this name is this text.
-pub fn has_text(value: &Value, name: &str, text: &str) -> bool
-    ensures { result ≡ objects.has_text name.now text.now (view value.now) }
-{
-    value
-        .get(name)
-        .and_then(Value::as_str)
-        .is_some_and(|found| is_same(text, found))
-}
-
 /// The compact text of a value, and LF.
 pub fn text_line(alloc: Global, value: &Value) -> Result<Vec<u8>, WantMemory>
     requires { has_float (view value.now) ≡ false }

@@ -1,4 +1,3 @@
-pub mod rows
 pub mod words
 pub mod documents
 pub mod queries
