@@ -84,7 +84,8 @@ impl LongColumn {
     /// Bit j of word i stands for position 64 i + j.
     pub fn between(&self, lo: i64, hi: i64, into: &mut [u64])
         requires { words_for (length self.now) ≤ length into.old }
-        ensures { HasBits into.new (map (has_between lo hi) self.now) }
+        ensures bits { HasBits into.new (map (has_between lo hi) self.now) }
+        ensures long { All (All (λ value. is_long value ≡ true)) self.now }
     {
         mark(self.positions_between(lo, hi), into);
     }
@@ -95,6 +96,7 @@ impl LongColumn {
         ensures positions { (at : ℕ) → count_by (λ position. position == at) result.now
             ≡ count_by (is_between lo hi) (slice_index_or self.now at []) }
         ensures within { All (λ at. at < length self.now) result.now }
+        ensures long { All (All (λ value. is_long value ≡ true)) self.now }
     {
         let from = self.values.partition_point(|value| value.cmp(&lo).is_lt());
         let to = self.values.partition_point(|value| value.cmp(&hi).is_le());

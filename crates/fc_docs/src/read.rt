@@ -6,6 +6,7 @@ ghost use Rattle.fc_spec.specs.words.Walks.{each};
 ghost use Rattle.fc_spec.specs.documents.BlockReading.{block_of, document_of, document_of_members, child_documents, all_items, as_child};
 ghost use Rattle.fc_spec.specs.documents.ValidBlocks.{IsBlockOf, IsDocumentOf};
 ghost use Rattle.fc_base.specs.Answers.{Answers};
+ghost use Rattle.fc_base.specs.ValidSchema.{IsValidSchema};
 ghost use Rattle.fc_docs.specs.View.{block_view, fault_view, role_view};
 
 mod item;
@@ -51,8 +52,6 @@ fn read_family(
         (block_of schema.now (object (members_view members.entries))) }
     ensures valid { IfOk result (λ block. IsBlockOf schema.now (block_view block)) }
 {
-    // The key of the children is no field's name.
-    let _fields = schema.fields();
     let children = members.remove(CHILDREN).unwrap_or(Value::Null);
     let parent = read_members(alloc, schema, Role::Parent, members)?;
     let children = read_children(alloc, schema, children)?;
@@ -112,6 +111,7 @@ fn read_members(
     ensures answer { Answers (λ document. document) fault_view result
         (document_of_members (role_view role) schema.now (members_view members.entries)) }
     ensures valid { IfOk result (IsDocumentOf schema.now) }
+    ensures schema { IsValidSchema schema.now }
 {
     let mut document = Draft::empty(alloc, schema.fields());
     for (key, json) in members {

@@ -77,8 +77,6 @@ fn select_from_to(column: &LongColumn, low: i64, high: i64, mask: &mut [u64], in
     ensures { (test : ℤ → Bool) → PassesFromTo low high test
         → into.new ≡ map (list_any test) column.now }
 {
-    // The integers of a column are of 64 bits signed.
-    let _count = column.len();
     column.between(low, high, mask);
     into.set_mask(mask);
 }

@@ -70,8 +70,6 @@ fn select_from_to(column: &LongColumn, least: i64, greatest: i64, docs: &DocSet,
         → into.new ≡ zip_with ◌&&◌ docs.now (map (list_any test) column.now) }
     ensures kept { length into.new ≡ length into.old }
 {
-    // The integers of a column are of 64 bits signed.
-    let _count = column.len();
     let found = column.positions_between(least, greatest);
     if (docs.count() as usize) < found.len() {
         keep_from_to(column, least, greatest, docs, into);

@@ -25,14 +25,14 @@ use fc_docs::{Block, read_block};
 use serde_json::{Map, Value};
 use std::alloc::Global;
 
-// A shard's number.
-fn shard_of(schema: &Schema, json: &Value) -> Result<u32, LineFault>
+// The number of one of so many shards.
+fn shard_of(shards: u32, json: &Value) -> Result<u32, LineFault>
     ensures answer { result_map_both (λ shard. shard) line_fault_view result
-        ≡ reading.shard_of schema.now (view json.now) }
-    ensures below { IfOk result (λ shard. shard < schema.now.shards) }
+        ≡ reading.shard_of shards (view json.now) }
+    ensures below { IfOk result (λ shard. shard < shards) }
 {
     match json.as_u64() {
-        Some(shard) if shard < u64::from(schema.shards()) => Ok(shard as u32),
+        Some(shard) if shard < u64::from(shards) => Ok(shard as u32),
         _ => Err(LineFault::BadShard),
     }
 }
@@ -43,13 +43,11 @@ fn added_shard(schema: &Schema, json: Option<&Value>) -> Result<u32, LineFault>
         ≡ reading.added_shard schema.now (option_map (λ json. view json.now) json.entry) }
     ensures below { IfOk result (λ shard. shard < schema.now.shards) }
 {
+    // There is at least one.
+    let shards = schema.shards();
     match json {
-        Some(json) => shard_of(schema, json),
-        None => {
-            // A schema has at least one shard.
-            let _shards = schema.shards();
-            Ok(0)
-        }
+        Some(json) => shard_of(shards, json),
+        None => Ok(0),
     }
 }
 
@@ -60,7 +58,7 @@ fn committed_shard(schema: &Schema, json: Option<&Value>) -> Result<Option<u32>,
     ensures below { IfOk result (λ shard. IfSome shard (λ n. n < schema.now.shards)) }
 {
     match json {
-        Some(json) => Ok(Some(shard_of(schema, json)?)),
+        Some(json) => Ok(Some(shard_of(schema.shards(), json)?)),
         None => Ok(None),
     }
 }

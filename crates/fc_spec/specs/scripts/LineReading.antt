@@ -10,23 +10,23 @@ use Rattle.fc_spec.specs.scripts.ScriptFault.{LineFault, unknown_line, bad_shard
 use Rattle.fc_spec.specs.scripts.Script.{Line, add, commit, sync, asks}
 use Rattle.fc_spec.specs.words.Walks.{◌>>=◌, unless, with_fault}
 
--- a shard's number: a whole number from 0 below the number of shards
-abbrev pub shard_of : Schema → Data → Result ℕ LineFault
-shard_of s d = do
+-- a shard's number: a whole number from 0 below so many shards
+abbrev pub shard_of : ℕ → Data → Result ℕ LineFault
+shard_of shards d = do
   n ← ok_or (natural_in d) bad_shard
-  _ ← unless (nat_lt n s.shards) bad_shard
+  _ ← unless (nat_lt n shards) bad_shard
   Ok n
 
 -- the block's shard is 0 where none is named
 abbrev pub added_shard : Schema → Option Data → Result ℕ LineFault
 added_shard s None = Ok 0
-added_shard s (Some d) = shard_of s d
+added_shard s (Some d) = shard_of s.shards d
 
 -- every shard is committed where none is named
 abbrev pub committed_shard : Schema → Option Data → Result (Option ℕ) LineFault
 committed_shard s None = Ok None
 committed_shard s (Some d) = do
-  n ← shard_of s d
+  n ← shard_of s.shards d
   Ok (Some n)
 
 -- a session is a text of 1 to 64 bytes, and `main` where none is named

@@ -14,6 +14,6 @@ returns c = λ test passes.
     let high : greatest ≡ c.args.high = search rules in
     let bits = map (has_between least greatest) column in
     let size : length bits ≡ length c.args.into.now = length-map column _ ∙ sym c.requires.length in
-    c.set_mask.ensures ∙ first_bits_is (length c.args.into.now) c.between.new.into bits size (λ k within. c.between.ensures k)
+    c.set_mask.ensures ∙ first_bits_is (length c.args.into.now) c.between.new.into bits size (λ k within. c.between.ensures.bits k)
     ∙ ap₂ (λ (x y : ℤ). map (has_between x y) column) low high
-    ∙ rows_from_to c.args.low c.args.high test passes column c.len-count.ensures.long
+    ∙ rows_from_to c.args.low c.args.high test passes column c.between.ensures.long

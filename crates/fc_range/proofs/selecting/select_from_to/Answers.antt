@@ -14,7 +14,7 @@ returns-then-count-found-clause-set c = λ test passes.
     let greatest = to_z-of_z w64 c.args.greatest c.ranges.greatest in
     c.keep_from_to.ensures.set
     ∙ ap₂ (λ (x y : ℤ). zip_with ◌&&◌ docs (map (has_between x y) rows)) least greatest
-    ∙ ap (zip_with ◌&&◌ docs) (rows_from_to c.args.least c.args.greatest test passes rows c.len-count.ensures.long)
+    ∙ ap (zip_with ◌&&◌ docs) (rows_from_to c.args.least c.args.greatest test passes rows c.positions_between-found.ensures.long)
 
 pub returns-else-count-found-clause-set : goal.returns-else-count-found-clause-set
 returns-else-count-found-clause-set c = λ test passes.
@@ -27,4 +27,4 @@ returns-else-count-found-clause-set c = λ test passes.
     all_picked docs positions c.pick.new.into rows c.args.least c.args.greatest c.requires.length
     (λ at. c.positions_between-found.ensures.positions at ∙ (λ i. count_by (is_between (least i) (greatest i)) (slice_index_or rows at [])))
     (record { size = size; each = c.pick.ensures.set })
-    ∙ ap (zip_with ◌&&◌ docs) (rows_from_to c.args.least c.args.greatest test passes rows c.len-count.ensures.long)
+    ∙ ap (zip_with ◌&&◌ docs) (rows_from_to c.args.least c.args.greatest test passes rows c.positions_between-found.ensures.long)

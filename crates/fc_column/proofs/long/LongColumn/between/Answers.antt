@@ -8,8 +8,8 @@ mark-requires c = λ k d inside.
     let below = c.positions_between.ensures.within k d inside in
     omega (arith, below, c.requires)
 
-pub returns : goal.returns
-returns c = λ at.
+pub returns-clause-bits : goal.returns-clause-bits
+returns-clause-bits c = λ at.
     let column = c.args.self.now in
     let lo = to_z w64 (of_z w64 c.args.lo) in
     let hi = to_z w64 (of_z w64 c.args.hi) in
