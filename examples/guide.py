@@ -1,4 +1,4 @@
-"""The examples of docs/guide.md, as scripts and the replies that the guide says.
+"""The examples of docs/guide.md and docs/from-solr.md, as scripts and the replies that these say.
 
 A block that begins with "```script NAME" is a script; "```request behind NAME" has requests of the session main that
 follow the lines of that script; "```replies" has what the block before it gives. A line that begins with a space goes on
@@ -9,7 +9,9 @@ import json
 import os
 import re
 
-GUIDE = os.path.join(os.path.dirname(os.path.dirname(os.path.abspath(__file__))), "docs", "guide.md")
+DOCS = os.path.join(os.path.dirname(os.path.dirname(os.path.abspath(__file__))), "docs")
+# Each may stand behind the scripts of those before it.
+DOCUMENTS = ("guide.md", "from-solr.md")
 # Examples that a cell tells in words.
 IN_WORDS = {
     "1,048,577 spaces": [" " * 1_048_577],
@@ -22,10 +24,10 @@ NOT_HERE = ["67,108,865 line feeds", "the 1,048,577th document", "see below"]
 
 
 class Case:
-    """A script's lines, the replies that the guide says, and the line of the guide where it stands."""
+    """A script's lines, the replies that a document says, and where it stands there."""
 
-    def __init__(self, line, script, replies):
-        self.line, self.script, self.replies = line, script, replies
+    def __init__(self, document, line, script, replies):
+        self.document, self.line, self.script, self.replies = document, line, script, replies
 
     def text(self):
         return "".join(line + "\n" for line in self.script)
@@ -102,6 +104,25 @@ def request_faults(cells, opening):
         yield opening + [search(text)], [fault(cells, json.loads(cells[-2].strip("`")))]
 
 
+def refused(cells, opening):
+    """What is asked, the fault's name, requests; a fault inside facets is of all the facets that there are."""
+    for text in spans(cells[-1]):
+        names, inside = [], json.loads(text).get("facet")
+        while inside:
+            (name, command), = inside.items()
+            names.append(name)
+            inside = command.get("facet") if isinstance(command, dict) else None
+        yield opening + [search(text)], [fault([numbers()[cells[1].strip("`")], cells[1]], names)]
+
+
+def numbers():
+    """The number of each fault of requests, as the tables of the guide have them."""
+    with open(os.path.join(DOCS, "guide.md"), encoding="utf-8") as guide:
+        rows = [cells for _, words, rows in blocks(guide.read().split("\n")) if words[:1] == ["table"] and words[1].startswith("faults of")
+                and words[1] != "faults of scripts" for cells in ([cell.strip() for cell in row.strip("|").split("|")] for row in rows)]
+    return {cells[1].strip("`"): cells[0] for cells in rows}
+
+
 def script_faults(cells, opening):
     if cells[-1] not in NOT_HERE:
         spans(cells[-1])
@@ -128,7 +149,7 @@ def ranges(cells, opening):
 
 
 TABLES = {"matches": matches, "faults of queries": query_faults, "faults of requests": request_faults,
-          "faults of scripts": script_faults, "details": details, "range": ranges}
+          "faults of scripts": script_faults, "details": details, "range": ranges, "refused": refused}
 
 
 def blocks(lines):
@@ -151,24 +172,31 @@ def blocks(lines):
 
 
 def cases():
-    """Every example of the guide."""
-    with open(GUIDE, encoding="utf-8") as guide:
-        lines = guide.read().split("\n")
-    scripts, waiting, is_told = {}, None, True
+    """Every example of the documents."""
+    scripts = {}
+    for document in DOCUMENTS:
+        yield from cases_of(document, scripts)
+
+
+def cases_of(document, scripts):
+    """The examples of one document, behind these scripts and its own."""
+    with open(os.path.join(DOCS, document), encoding="utf-8") as file:
+        lines = file.read().split("\n")
+    waiting, is_told = None, True
     for line, words, content in blocks(lines):
-        if words[0] == "script":
+        if words[:1] == ["script"]:
             scripts[words[1]] = waiting = joined(content)
         elif words[:2] == ["request", "behind"]:
             if not is_told:
-                raise ValueError(f"requests without replies before line {line}")
+                raise ValueError(f"{document}: requests without replies before line {line}")
             waiting, is_told = scripts[words[2]] + [search(request) for request in joined(content)], False
-        elif words[0] == "replies":
+        elif words[:1] == ["replies"]:
             is_told = True
-            yield Case(line, waiting, joined(content))
-        elif words[0] == "table":
+            yield Case(document, line, waiting, joined(content))
+        elif words[:1] == ["table"]:
             for row, text in enumerate(content):
                 cells = [cell.strip() for cell in text.strip("|").split("|")]
                 for script, replies in TABLES[words[1]](cells, scripts[words[2]]):
-                    yield Case(line + 4 + row, script, replies)
+                    yield Case(document, line + 4 + row, script, replies)
     if not is_told:
-        raise ValueError("the last requests have no replies")
+        raise ValueError(f"{document}: the last requests have no replies")
