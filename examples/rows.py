@@ -24,7 +24,8 @@ Names are unique in a file. The lines below are lines of the script, and directl
 
 A row begins with the generations and the session that its front ends with. `N * LINE` is a line N times, with the number of
 the repetition, from 0, in place of each `#`; several lines in turn stand with ` | ` between them (`\\#` and `\\|` are the
-characters themselves). `<N x CHARACTER>` is a character N times: one that stands there, or `space`, `tab`, `return`, `feed`,
+characters themselves); `<# * A + B % C>` is the number times A and B more, modulo C, where each part but `#` may be absent.
+`<N x CHARACTER>` is a character N times: one that stands there, or `space`, `tab`, `return`, `feed`,
 or `byte ff` for a byte. A line feed ends each line of a script, but a last one that ends in `<no feed>`.
 """
 import json
@@ -42,6 +43,7 @@ REQUEST_FAULTS = {
     "bad-statistic": 12, "wrong-field-type": 13, "reserved-name": 14, "nested-exclude": 15, "too-large": 16,
 }
 REPEATED = re.compile(r"(\d+) \* (.*)", re.DOTALL)
+NUMBER = re.compile(r"\\([#|])|<#(?: \* (\d+))?(?: \+ (\d+))?(?: % ([1-9]\d*))?>|#")
 RUN = re.compile(r"<(\d+) x (space|tab|return|feed|byte [0-9a-f]{2}|[^ ])>")
 CHARACTERS = {"space": " ", "tab": "\t", "return": "\r", "feed": "\n"}
 NO_FEED = "<no feed>"
@@ -74,6 +76,15 @@ def run_of(match):
     return CHARACTERS.get(character, character) * int(match[1])
 
 
+def counted(found, number):
+    """What stands in place of a mark, in the repetition with a number."""
+    mark, times, more, modulo = found.groups()
+    if mark:
+        return mark
+    result = number * int(times or 1) + int(more or 0)
+    return str(result % int(modulo) if modulo else result)
+
+
 def spread(text):
     """The lines that a line stands for."""
     match = REPEATED.fullmatch(text)
@@ -83,7 +94,7 @@ def spread(text):
     parts = match[2].split(" | ")
     for number in range(int(match[1])):
         for part in parts:
-            yield re.sub(r"\\([#|])|#", lambda found: found[1] or str(number), part)
+            yield NUMBER.sub(lambda found: counted(found, number), part)
 
 
 def search_of(text):
