@@ -17,29 +17,3 @@ pub(crate) fn complaint(status: Status) -> Option<&'static str>
         Status::Write => Some("facets: writing failed"),
     }
 }
-
-#[cfg(test)]
-mod tests {
-    use super::*;
-
-    #[test]
-    fn each_status(rt: HostRuntime) {
-        for (status, code, line) in [
-            (Status::Done, 0, None),
-            (
-                Status::Usage,
-                64,
-                Some("usage: facets [--workers N] [--demo N]"),
-            ),
-            (Status::Script, 65, Some("facets: the script has a fault")),
-            (Status::Read, 66, Some("facets: reading failed")),
-            (Status::Memory, 71, Some("facets: no memory")),
-            (Status::Write, 73, Some("facets: writing failed")),
-        ] {
-            assert!(rt;
-                complaint(status) == line && status.code() == code,
-                "{status:?}"
-            );
-        }
-    }
-}
