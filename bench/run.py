@@ -115,7 +115,8 @@ def measure(options, folder, shards, every):
     part = Case(folder, opening(fewer, shards, every), {}, 0, b"")
     one, many = ({name: Case(folder, whole_opening, request, searches, said[name]) for name, request in REQUESTS.items()}
                  for searches in (1, 1 + options.searches))
-    for _ in range(options.runs):
+    for number in range(options.runs):
+        print(f"{shards} shard{'s' * (shards > 1)}: run {number + 1} of {options.runs}", file=sys.stderr, flush=True)
         for case in (whole, part, *one.values(), *many.values()):
             case.run(options.program)
     thousand = Case(folder, whole_opening, REQUESTS["brands"], 1001, said["brands"])
@@ -148,6 +149,7 @@ def main():
     options.add_argument("--searches", type=int, default=100, help="a search is timed over so many")
     options = options.parse_args()
     for shards, every in ((1, 1000), (1, None), (4, 1000), (64, None)):
+        print(f"{shards} shard{'s' * (shards > 1)}: the replies are counted", file=sys.stderr, flush=True)
         with tempfile.TemporaryDirectory() as folder:
             measure(options, folder, shards, every)
     print(f"least of {options.runs} runs; load of the machine {os.getloadavg()[0]:.1f} on {os.cpu_count()} processors")
