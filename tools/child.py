@@ -1,8 +1,10 @@
-"""A command that ends with this process."""
+"""What goes with this process: a command that it starts, a folder that it makes."""
 import contextlib
+import shutil
 import signal
 import subprocess
 import sys
+import tempfile
 
 SIGNALS = signal.SIGINT, signal.SIGTERM, signal.SIGHUP
 
@@ -33,3 +35,16 @@ def started(words, **how):
             except subprocess.TimeoutExpired:
                 child.kill()
                 child.wait()
+
+
+@contextlib.contextmanager
+def folder(prefix):
+    """A folder among the temporary files, which is removed whatever signal comes meanwhile."""
+    made = tempfile.mkdtemp(prefix=prefix)
+    try:
+        yield made
+    finally:
+        before = [signal.signal(one, signal.SIG_IGN) for one in SIGNALS]
+        shutil.rmtree(made, ignore_errors=True)
+        for one, how in zip(SIGNALS, before):
+            signal.signal(one, how)
