@@ -209,6 +209,7 @@ def rank(sort, nested, of):
         if direction not in ("asc", "desc") or not name:
             name = sort.strip()
             direction = "asc" if name == "index" else "desc"
+        name = name.strip()
 
     def key(value):
         if name == "count":
@@ -253,24 +254,45 @@ def generations(lines, types, shards):
     return batches
 
 
-def replies(lines, conditions, errors=None):
-    """The lines that a script of these lines gives. Each search counts all commits up to the end of its phase."""
-    shards = lines[0]["schema"]["shards"]
-    types = {"id": "string", **lines[0]["schema"]["fields"]}
-    batches, ends, phase, number = generations(lines, types, shards), commits_by_phase(lines, shards), 0, 0
+class Script:
+    """The batches of a script's shards, and for each phase the commits up to its end."""
+
+    def __init__(self, lines, conditions):
+        self.shards, self.conditions = lines[0]["schema"]["shards"], conditions
+        self.types = {"id": "string", **lines[0]["schema"]["fields"]}
+        self.batches = generations(lines, self.types, self.shards)
+        self.ends = commits_by_phase(lines, self.shards)
+
+    def reply(self, search, numbers):
+        """The line of a search that counts these generations."""
+        places = [p for s in range(self.shards) for batch in self.batches[s][:numbers[s]] for p in batch]
+        asked = Search(search["request"], places, self.conditions, self.types)
+        facets = asked.bucket(search["request"].get("facet", {}), asked.base([]), set(range(self.shards)))
+        return ordered({"facets": facets, "generations": numbers, "session": session_of(search)})
+
+
+def session_of(search):
+    return search.get("session", "main")
+
+
+def searches(lines):
+    """Each search with its number, from 1, and its phase, from 0."""
+    number = phase = 0
     for line in lines[1:]:
         phase += "sync" in line
         if "search" in line:
-            request, numbers = line["search"]["request"], ends[phase]
             number += 1
-            if errors and number in errors:
-                shown = {**errors[number], "session": line["search"].get("session", "main")}
-            else:
-                places = [p for s in range(shards) for batch in batches[s][:numbers[s]] for p in batch]
-                search = Search(request, places, conditions, types)
-                facets = search.bucket(request.get("facet", {}), search.base([]), set(range(shards)))
-                shown = {"facets": facets, "generations": numbers, "session": line["search"].get("session", "main")}
-            yield ordered(shown)
+            yield number, phase, line["search"]
+
+
+def replies(lines, conditions, errors=None):
+    """The lines that a script of these lines gives. Each search counts all commits up to the end of its phase."""
+    script = Script(lines, conditions)
+    for number, phase, search in searches(lines):
+        if errors and number in errors:
+            yield ordered({**errors[number], "session": session_of(search)})
+        else:
+            yield script.reply(search, script.ends[phase])
 
 
 def ordered(value):
