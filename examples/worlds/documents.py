@@ -1,0 +1,64 @@
+"""The fields of the scripts, their values, and documents. Each shard has values of its own that it likes, so that shards
+disagree about what is frequent."""
+
+FIELDS = {"brand": "string", "kind": "string", "marks": "strings", "tags": "strings", "n": "plong", "ns": "plongs",
+          "sizes": "plongs"}
+VALUES = {
+    "brand": ["fox", "elk", "Fox", "fo", "dark red", "é", "\uffee", "😀", "AND", 'a:"b"\\', "-7"],
+    "kind": ["p", "c"],
+    "marks": ["m1", "m2", "m3", "m4", "n1"],
+    "tags": ["t%d" % i for i in range(20)] + ["", "10", "9", "ta", "tab", "z\n\u0001"],
+    "n": [-5, -1, 0, 2, 3, 3, 7, 10, 12, 31],
+    "ns": [-9, -1, 0, 1, 2, 3, 4, 5, 8, 12, 40, 10**15],
+    "sizes": [36, 38, 40, 41],
+}
+MOST = {"brand": 1, "marks": 6, "tags": 8, "n": 1, "ns": 4, "sizes": 4}
+TEXTS = [field for field, kind in FIELDS.items() if kind.startswith("string")]
+NUMBERS = [field for field, kind in FIELDS.items() if kind.startswith("plong")]
+
+
+class Documents:
+    """Rich documents have values in most fields, others have none in many."""
+
+    def __init__(self, chance, shards):
+        self.chance, self.number, self.are_rich = chance, 0, chance.happens(50)
+        self.liked = [{field: [chance.one(VALUES[field]) for _ in range(3)] for field in MOST} for _ in range(shards)]
+
+    def block(self, shard):
+        """A document, with or without children."""
+        parent = self.document(shard, "p")
+        if self.chance.happens(45):
+            parent["_childDocuments_"] = [self.document(shard, "c") for _ in range(self.chance.below(4))]
+        return parent
+
+    def document(self, shard, kind):
+        self.number += 1
+        members = {"id": "d%d" % self.number, "kind": kind}
+        for field, most in MOST.items():
+            values = [self.value(shard, field) for _ in range(self.how_many(most))]
+            if values or self.chance.happens(20):
+                members[field] = self.spelled(values, most)
+        if self.chance.happens(10):
+            members["_version_"] = {"any": [None, 1.5]}
+        return members
+
+    def how_many(self, most):
+        if most == 1:
+            return self.chance.happens(75)
+        return most - self.chance.below(most // 2 + 1) if self.are_rich else self.chance.below(most + 1)
+
+    def value(self, shard, field):
+        return self.chance.one(self.liked[shard][field] if self.chance.happens(55) else VALUES[field])
+
+    def spelled(self, values, most):
+        """The values as a document may hold them: alone, in an array, integers as texts and texts as integers."""
+        values = [self.other_spelling(v) if self.chance.happens(10) else v for v in values]
+        if len(values) > 1 or self.chance.happens(30):
+            return values + [None] if self.chance.happens(10) else values
+        return values[0] if values else None
+
+    @staticmethod
+    def other_spelling(value):
+        if isinstance(value, int):
+            return "-0%d" % -value if value < 0 else "0%d" % value
+        return int(value) if value in ("10", "9", "-7") else value

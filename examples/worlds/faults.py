@@ -1,0 +1,35 @@
+"""Faults of requests: a facet with a fault and the number and name of it, as docs/guide.md's table says them."""
+BAD_FACETS = [
+    (3, "query-syntax", {"type": "query", "q": "red"}),
+    (4, "mixed-operators", {"type": "query", "q": "kind:p AND n:5 OR n:12"}),
+    (5, "unknown-field", {"type": "terms", "field": "brands"}),
+    (5, "unknown-field", "sum(cost)"),
+    (6, "bad-value", {"type": "terms", "field": "brand", "domain": {"filter": "n:five"}}),
+    (8, "unknown-type", {"type": "heatmap", "field": "brand"}),
+    (9, "missing-parameter", {"type": "range", "field": "n", "start": 0, "end": 9}),
+    (10, "bad-parameter", {"type": "terms", "field": "brand", "limit": -2}),
+    (11, "unknown-sort", {"type": "terms", "field": "brand", "sort": "total desc"}),
+    (12, "bad-statistic", "avg(n)"),
+    (13, "wrong-field-type", {"type": "terms", "field": "n", "prefix": "1"}),
+    (13, "wrong-field-type", "sum(brand)"),
+    (16, "too-large", {"type": "range", "field": "n", "start": 0, "end": 10001, "gap": 1}),
+]
+NESTED_EXCLUDE = (15, "nested-exclude", {"type": "terms", "field": "brand", "domain": {"excludeTags": "A"}})
+RESERVED = "val"
+
+
+def put_fault(chance, request):
+    """Puts a facet with a fault among the facets of the request, on some depth. The members of its error line."""
+    around, facets = [], request.setdefault("facet", {})
+    while len(around) < 5 and chance.happens(60):
+        below = [name for name, facet in facets.items() if isinstance(facet, dict) and "facet" in facet]
+        if not below:
+            break
+        around.append(chance.one(below))
+        facets = facets[around[-1]]["facet"]
+    number, fault, facet = chance.one(BAD_FACETS + [NESTED_EXCLUDE] * 2 if around else BAD_FACETS)
+    name = "bad"
+    if chance.happens(15):
+        number, fault, name, facet = 14, "reserved-name", RESERVED, {"type": "terms", "field": "brand"}
+    facets[name] = facet
+    return {"error": fault, "facet": around + [name], "number": number}

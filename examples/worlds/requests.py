@@ -1,0 +1,147 @@
+"""Requests by chance: a query, filters with tags, facets nested in facets."""
+from worlds.documents import NUMBERS, TEXTS, VALUES
+
+NAMES = ["a", "b", "m", "low", "é", "buckets", "missing", "", 'a\n"b"']
+TAGS = ["A", "B", "C.1", "x-_"]
+# Fields of many values.
+WIDE = ["tags", "tags", "tags", "id", "ns", "brand"]
+DEEPEST = 8
+MOST_FACETS = 50
+
+
+class Requests:
+    """Most requests have facets of all kinds; a chain has terms facets with small limits, one in the other."""
+
+    def __init__(self, chance, queries):
+        self.chance, self.queries = chance, queries
+        self.left = self.deepest = 0
+
+    def request(self):
+        self.left, self.deepest = MOST_FACETS, self.chance.one([1, 2, 2, 3, 3, 4, 5, 6, DEEPEST])
+        if self.chance.happens(30):
+            return {"facet": self.chain(self.chance.one([2, 3, 4, 5, 6, 7, 7]))}
+        request = {}
+        self.perhaps(request, 35, "query", self.queries.text)
+        self.perhaps(request, 45, "filter", self.filters)
+        self.perhaps(request, 10, "limit", lambda: 0)
+        self.perhaps(request, 97, "facet", lambda: self.facets(1))
+        return request
+
+    def perhaps(self, members, percent, name, make):
+        if self.chance.happens(percent):
+            members[name] = make()
+
+    def choose(self, members, percent, name, choices):
+        self.perhaps(members, percent, name, lambda: self.chance.one(choices))
+
+    def chain(self, length):
+        facet = {"type": "terms", "field": self.chance.one(["marks", "marks", "sizes", "sizes", "ns", "tags"])}
+        self.choose(facet, 95, "limit", [1, 1, 2, 2, 2, 3])
+        self.choose(facet, 80, "refine", [True])
+        self.choose(facet, 90, "overrequest", [0, 0, 0, 1])
+        self.choose(facet, 80, "overrefine", [0, 0, 1])
+        nested = {"low": self.statistic()} if self.chance.happens(40) else {}
+        self.perhaps(facet, 50, "sort", lambda: self.sort(nested))
+        if length > 1:
+            nested.update(self.chain(length - 1))
+        if nested:
+            facet["facet"] = nested
+        return {"a": facet}
+
+    def filters(self):
+        listed = [self.filter() for _ in range(1 + self.chance.below(3))]
+        return listed[0] if len(listed) == 1 and self.chance.happens(50) else listed
+
+    def filter(self):
+        text, tags = self.queries.text(), ",".join([self.chance.one(TAGS), *self.chance.some(TAGS, 1)])
+        return self.chance.one([text, "{!tag=" + tags + "}" + text, {"#" + tags: text}])
+
+    def facets(self, depth):
+        """Facets and statistics by name: few where they may nest deep."""
+        found = {}
+        for _ in range(1 + self.chance.below(3 if depth > 1 else 4)):
+            if self.left > 0:
+                self.left -= 1
+                is_statistic = self.chance.happens(30) or depth == DEEPEST
+                found[self.chance.one(NAMES)] = self.statistic() if is_statistic else self.facet(depth)
+        return found
+
+    def nested(self, facet, depth):
+        if depth < self.deepest and self.left > 0 and self.chance.happens(85 if self.deepest > 3 else 65):
+            facet["facet"] = self.facets(depth + 1)
+
+    def statistic(self):
+        field = self.chance.one(NUMBERS)
+        texts = [f"{name}({field})" for name in ("sum", "min", "max")]
+        texts += [f"{name}({self.chance.one(NUMBERS + TEXTS)})" for name in ("countvals", "missing")]
+        text = self.chance.one(texts)
+        return self.chance.one([text, text, " " + text.replace("(", " ( "), {"type": "func", "func": text}])
+
+    def facet(self, depth):
+        facet = self.chance.one([self.terms, self.terms, self.terms, self.terms, self.range, self.query])(depth)
+        self.perhaps(facet, 35, "domain", lambda: self.domain(depth))
+        return facet
+
+    def terms(self, depth):
+        facet = {"type": "terms"}
+        self.choose(facet, 85, "limit", [0, 1, 1, 1, 1, 1, 2, 2, 2, 3, 3, 5, 10, 12, -1])
+        is_wide = not 0 <= facet.get("limit", 10) < 10
+        field = self.chance.one(WIDE if is_wide else ["brand", "marks", "marks", "sizes", "tags", "tags", "kind", "n", "ns"])
+        facet["field"] = field
+        self.choose(facet, 70, "refine", [True, True, True, True, False])
+        self.choose(facet, 75, "overrequest", [0, 0, 0, 0, 1, 2, -1])
+        self.choose(facet, 60, "overrefine", [0, 0, 0, 1, 2, -1])
+        self.choose(facet, 20, "offset", [0, 1, 1, 2, 3])
+        self.choose(facet, 25, "mincount", [1, 2, 2, 3, 5])
+        self.choose(facet, 35, "missing", [True, True, False])
+        self.choose(facet, 5, "method", ["enum", "uif", "é"])
+        if field in TEXTS:
+            self.choose(facet, 15, "prefix", ["", "t", "t1", "m", "f", "fo", "x"] + VALUES["brand"])
+        self.nested(facet, depth)
+        if self.chance.happens(15) and depth < DEEPEST and self.left > 0:
+            self.left -= 1
+            facet.setdefault("facet", {})["low"] = self.statistic()
+        self.perhaps(facet, 65, "sort", lambda: self.sort(facet.get("facet", {})))
+        return facet
+
+    def sort(self, nested):
+        """By count, by index, or by a statistic right under the facet."""
+        sorts = [name for name in statistics_in(nested) if name]
+        name = self.chance.one(sorts if sorts and self.chance.happens(80) else ["count", "index"])
+        way = self.chance.one(["asc", "desc"])
+        return self.chance.one([f"{name} {way}", f" \t{name}  {way}\n", f" {name} ", {name: way}])
+
+    def range(self, depth):
+        field, gap = self.chance.one(NUMBERS), self.chance.one([1, 2, 3, 4, 5, 7])
+        start = self.chance.one([36, 38] if field == "sizes" else [-5, -1, 0, 0, 1, 2, 3])
+        end = start + self.chance.one([0, 1, 3, 4, 5, 7, 8, 10, 12])
+        facet = {"type": "range", "field": field, "start": start, "end": end, "gap": gap}
+        self.choose(facet, 50, "hardend", [True, True, False])
+        self.perhaps(facet, 60, "other", lambda: self.words(["before", "after", "between", "all", "all", "none"]))
+        self.perhaps(facet, 60, "include", lambda: self.words(["lower", "upper", "edge", "outer", "all"]))
+        self.nested(facet, depth)
+        return facet
+
+    def words(self, choices):
+        return self.chance.one([self.chance.one(choices), self.chance.some(choices, 2)])
+
+    def query(self, depth):
+        facet = {"type": "query", "q": self.queries.text()}
+        self.nested(facet, depth)
+        return facet
+
+    def domain(self, depth):
+        change = {}
+        if depth == 1:
+            self.choose(change, 60, "excludeTags", ["A", "B", "A,B", ["A"], ["C.1", "x-_"], ["B", "nowhere"], "", []])
+        self.perhaps(change, 45, self.chance.one(["blockChildren", "blockParent"]), self.queries.parents)
+        self.perhaps(change, 45, "filter", self.domain_filter)
+        return change
+
+    def domain_filter(self):
+        return self.chance.one([self.queries.text(), [self.queries.text() for _ in range(self.chance.below(3))]])
+
+
+def statistics_in(facets):
+    """The names of the statistics among some facets."""
+    return [name for name, command in facets.items() if isinstance(command, str) or command["type"] == "func"]
