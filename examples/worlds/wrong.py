@@ -1,0 +1,125 @@
+"""Wrong counting, to show that the scripts find it: each is one edit of counting.py or of worlds/queries.py, a piece of text
+that stands there once and what takes its place."""
+import os
+import types
+
+from worlds import judging, scripts
+
+FOLDER = os.path.dirname(os.path.dirname(os.path.realpath(__file__)))
+EDITS = [
+    ("no over-request", "counting.py", 'offset + limit + more("overrequest")', "offset + limit"),
+    ("over-request whatever is asked", "counting.py", 'more("overrequest")', "tenth"),
+    ("an over-request of 5 by default", "counting.py", "limit // 10 + 4", "limit // 10 + 5"),
+    ("no tenth in the over-request", "counting.py", "limit // 10 + 4", "4"),
+    ("shards forget the offset", "counting.py", "order[:offset + limit + more", "order[:limit + more"),
+    ("limit -1 offers what 10 does", "counting.py", "order if limit == -1 else", "order[:15] if limit == -1 else"),
+    ("shards judge by mincount", "counting.py", "for v in values(own)})",
+     "for v in values(own) if sum(has(p, v) for p in own) >= facet.get('mincount', 1)})"),
+    ("no over-refinement", "counting.py", 'offset + limit + more("overrefine")', "offset + limit"),
+    ("chosen without the offset", "counting.py", '[:offset + limit + more("overrefine")]', '[:limit + more("overrefine")]'),
+    ("all candidates are chosen", "counting.py", 'if facet.get("refine") and limit != -1:', "if False:"),
+    ("chosen by the counts of all shards", "counting.py", "if has(p, v) and p.shard in offering[v]] for v in candidates",
+     "if has(p, v)] for v in candidates"),
+    ("refined over the shards that offer", "counting.py",
+     'set(shards) if facet.get("refine") else offering[v]', "offering[v]"),
+    ("always refined", "counting.py", 'set(shards) if facet.get("refine") else offering[v]', "set(shards)"),
+    ("refined outermost alone", "counting.py", 'set(shards) if facet.get("refine") else',
+     'set(shards) if facet.get("refine") and len(places) == len(self.base([])) else'),
+    ("no mincount", "counting.py", 'if len(of) >= facet.get("mincount", 1)', ""),
+    ("mincount behind the page", "counting.py", "ranked(enough)[offset:None if limit == -1 else offset + limit]",
+     "[v for v in ranked(counted)[offset:None if limit == -1 else offset + limit] if v in enough]"),
+    ("no offset", "counting.py", "ranked(enough)[offset:", "ranked(enough)[0:"),
+    ("a page up to the limit", "counting.py",
+     "offset:None if limit == -1 else offset + limit", "offset:None if limit == -1 else limit"),
+    ("ties by the higher value", "counting.py", "order = sorted(of, key=index_order)",
+     "order = sorted(of, key=index_order, reverse=True)"),
+    ("ties turn with the direction", "counting.py", 'present.sort(key=key, reverse=direction == "desc")',
+     'present.sort(key=key); direction == "desc" and present.reverse()'),
+    ("absent statistics first", "counting.py", "return present + [v for v in order if key(v) is None]",
+     "return [v for v in order if key(v) is None] + present"),
+    ("an absent minimum is 0", "counting.py", "[name](pairs) if pairs else None", "[name](pairs) if pairs else 0"),
+    ("index falls by default", "counting.py", '"asc" if name == "index" else "desc"', '"desc"'),
+    ("count rises by default", "counting.py", '"asc" if name == "index" else "desc"', '"asc"'),
+    ("texts in the order of UTF-16", "counting.py", 'text.encode("utf-8")', 'text.encode("utf-16-be")'),
+    ("prefix touches missing", "counting.py", 'for p in places if not p.document[field]]',
+     'for p in places if not prefix and not p.document[field]]'),
+    ("missing counts the offering shards", "counting.py", 'for p in places if not p.document[field]]',
+     'for p in places if p.shard in set().union(*known.values()) and not p.document[field]]'),
+    ("a sum counts documents", "counting.py", "return sum(pairs)",
+     "return sum(max(p.document[field], default=0) for p in places)"),
+    ("values are counted by documents", "counting.py", "return len(pairs)",
+     "return sum(bool(p.document[field]) for p in places)"),
+    ("missing counts those that have", "counting.py", "sum(not p.document[field] for p in places)",
+     "sum(bool(p.document[field]) for p in places)"),
+    ("exclusion needs all tags", "counting.py", "if not set(tags) & set(excluded)]",
+     "if not tags or not set(tags) <= set(excluded)]"),
+    ("exclusion takes the query away too", "counting.py", 'texts = [self.request.get("query", "*:*")]',
+     'texts = [] if excluded else [self.request.get("query", "*:*")]'),
+    ("exclusion behind the change's filter", "counting.py", "        return [p for p in places if p.shard in shards]",
+     "        return [p for p in (self.base(excluded(facet)) if excluded(facet) else places) if p.shard in shards]"),
+    ("no exclusion in an empty root", "counting.py", "elif places or excluded(command):", "elif places:"),
+    ("empty buckets print their facets", "counting.py", "elif places or excluded(command):", "else:"),
+    ("empty buckets print their statistics", "counting.py", "if places and value is not None:", "if value is not None:"),
+    ("children of children", "counting.py", "for p in places if p.is_parent and self", "for p in places if self"),
+    ("children of any parent", "counting.py", 'if p.is_parent and self.matches(change["blockChildren"], p)}', "if p.is_parent}"),
+    ("a parent in the domain is left", "counting.py", "kept = {(p.shard, p.block) for p in places}",
+     "kept = {(p.shard, p.block) for p in places if not p.is_parent}"),
+    ("any parent", "counting.py", ' in kept and self.matches(change["blockParent"], p)]', " in kept]"),
+    ("one filter of a domain is enough", "counting.py", "        for text in texts if isinstance(texts, list) else [texts]:",
+     "        for text in texts[:1] if isinstance(texts, list) else [texts]:"),
+    ("one filter is enough", "counting.py", "if all(self.matches(text, p) for text in texts)]",
+     "if all(self.matches(text, p) for text in texts[:2])]"),
+    ("gaps are rounded down", "counting.py", "gaps = -((start - end) // gap)", "gaps = (end - start) // gap"),
+    ("no hard end", "counting.py", 'if facet.get("hardend") and highs:', "if False:"),
+    ("the last end is always hard", "counting.py", 'if facet.get("hardend") and highs:', "if highs:"),
+    ("edge at each bucket's low end", "counting.py", '("edge" in words and i == 0)', '"edge" in words'),
+    ("edge at no high end", "counting.py", '"upper" in words or ("edge" in words and i == gaps - 1)', '"upper" in words'),
+    ("before never holds the start", "counting.py", 'x == start and ("outer" in words or not lower)', "False"),
+    ("after never holds the end", "counting.py", 'x == last and ("outer" in words or not upper)', "False"),
+    ("outer does nothing", "counting.py", '("outer" in words or not lower)', "not lower"),
+    ("between to the asked end", "counting.py", "between(start, last, lower, upper)", "between(start, end, lower, upper)"),
+    ("between without the edge", "counting.py", 'bool(words & {"lower", "edge"}), bool(words & {"upper", "edge"})',
+     '"lower" in words, "upper" in words'),
+    ("none does not win", "counting.py", 'asked = [] if "none" in asked else',
+     'asked = [word for word in asked if word != "none"]; asked ='),
+    ("an empty include holds nothing", "counting.py", ' or ["lower"]', ""),
+    ("one value of a field is enough", "counting.py", "items = items if isinstance(items, list) else [items]",
+     "items = items[:1] if isinstance(items, list) else [items]"),
+    ("children are not counted", "counting.py", '*(members.get("_childDocuments_") or []), members]', "members]"),
+    ("commits of later phases are seen", "counting.py", "batch in self.batches[s][:numbers[s]]", "batch in self.batches[s]"),
+    ("documents are committed again", "counting.py", "waiting[shard] = []", "pass"),
+    ("a group needs all", "worlds/queries.py", "return any(condition(document) for condition in optional)",
+     "return all(condition(document) for condition in optional)"),
+    ("an optional clause beside required ones", "worlds/queries.py", "if required or not optional:", "if not optional:"),
+    ("a group of forbidden clauses finds nothing", "worlds/queries.py", "if required or not optional:", "if required:"),
+    ("forbidden clauses are passed over", "worlds/queries.py", "return False", "pass"),
+    ("AND reaches one side", "worlds/queries.py", "{before.strip(), behind.strip()}", "{behind.strip()}"),
+    ("AND takes a sign away", "worlds/queries.py", "if sign in FORBIDDEN else", 'if sign in FORBIDDEN and not is_required else'),
+    ("ends are always held", "worlds/queries.py", '(opens == "[" and low == value)', "low == value"),
+    ("ends are never held", "worlds/queries.py", '(closes == "]" and high == value)', "False"),
+    ("a star finds all", "worlds/queries.py", "bool(document[field])", "True"),
+]
+
+
+def edited(file, old, new):
+    """The module that the edit makes."""
+    with open(os.path.join(FOLDER, file), encoding="utf-8") as source:
+        text = source.read()
+    if text.count(old) != 1:
+        raise ValueError(f"{file}: {old!r} stands {text.count(old)} times")
+    module = types.ModuleType("edited")
+    exec(compile(text.replace(old, new), file, "exec"), module.__dict__)
+    return module
+
+
+def finders(worlds, written, seed, file, old, new):
+    """How many of the scripts find the edit, by what the program wrote for each."""
+    right, module = judging.counting, edited(file, old, new)
+    if file == "counting.py":
+        judging.counting = module
+    else:
+        worlds = (scripts.script_of(seed, number, module.Queries) for number in range(len(worlds)))
+    try:
+        return sum(judging.difference(world, *answer) is not None for world, answer in zip(worlds, written))
+    finally:
+        judging.counting = right
