@@ -1,0 +1,115 @@
+"""The types of fields, as they are set or as their values have them, and the values as the script is to have them."""
+import re
+
+from . import limits
+from .documents import Spelled
+from .faults import Fault, Wrong
+from .json_text import Members, Number, integer
+
+TYPES = ("string", "strings", "plong", "plongs")
+
+
+class Field:
+    """What was seen of a field: how many values, how many of them numbers, and where the first text, the first fraction and
+    the first document with several values stood."""
+
+    def __init__(self, set_type):
+        self.set_type, self.values, self.numbers = set_type, 0, 0
+        self.text, self.fraction, self.several = None, None, None
+
+    def type(self):
+        if self.set_type:
+            return self.set_type
+        kind = "plong" if self.values and not self.text else "string"
+        return kind + "s" if self.several else kind
+
+
+class Fields:
+    def __init__(self, types):
+        self.fields = {name: Field(kind) for name, kind in {"id": "string", **types}.items()}
+
+    def take(self, name, at, values, place):
+        """The values that a document has in a field, each an integer or a text, and what was seen of them."""
+        field = self.fields.setdefault(name, Field(None))
+        taken = [value_for(field, name, one_at, value, place) for one_at, value in values]
+        if len(taken) > 1:
+            if field.set_type in ("string", "plong"):
+                raise Wrong(at, "a document has one id" if name == "id" else f"several values, and {name} is set to hold one")
+            field.several = field.several or place(at)
+        field.values += len(taken)
+        return taken
+
+    def types(self):
+        """The type of each field; told is the first that no type holds."""
+        for name, field in self.fields.items():
+            if field.fraction and not field.text and not field.set_type:
+                place, text = field.fraction
+                raise Fault(place, no_fraction(name, text))
+        return {name: field.type() for name, field in self.fields.items()}
+
+    def why(self, name):
+        """Why a field has its type, in words, where that is not plain."""
+        field = self.fields[name]
+        if field.set_type:
+            return "as set" if name != "id" else ""
+        if not field.values:
+            return "no document has a value"
+        told = []
+        if field.several:
+            told.append(f"several values in {at_line(field.several)}")
+        if field.text and field.numbers:
+            told.append(f"a text in {at_line(field.text)}")
+        return ", ".join(told)
+
+
+def at_line(place):
+    return f"{place.file}, line {place.line}"
+
+
+def no_fraction(name, text):
+    return f"{text} is no whole number, and no field holds another; --type {name}=string (or strings) keeps its text"
+
+
+def value_for(field, name, at, value, place):
+    if isinstance(value, Members):
+        raise Wrong(at, f"an object, and no field holds one; only _childDocuments_ has documents in it (field {name})")
+    if isinstance(value, list):
+        raise Wrong(at, f"an array in an array (field {name})")
+    if field.set_type in ("plong", "plongs"):
+        return integer_for(name, at, value)
+    if isinstance(value, bool):
+        text = "true" if value else "false"
+        if not field.set_type:
+            raise Wrong(at, f"{text} is neither a text nor a whole number; --type {name}=string (or strings) keeps it as a text")
+        return text
+    if isinstance(value, int):
+        field.numbers += 1
+        return str(value) if field.set_type else value
+    return text_for(field, name, at, value, place)
+
+
+def text_for(field, name, at, value, place):
+    if isinstance(value, Number) and not field.set_type and not re.fullmatch("-?[0-9]+", value):
+        raise Wrong(at, no_fraction(name, value))
+    size = len(value.encode("utf-8"))
+    if size > limits.TEXT_BYTES:
+        raise Wrong(at, f"a text of {size:,} bytes, and one has at most {limits.TEXT_BYTES:,} (field {name})")
+    if isinstance(value, Spelled):
+        field.numbers += 1
+        field.fraction = field.fraction or (place(at), str(value))
+    else:
+        field.text = field.text or place(at)
+    return str(value)
+
+
+def integer_for(name, at, value):
+    if isinstance(value, bool):
+        value = "true" if value else "false"
+    if isinstance(value, int):
+        return value
+    spelled = re.fullmatch("(-?)0*([0-9]+)", value)
+    number = integer(spelled[1] + spelled[2]) if spelled else None
+    if number is None:
+        shown = value if len(value) <= 40 else value[:40] + ".."
+        raise Wrong(at, f"{shown!r} is no integer of 64 bits, as {name} is set to hold")
+    return number

@@ -1,0 +1,78 @@
+"""The rows of a CSV file: cells between commas, in quotes where they hold commas, quotes (written twice) or line feeds."""
+from .faults import Fault, Place
+from .limits import LINE_BYTES
+
+
+class Row:
+    """The cells of a row, and where each begins: its line and column."""
+
+    def __init__(self, path):
+        self.path, self.cells, self.begins = path, [], []
+
+    def place(self, number):
+        return Place(self.path, *self.begins[number])
+
+
+class Rows:
+    def __init__(self, path, lines):
+        self.path, self.lines = path, iter(lines)
+        # The line in hand, its number, and how far it is read.
+        self.line, self.number, self.at = "", 0, 0
+
+    def step(self):
+        """Takes in the next line; whether there is one."""
+        self.number, self.line = next(self.lines, (self.number, ""))
+        self.at = 0
+        return self.line != ""
+
+    def __iter__(self):
+        """Each row. Lines without anything on them are none."""
+        while self.step():
+            if self.line.strip("\r\n"):
+                yield self.row()
+
+    def row(self):
+        row = Row(self.path)
+        while True:
+            row.begins.append((self.number, self.at + 1))
+            row.cells.append(self.quoted() if self.line.startswith('"', self.at) else self.plain())
+            if not self.line.startswith(",", self.at):
+                return row
+            self.at += 1
+
+    def ends_at(self):
+        return len(self.line.rstrip("\r\n"))
+
+    def plain(self):
+        end = self.line.find(",", self.at)
+        end = self.ends_at() if end < 0 else end
+        cell = self.line[self.at:end]
+        if '"' in cell:
+            place = Place(self.path, self.number, self.at + cell.index('"') + 1)
+            raise Fault(place, "a quote in a cell that does not begin with one; put the cell in quotes and write the quote twice")
+        self.at = end
+        return cell
+
+    def quoted(self):
+        begin, parts, size = Place(self.path, self.number, self.at + 1), [], 0
+        self.at += 1
+        while True:
+            end = self.line.find('"', self.at)
+            if end >= 0:
+                parts.append(self.line[self.at:end])
+                self.at = end + 1
+                if not self.line.startswith('"', self.at):
+                    return self.closed("".join(parts))
+                parts.append('"')
+                self.at += 1
+                continue
+            parts.append(self.line[self.at:])
+            size += len(self.line)
+            if size > LINE_BYTES or not self.step():
+                within = f" within {LINE_BYTES:,} characters" if size > LINE_BYTES else ""
+                raise Fault(begin, f"this quote is not closed{within}")
+
+    def closed(self, cell):
+        if not self.line.startswith(",", self.at) and self.at != self.ends_at():
+            raise Fault(Place(self.path, self.number, self.at + 1), "a comma or the end of the line is wanted behind the closing quote")
+        return cell
