@@ -1,0 +1,106 @@
+"""Replies in a terminal: each facet indented under what it is counted in, with counts, bars in proportion and statistics."""
+import textwrap
+
+from . import faults, reading
+from .text import BESIDE, cut, documents, label, value, visible, width
+
+STEP, GAP = "  ", "  "
+LONGEST_BAR, SHORTEST_BAR, SHORTEST_LABEL = 30, 4, 8
+EIGHTHS = " ▏▎▍▌▋▊▉"
+
+
+class Terminal:
+    """How many columns there are, whether blocks can be drawn, and whether names may be bold."""
+
+    def __init__(self, columns, has_blocks, is_bold):
+        self.columns, self.has_blocks, self.is_bold = columns, has_blocks, is_bold
+
+    def lines(self, number, said):
+        """The lines that show what the line with this number says."""
+        if isinstance(said, reading.ScriptFault):
+            yield self.bold("the script has a fault" + (f" in line {said.line}" if said.line else ""))
+            yield f"{STEP}{visible(said.name)} ({said.number})"
+            yield from self.wrapped(visible(faults.of_script(said)))
+        elif isinstance(said, reading.RequestFault):
+            at = f", at {' > '.join(map(label, said.path))}" if said.path else ""
+            yield self.bold(f"{number}. session {label(said.session)}: the request has a fault")
+            yield f"{STEP}{visible(said.name)} ({said.number}){at}"
+            yield from self.wrapped(faults.of_request(said))
+        else:
+            numbers = " ".join(map(str, said.generations))
+            yield self.bold(f"{number}. session {label(said.session)}: {documents(said.bucket.count)}, generations {numbers}")
+            yield from self.inside(said.bucket, STEP, 0)
+
+    def wrapped(self, words):
+        return textwrap.wrap(words, max(self.columns, 20), initial_indent=STEP, subsequent_indent=STEP)
+
+    def bold(self, text):
+        return f"\x1b[1m{text}\x1b[0m" if self.is_bold else text
+
+    def inside(self, bucket, indent, most):
+        """The statistics and the facets of a bucket, whose bars are no longer for their counts than those around it, of which
+        the longest stands for `most`."""
+        names = max((width(label(name)) for name, _ in bucket.statistics), default=0)
+        numbers = max((len(f"{number:,}") for _, number in bucket.statistics), default=0)
+        for name, number in bucket.statistics:
+            yield f"{indent}{padded(label(name), names)}{GAP}{number:{numbers},}"
+        yield from self.facets(bucket, indent, most)
+
+    def facets(self, bucket, indent, most):
+        for name, facet in bucket.facets:
+            if isinstance(facet, reading.Bucket):
+                yield f"{indent}{self.bold(label(name))}: {documents(facet.count)}"
+                yield from self.inside(facet, indent + STEP, most)
+            else:
+                yield indent + self.bold(label(name)) + ("" if facet.buckets else ": no buckets")
+                yield from self.rows(facet, indent + STEP, most)
+
+    def rows(self, facet, indent, most):
+        """The buckets of a facet and what stands beside them, in columns of their own."""
+        values = [value(one.value) for one in facet.buckets]
+        if all(isinstance(one.value, int) for one in facet.buckets):
+            digits = max(map(len, values), default=0)
+            values = [text.rjust(digits) for text in values]
+        shown = [*zip(values, facet.buckets), *((BESIDE[name], one) for name, one in facet.beside)]
+        most = max([most, *(one.count for one in facet.buckets)])
+        layout = Layout(self, shown, len(indent))
+        for number, (text, one) in enumerate(shown):
+            yield indent + layout.line(text, one, self.bar(one.count, most, layout.bar) if number < len(values) else "")
+            inner = self.facets if layout.has_statistics else self.inside
+            yield from inner(one, indent + STEP, most)
+
+    def bar(self, count, most, columns):
+        """A bar as long as the count is of the most; no count but 0 has none."""
+        if count <= 0 or not columns:
+            return ""
+        if not self.has_blocks:
+            return "#" * max(1, count * columns // most)
+        full, rest = divmod(max(1, count * columns * 8 // most), 8)
+        return "█" * full + EIGHTHS[rest].strip()
+
+
+class Layout:
+    """How wide the columns of some buckets are: label, count, bar, statistics. Where statistics leave no room for a label they
+    are not among them; where nothing is left for a bar it has no columns."""
+
+    def __init__(self, terminal, shown, indent):
+        self.counts = max((len(f"{one.count:,}") for _, one in shown), default=0)
+        statistics = max((width(statistics_of(one)) for _, one in shown), default=0)
+        room = terminal.columns - indent - len(GAP) - self.counts
+        self.has_statistics = room - statistics - len(GAP) >= SHORTEST_LABEL
+        room -= statistics + len(GAP) if statistics and self.has_statistics else 0
+        self.labels = min(max((width(text) for text, _ in shown), default=0), max(SHORTEST_LABEL, room // 2))
+        bar = min(LONGEST_BAR, room - self.labels - len(GAP))
+        self.bar = bar if bar >= SHORTEST_BAR else 0
+
+    def line(self, text, bucket, bar):
+        line = f"{padded(cut(text, self.labels), self.labels)}{GAP}{bucket.count:{self.counts},}{GAP}{padded(bar, self.bar)}"
+        return (line + GAP + statistics_of(bucket) if self.has_statistics else line).rstrip()
+
+
+def statistics_of(bucket):
+    return GAP.join(f"{label(name)} {number:,}" for name, number in bucket.statistics)
+
+
+def padded(text, columns):
+    return text + " " * (columns - width(text))
