@@ -52,13 +52,12 @@ def in_terminal(path):
     """Writes the replies on standard output, once all of them are read."""
     encoding = getattr(sys.stdout, "encoding", None) or "ascii"
     is_terminal = sys.stdout is not None and sys.stdout.isatty()
-    view = Terminal(shutil.get_terminal_size().columns, encoding.lower().replace("-", "") == "utf8",
-                    is_terminal and "NO_COLOR" not in os.environ)
+    view = Terminal(shutil.get_terminal_size().columns, encoding, is_terminal and "NO_COLOR" not in os.environ)
     with tempfile.TemporaryFile() as aside:
         count = 0
         for number, one in said(path):
             lines = ([] if not count else [""]) + list(view.lines(number, one))
-            aside.write("".join(line + "\n" for line in lines).encode(encoding, "backslashreplace"))
+            aside.write("".join(line + "\n" for line in lines).encode(encoding))
             count += 1
         if not count:
             aside.write(b"no replies: the script had no search\n")

@@ -10,25 +10,33 @@ EIGHTHS = " ▏▎▍▌▋▊▉"
 
 
 class Terminal:
-    """How many columns there are, whether blocks can be drawn, and whether names may be bold."""
+    """How many columns there are, which characters can be written, and whether names may be bold."""
 
-    def __init__(self, columns, has_blocks, is_bold):
-        self.columns, self.has_blocks, self.is_bold = columns, has_blocks, is_bold
+    def __init__(self, columns, encoding, is_bold):
+        self.columns, self.encoding, self.is_bold = columns, encoding, is_bold
+        self.has_blocks = self.written("█…") == "█…"
+
+    def written(self, text):
+        """A text with escapes for the characters that cannot be written."""
+        return text.encode(self.encoding, "backslashreplace").decode(self.encoding)
+
+    def label(self, text):
+        return self.written(label(text))
 
     def lines(self, number, said):
         """The lines that show what the line with this number says."""
         if isinstance(said, reading.ScriptFault):
             yield self.bold("the script has a fault" + (f" in line {said.line}" if said.line else ""))
-            yield f"{STEP}{visible(said.name)} ({said.number})"
-            yield from self.wrapped(visible(faults.of_script(said)))
+            yield f"{STEP}{self.label(said.name)} ({said.number})"
+            yield from self.wrapped(self.written(visible(faults.of_script(said))))
         elif isinstance(said, reading.RequestFault):
-            at = f", at {' > '.join(map(label, said.path))}" if said.path else ""
-            yield self.bold(f"{number}. session {label(said.session)}: the request has a fault")
-            yield f"{STEP}{visible(said.name)} ({said.number}){at}"
+            at = f", at {' > '.join(map(self.label, said.path))}" if said.path else ""
+            yield self.bold(f"{number}. session {self.label(said.session)}: the request has a fault")
+            yield f"{STEP}{self.label(said.name)} ({said.number}){at}"
             yield from self.wrapped(faults.of_request(said))
         else:
             numbers = " ".join(map(str, said.generations))
-            yield self.bold(f"{number}. session {label(said.session)}: {documents(said.bucket.count)}, generations {numbers}")
+            yield self.bold(f"{number}. session {self.label(said.session)}: {documents(said.bucket.count)}, generations {numbers}")
             yield from self.inside(said.bucket, STEP, 0)
 
     def wrapped(self, words):
@@ -40,24 +48,24 @@ class Terminal:
     def inside(self, bucket, indent, most):
         """The statistics and the facets of a bucket, whose bars are no longer for their counts than those around it, of which
         the longest stands for `most`."""
-        names = max((width(label(name)) for name, _ in bucket.statistics), default=0)
+        names = max((width(self.label(name)) for name, _ in bucket.statistics), default=0)
         numbers = max((len(f"{number:,}") for _, number in bucket.statistics), default=0)
         for name, number in bucket.statistics:
-            yield f"{indent}{padded(label(name), names)}{GAP}{number:{numbers},}"
+            yield f"{indent}{padded(self.label(name), names)}{GAP}{number:{numbers},}"
         yield from self.facets(bucket, indent, most)
 
     def facets(self, bucket, indent, most):
         for name, facet in bucket.facets:
             if isinstance(facet, reading.Bucket):
-                yield f"{indent}{self.bold(label(name))}: {documents(facet.count)}"
+                yield f"{indent}{self.bold(self.label(name))}: {documents(facet.count)}"
                 yield from self.inside(facet, indent + STEP, most)
             else:
-                yield indent + self.bold(label(name)) + ("" if facet.buckets else ": no buckets")
+                yield indent + self.bold(self.label(name)) + ("" if facet.buckets else ": no buckets")
                 yield from self.rows(facet, indent + STEP, most)
 
     def rows(self, facet, indent, most):
         """The buckets of a facet and what stands beside them, in columns of their own."""
-        values = [value(one.value) for one in facet.buckets]
+        values = [self.written(value(one.value)) for one in facet.buckets]
         if all(isinstance(one.value, int) for one in facet.buckets):
             digits = max(map(len, values), default=0)
             values = [text.rjust(digits) for text in values]
@@ -84,8 +92,8 @@ class Layout:
     are not among them; where nothing is left for a bar it has no columns."""
 
     def __init__(self, terminal, shown, indent):
-        self.counts = max((len(f"{one.count:,}") for _, one in shown), default=0)
-        statistics = max((width(statistics_of(one)) for _, one in shown), default=0)
+        self.terminal, self.counts = terminal, max((len(f"{one.count:,}") for _, one in shown), default=0)
+        statistics = max((width(self.statistics(one)) for _, one in shown), default=0)
         room = terminal.columns - indent - len(GAP) - self.counts
         self.has_statistics = room - statistics - len(GAP) >= SHORTEST_LABEL
         room -= statistics + len(GAP) if statistics and self.has_statistics else 0
@@ -94,12 +102,12 @@ class Layout:
         self.bar = bar if bar >= SHORTEST_BAR else 0
 
     def line(self, text, bucket, bar):
-        line = f"{padded(cut(text, self.labels), self.labels)}{GAP}{bucket.count:{self.counts},}{GAP}{padded(bar, self.bar)}"
-        return (line + GAP + statistics_of(bucket) if self.has_statistics else line).rstrip()
+        text = cut(text, self.labels, "…" if self.terminal.has_blocks else "~")
+        line = f"{padded(text, self.labels)}{GAP}{bucket.count:{self.counts},}{GAP}{padded(bar, self.bar)}"
+        return (line + GAP + self.statistics(bucket) if self.has_statistics else line).rstrip()
 
-
-def statistics_of(bucket):
-    return GAP.join(f"{label(name)} {number:,}" for name, number in bucket.statistics)
+    def statistics(self, bucket):
+        return GAP.join(f"{self.terminal.label(name)} {number:,}" for name, number in bucket.statistics)
 
 
 def padded(text, columns):

@@ -39,8 +39,8 @@ def columns(character):
     return 2 if unicodedata.east_asian_width(character) in ("W", "F") else 1
 
 
-def cut(text, most):
-    """The front of a text that fits into so many columns."""
+def cut(text, most, mark):
+    """The front of a text that fits into so many columns, with a mark of one column where something is left out."""
     if width(text) <= most:
         return text
     kept, left = "", most - 1
@@ -49,4 +49,4 @@ def cut(text, most):
         if left < 0:
             break
         kept += character
-    return kept + "…"
+    return kept + mark

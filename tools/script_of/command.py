@@ -93,6 +93,7 @@ def read(options):
         raise Fault(None, f"no file has a field {name!r}, which was to be renamed")
     for name in set(splits) - set(reading.names.originals.values()):
         raise Fault(None, f"no file has a column {name!r}, which was to be split")
+    reading.fields.name(reading.names.originals)
     if len(reading.fields.fields) > limits.FIELDS:
         raise Fault(None, f"more than {limits.FIELDS} fields, id among them")
     return reading

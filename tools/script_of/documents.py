@@ -106,10 +106,9 @@ def of_table(path, splits, names):
     if "id" not in [field for field, _ in columns]:
         raise Fault(header.place(0), "no column is named id; --id COLUMN names the one that holds it")
     for row in rows:
-        if len(row.cells) > len(columns):
-            raise Fault(row.place(len(columns)), f"the row has {len(row.cells)} cells and the header {len(columns)}")
-        if len(row.cells) < len(columns):
-            raise Fault(row.place(0), f"the row has {len(row.cells)} cells and the header {len(columns)}")
+        if len(row.cells) != len(columns):
+            place = row.place(len(columns) if len(row.cells) > len(columns) else 0)
+            raise Fault(place, f"cells in this row: {len(row.cells)}; in the header: {len(columns)}")
         yield of_row(row, columns)
 
 

@@ -28,6 +28,11 @@ class Fields:
     def __init__(self, types):
         self.fields = {name: Field(kind) for name, kind in {"id": "string", **types}.items()}
 
+    def name(self, names):
+        """Takes in fields that perhaps no document has."""
+        for name in names:
+            self.fields.setdefault(name, Field(None))
+
     def take(self, name, at, values, place):
         """The values that a document has in a field, each an integer or a text, and what was seen of them."""
         field = self.fields.setdefault(name, Field(None))

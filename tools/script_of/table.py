@@ -1,6 +1,6 @@
 """The rows of a CSV file: cells between commas, in quotes where they hold commas, quotes (written twice) or line feeds."""
+from . import limits
 from .faults import Fault, Place
-from .limits import LINE_BYTES
 
 
 class Row:
@@ -68,8 +68,8 @@ class Rows:
                 continue
             parts.append(self.line[self.at:])
             size += len(self.line)
-            if size > LINE_BYTES or not self.step():
-                within = f" within {LINE_BYTES:,} characters" if size > LINE_BYTES else ""
+            if size > limits.LINE_BYTES or not self.step():
+                within = f" within {limits.LINE_BYTES:,} characters" if size > limits.LINE_BYTES else ""
                 raise Fault(begin, f"this quote is not closed{within}")
 
     def closed(self, cell):
