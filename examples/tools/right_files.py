@@ -51,6 +51,10 @@ CASES = [
      "--shards 2 --by turn a.csv b.jsonl",
      ['{"schema":{"shards":2,"fields":{"n":"plong"}}}', '{"add":{"shard":0,"doc":{"id":"b","n":1}}}',
       '{"add":{"shard":1,"doc":{"id":"a","n":2,"_childDocuments_":[{"id":"a1"}]}}}', '{"add":{"shard":0,"doc":{"id":"c"}}}']),
+    # The published check value of CRC-32: that of these digits is cbf43926 in base 16, and 26 there is 38.
+    ("a shard by the hash of an id", {"a.csv": "id\n123456789\n"}, "--shards 64 a.csv",
+     ['{"schema":{"shards":64,"fields":{}}}', '{"add":{"shard":38,"doc":{"id":"123456789"}}}']),
+    ("an id that is a float, as it is written", {"a.jsonl": '{"id":1.50}'}, "--type id=string a.jsonl", [ONE % "", ADD % '"id":"1.50"']),
     ("a format that the name does not tell", {"a": '{"id":"1"}'}, "--format lines a", [ONE % "", ADD % '"id":"1"']),
     ("control characters and escapes", {"a.jsonl": r'{"id":"\u0000\"\\é\ud83d\ude00"}'}, "a.jsonl",
      [ONE % "", ADD % r'"id":"\u0000\"\\é😀"']),

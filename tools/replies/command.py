@@ -1,5 +1,7 @@
 """The command: its words, where it writes, and its exit statuses."""
 import argparse
+import contextlib
+import errno
 import os
 import shutil
 import sys
@@ -32,27 +34,36 @@ def say(text):
 
 def said(path):
     """What each line says, with its number."""
-    shown = path or "standard input"
+    shown = "standard input" if path is None else path
     try:
-        file = open(path, "rb") if path else sys.stdin.buffer
-        for number, raw in enumerate(file, 1):
-            try:
-                yield number, read(raw.decode("utf-8"))
-            except UnicodeDecodeError as error:
-                raise Wrong(f"{shown}, line {number}: not UTF-8") from error
-            except Wrong as wrong:
-                raise Wrong(f"{shown}, line {number}: no line that the program writes: {wrong}") from wrong
+        with opened(path) as file:
+            for number, raw in enumerate(file, 1):
+                yield number, one_of(raw, f"{shown}, line {number}")
     except OSError as error:
         raise Unreadable(f"{shown}: {error.strerror}") from error
-    except AttributeError as error:
-        raise Unreadable(f"{shown} is closed") from error
+
+
+def opened(path):
+    if path is None and sys.stdin is None:
+        raise OSError(errno.EBADF, "it is closed")
+    return contextlib.nullcontext(sys.stdin.buffer) if path is None else open(path, "rb")
+
+
+def one_of(raw, place):
+    try:
+        return read(raw.decode("utf-8"))
+    except UnicodeDecodeError as error:
+        raise Wrong(f"{place}: not UTF-8") from error
+    except Wrong as wrong:
+        raise Wrong(f"{place}: no line that the program writes: {wrong}") from wrong
 
 
 def in_terminal(path):
     """Writes the replies on standard output, once all of them are read."""
-    encoding = getattr(sys.stdout, "encoding", None) or "ascii"
-    is_terminal = sys.stdout is not None and sys.stdout.isatty()
-    view = Terminal(shutil.get_terminal_size().columns, encoding, is_terminal and "NO_COLOR" not in os.environ)
+    if sys.stdout is None:
+        raise OSError(errno.EBADF, "there is no standard output")
+    encoding, is_bold = sys.stdout.encoding, sys.stdout.isatty() and "NO_COLOR" not in os.environ
+    view = Terminal(shutil.get_terminal_size().columns, encoding, is_bold)
     with tempfile.TemporaryFile() as aside:
         count = 0
         for number, one in said(path):
@@ -70,7 +81,7 @@ def as_page(path, target):
     """Writes the page beside its file, and then in its place."""
     target = os.path.realpath(target)
     if os.path.exists(target) and not os.path.isfile(target):
-        raise OSError(0, "is no file that can be replaced", target)
+        raise OSError(errno.EINVAL, f"{target} is no file that can be replaced")
     handle, aside = tempfile.mkstemp(prefix=".show-", dir=os.path.dirname(target))
     try:
         with open(handle, "w", encoding="utf-8") as file:
@@ -104,7 +115,7 @@ def mode(target):
 def main(arguments=None):
     options = words().parse_args(arguments)
     try:
-        if options.html:
+        if options.html is not None:
             as_page(options.file, options.html)
         else:
             in_terminal(options.file)
@@ -115,11 +126,11 @@ def main(arguments=None):
     except Unreadable as error:
         say(error)
         return 66
-    except (OSError, AttributeError) as error:
-        if not options.html:
+    except OSError as error:
+        if options.html is None:
             # What is left in the buffer is not to be tried again at the end.
             os.dup2(os.open(os.devnull, os.O_WRONLY), 1)
-        say(f"writing failed: {getattr(error, 'strerror', None) or 'there is no standard output'}")
+        say(f"writing failed: {error.strerror}")
         return 73
     except KeyboardInterrupt:
         return 130

@@ -1,5 +1,6 @@
 """The command: its words, what it says on standard error, and its exit statuses."""
 import argparse
+import errno
 import os
 import sys
 
@@ -93,7 +94,7 @@ def read(options):
         raise Fault(None, f"no file has a field {name!r}, which was to be renamed")
     for name in set(splits) - set(reading.names.originals.values()):
         raise Fault(None, f"no file has a column {name!r}, which was to be split")
-    reading.fields.name(reading.names.originals)
+    reading.fields.take_in(reading.names.originals)
     if len(reading.fields.fields) > limits.FIELDS:
         raise Fault(None, f"more than {limits.FIELDS} fields, id among them")
     return reading
@@ -118,12 +119,14 @@ def tell(reading, script):
 def write(script):
     """Writes all that is to be written; the status."""
     try:
+        if sys.stdout is None:
+            raise OSError(errno.EBADF, "there is no standard output")
         script.copy_to(sys.stdout.buffer)
         sys.stdout.buffer.flush()
-    except (OSError, AttributeError) as error:
+    except OSError as error:
         # What is left in the buffer is not to be tried again at the end.
         os.dup2(os.open(os.devnull, os.O_WRONLY), 1)
-        say(f"writing failed: {getattr(error, 'strerror', None) or 'there is no standard output'}")
+        say(f"writing failed: {error.strerror}")
         return 73
     return 0
 

@@ -13,8 +13,9 @@ class Field:
     """What was seen of a field: how many values, how many of them numbers, and where the first text, the first fraction and
     the first document with several values stood."""
 
-    def __init__(self, set_type):
-        self.set_type, self.values, self.numbers = set_type, 0, 0
+    def __init__(self, set_type=None, is_given=False):
+        # The type that it has, whatever its values, and whether it was given by whoever calls.
+        self.set_type, self.is_given, self.values, self.numbers = set_type, is_given, 0, 0
         self.text, self.fraction, self.several = None, None, None
 
     def type(self):
@@ -26,16 +27,16 @@ class Field:
 
 class Fields:
     def __init__(self, types):
-        self.fields = {name: Field(kind) for name, kind in {"id": "string", **types}.items()}
+        self.fields = {"id": Field("string"), **{name: Field(kind, True) for name, kind in types.items()}}
 
-    def name(self, names):
+    def take_in(self, names):
         """Takes in fields that perhaps no document has."""
         for name in names:
-            self.fields.setdefault(name, Field(None))
+            self.fields.setdefault(name, Field())
 
     def take(self, name, at, values, place):
         """The values that a document has in a field, each an integer or a text, and what was seen of them."""
-        field = self.fields.setdefault(name, Field(None))
+        field = self.fields.setdefault(name, Field())
         taken = [value_for(field, name, one_at, value, place) for one_at, value in values]
         if len(taken) > 1:
             if field.set_type in ("string", "plong"):
@@ -56,7 +57,7 @@ class Fields:
         """Why a field has its type, in words, where that is not plain."""
         field = self.fields[name]
         if field.set_type:
-            return "as set" if name != "id" else ""
+            return "as set" if field.is_given else ""
         if not field.values:
             return "no document has a value"
         told = []
@@ -71,8 +72,12 @@ def at_line(place):
     return f"{place.file}, line {place.line}"
 
 
+def keeps(name):
+    return f"--type {name}=string " + ("" if name == "id" else "(or strings) ") + "keeps its text"
+
+
 def no_fraction(name, text):
-    return f"{text} is no whole number, and no field holds another; --type {name}=string (or strings) keeps its text"
+    return f"{text} is no whole number, and no field holds another; {keeps(name)}"
 
 
 def value_for(field, name, at, value, place):
@@ -84,8 +89,8 @@ def value_for(field, name, at, value, place):
         return integer_for(name, at, value)
     if isinstance(value, bool):
         text = "true" if value else "false"
-        if not field.set_type:
-            raise Wrong(at, f"{text} is neither a text nor a whole number; --type {name}=string (or strings) keeps it as a text")
+        if not field.is_given:
+            raise Wrong(at, f"{text} is neither a text nor a whole number; {keeps(name)}")
         return text
     if isinstance(value, int):
         field.numbers += 1
@@ -94,7 +99,7 @@ def value_for(field, name, at, value, place):
 
 
 def text_for(field, name, at, value, place):
-    if isinstance(value, Number) and not field.set_type and not re.fullmatch("-?[0-9]+", value):
+    if isinstance(value, Number) and not field.is_given and not re.fullmatch("-?[0-9]+", value):
         raise Wrong(at, no_fraction(name, value))
     size = len(value.encode("utf-8"))
     if size > limits.TEXT_BYTES:
