@@ -9,7 +9,7 @@ from unittest import mock
 
 import right_files
 import wrong_files
-from calls import EXAMPLES, call, command, folder_of
+from calls import EXAMPLES, TOOLS, call, command, folder_of
 
 from script_of import limits
 from script_of.command import main
@@ -93,7 +93,7 @@ def of_the_shop(program):
 def full(path):
     """The status and the last line said where nothing can be written."""
     with open("/dev/full", "wb") as device:
-        done = subprocess.run([os.path.join(EXAMPLES, "..", "tools", "script-of"), path], cwd=SHOP, stdout=device, stderr=subprocess.PIPE)
+        done = subprocess.run([os.path.join(TOOLS, "script-of"), path], cwd=SHOP, stdout=device, stderr=subprocess.PIPE)
     return done.returncode, done.stderr.decode("utf-8").splitlines(keepends=True)[-1]
 
 

@@ -4,9 +4,10 @@ import json
 import os
 import re
 import stat
+import subprocess
 from unittest import mock
 
-from calls import EXAMPLES, call, command, folder_of
+from calls import EXAMPLES, TOOLS, call, command, folder_of
 from shown_page import Page
 
 from replies import faults
@@ -91,11 +92,28 @@ def in_terminals():
            "  the document is not as the schema has it: a text has more than 32,766 bytes\n"
     with mock.patch.dict(os.environ, {"COLUMNS": "80"}):
         yield "the fault of a script", (0, text, ""), call(main, [], HERE, fault)
+    for is_plain, wanted in ((False, "\x1b[1mthe script has a fault in line 9\x1b[0m"), (True, "the script has a fault in line 9")):
+        yield f"a terminal, {'without' if is_plain else 'with'} bold", (0, wanted), in_a_terminal(fault, {"NO_COLOR": "1"} if is_plain else {})
+    with open("/dev/full", "wb") as device:
+        done = subprocess.run([os.path.join(TOOLS, "show"), "shown.jsonl"], cwd=HERE, stdout=device, stderr=subprocess.PIPE)
+        yield "standard output that is full", (73, b"show: writing failed: No space left on device\n"), (done.returncode, done.stderr)
     yield "no file", (66, "", "show: none: No such file or directory\n"), call(main, ["none"], HERE)
     for nasty in NASTY:
         status, text, _ = call(main, [], HERE, json.dumps(reply(**{"f" + nasty: {"buckets": [bucket(1, nasty)]}})).encode("utf-8"))
         strange = [one for one in text.replace("\n", "") if ord(one) < 32 or 127 <= ord(one) < 160 or one in "\u202e\ud800"]
         yield f"the value {nasty[:20]!r} in a terminal", (0, 3, []), (status, text.count("\n"), strange)
+
+
+def in_a_terminal(line, more):
+    """The status and the first line that is written."""
+    reading, writing = os.openpty()
+    try:
+        environment = {name: value for name, value in os.environ.items() if name != "NO_COLOR"}
+        done = subprocess.run([os.path.join(TOOLS, "show")], input=line, stdout=writing, env={**environment, **more})
+        return done.returncode, os.read(reading, 4096).decode("utf-8").split("\r\n")[0]
+    finally:
+        os.close(reading)
+        os.close(writing)
 
 
 def of_faults():

@@ -16,7 +16,8 @@ def histogram(buckets):
     for number, bar in enumerate(bars):
         yield rectangle(number, bar, most)
     several = f", each bar the greatest of {each}" if each > 1 else ""
-    yield f"</svg><figcaption><span>{first}</span><span>greatest count {most:,}{several}</span><span>{last}</span></figcaption></figure>"
+    told = f"<span>{first}</span><span>greatest count {most:,}{several}</span><span>{last}</span>"
+    yield f"</svg><figcaption>{told}</figcaption></figure>"
 
 
 def rectangle(number, bar, most):

@@ -49,7 +49,8 @@ def section(number, said):
 
 
 def fault(title, words, told):
-    yield f'<section class="reply fault">\n<h2>{title}</h2>\n<p>{text(words)}</p>\n<p class="about"><code>{told}</code></p>\n</section>'
+    yield f'<section class="reply fault">\n<h2>{title}</h2>\n<p>{text(words)}</p>'
+    yield f'<p class="about"><code>{told}</code></p>\n</section>'
 
 
 def inside(bucket, kind, level, most):

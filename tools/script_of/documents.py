@@ -2,7 +2,7 @@
 import re
 
 from .faults import Fault, Place, Wrong
-from .json_text import JsonText, Members, Number, integer
+from .json_text import JsonText, Members, integer
 from .lines import lines
 from .table import Rows
 

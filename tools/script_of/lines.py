@@ -21,7 +21,8 @@ def lines(path):
 
 def text_of(path, number, raw):
     if len(raw) > limits.SCRIPT_BYTES:
-        raise Fault(Place(path, number, 1), f"the line has more than {limits.SCRIPT_BYTES:,} bytes, which is more than a script may have")
+        most = f"{limits.SCRIPT_BYTES:,}"
+        raise Fault(Place(path, number, 1), f"the line has more than {most} bytes, which is more than a script may have")
     if number == 1 and raw.startswith(codecs.BOM_UTF8):
         raw = raw[len(codecs.BOM_UTF8):]
     try:

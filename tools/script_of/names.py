@@ -22,8 +22,8 @@ class Names:
             self.passed_over[name] = True
             return None
         if not TAKEN.fullmatch(name) or len(name) > limits.NAME_BYTES or name == "_":
-            raise Wrong(at, f"no field can be named {name!r}: a name has 1 to {limits.NAME_BYTES} letters of ASCII, digits and _, and no "
-                            f"digit in front; --rename {quoted(original)}=NEW gives it another")
+            raise Wrong(at, f"no field can be named {name!r}: a name has 1 to {limits.NAME_BYTES} letters of ASCII, digits and "
+                            f"_, and no digit in front; --rename {quoted(original)}=NEW gives it another")
         if name in self.originals:
             raise Wrong(at, f"{original!r} and {self.originals[name]!r} would both be the field {name}")
         self.originals[name] = original

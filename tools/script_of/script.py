@@ -1,6 +1,7 @@
 """The script of some documents. They are read once, into a file aside, since the schema that stands in front of them has the
 types of all their values."""
 import json
+import marshal
 import shutil
 import tempfile
 import zlib
@@ -10,9 +11,7 @@ from .documents import documents
 from .faults import Fault, Place, Wrong
 from .requests import requests
 
-
-def compact(value):
-    return json.dumps(value, ensure_ascii=False, separators=(",", ":"))
+compact = json.JSONEncoder(ensure_ascii=False, separators=(",", ":")).encode
 
 
 class Reading:
@@ -29,7 +28,7 @@ class Reading:
             except Wrong as wrong:
                 raise Fault(document.place(wrong.at), wrong.text) from wrong
             self.blocks += 1
-            self.aside.write(compact([document.place(document.at), block]).encode("utf-8") + b"\n")
+            marshal.dump((*document.place(document.at), block), self.aside)
 
     def table(self, document):
         gathered = {}
@@ -63,8 +62,8 @@ class Reading:
     def blocks_aside(self):
         """What was kept, one block behind another."""
         self.aside.seek(0)
-        for line in self.aside:
-            place, block = json.loads(line)
+        for _ in range(self.blocks):
+            *place, block = marshal.load(self.aside)
             yield Place(*place), block
 
 

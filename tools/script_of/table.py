@@ -4,13 +4,17 @@ from .faults import Fault, Place
 
 
 class Row:
-    """The cells of a row, and where each begins: its line and column."""
+    """The cells of a row, and where they begin: the line and column of each, or those of the first where all stand side by side
+    without quotes."""
 
-    def __init__(self, path):
-        self.path, self.cells, self.begins = path, [], []
+    def __init__(self, path, cells, begins):
+        self.path, self.cells, self.begins = path, cells, begins
 
     def place(self, number):
-        return Place(self.path, *self.begins[number])
+        if number < len(self.begins):
+            return Place(self.path, *self.begins[number])
+        line, column = self.begins[0]
+        return Place(self.path, line, column + sum(len(cell) + 1 for cell in self.cells[:number]))
 
 
 class Rows:
@@ -32,12 +36,14 @@ class Rows:
                 yield self.row()
 
     def row(self):
-        row = Row(self.path)
+        if '"' not in self.line:
+            return Row(self.path, self.line.rstrip("\r\n").split(","), [(self.number, 1)])
+        cells, begins = [], []
         while True:
-            row.begins.append((self.number, self.at + 1))
-            row.cells.append(self.quoted() if self.line.startswith('"', self.at) else self.plain())
+            begins.append((self.number, self.at + 1))
+            cells.append(self.quoted() if self.line.startswith('"', self.at) else self.plain())
             if not self.line.startswith(",", self.at):
-                return row
+                return Row(self.path, cells, begins)
             self.at += 1
 
     def ends_at(self):
@@ -74,5 +80,6 @@ class Rows:
 
     def closed(self, cell):
         if not self.line.startswith(",", self.at) and self.at != self.ends_at():
-            raise Fault(Place(self.path, self.number, self.at + 1), "a comma or the end of the line is wanted behind the closing quote")
+            place = Place(self.path, self.number, self.at + 1)
+            raise Fault(place, "a comma or the end of the line is wanted behind the closing quote")
         return cell
