@@ -14,7 +14,7 @@ returns c =
     let whole : passed ≡ v = search rules in
     let bits = map (has_between passed passed) column in
     let size : length bits ≡ length c.args.into.now = length-map column _ ∙ sym c.requires.length in
-    c.set_mask.ensures ∙ first_bits_is (length c.args.into.now) c.between.new.into bits size (λ k within. c.between.ensures k)
+    c.set_mask.ensures ∙ first_bits_is (length c.args.into.now) c.between.new.into bits size (λ k within. c.between.ensures.bits k)
     ∙ ap (λ (z : ℤ). map (has_between z z) column) whole
     ∙ longs_pass (λ z. int_le v z && int_le z v) (same_val (long v)) column (at_long v)
     ∙ ap (λ v. map (has_val v) (map (map long) column)) (sym c.integer_of-number.ensures)
