@@ -10,7 +10,7 @@ use Rattle.fc_spec.specs.requests.Gaps.{gap_count, high_end, in_gap, is_last_gap
 use Rattle.fc_spec.specs.requests.Request.{Range}
 use Rattle.fc_facet.specs.RangeGaps.{HasFewGaps}
 use Rattle.fc_facet.proofs.RangeGaps.{product_is, some_step}
-use Rattle.fc_gaps.proofs.NearGaps.{near_gaps}
+use Rattle.fc_range.proofs.NearGaps.{near_gaps}
 use Rattle.fc_range.specs.Reached.{is_held}
 use Rattle.fc_range.proofs.Tests.{and_false, below_is}
 

@@ -13,7 +13,7 @@ use Rattle.fc_spec.specs.documents.IntegerTexts.{is_long}
 use Rattle.fc_spec.specs.requests.Gaps.{gap_count, in_gap}
 use Rattle.fc_spec.specs.requests.Request.{Range}
 use Rattle.fc_facet.specs.RangeGaps.{HasFewGaps}
-use Rattle.fc_gaps.proofs.NearGaps.{gaps_ascend}
+use Rattle.fc_range.proofs.NearGaps.{gaps_ascend}
 use Rattle.fc_range.proofs.Tests.{below_is, is_below}
 use Rattle.fc_range.specs.Reached.{is_held}
 

@@ -10,3 +10,4 @@ pub mod GapBuckets
 pub mod BesideGaps
 pub mod CountedOnce
 pub mod GapInside
+pub mod NearGaps

@@ -11,11 +11,11 @@ ghost use Rattle.fc_partial.specs.View.{stat_value_view};
 ghost use Rattle.fc_count.specs.Counted.{HaveCounted};
 ghost use Rattle.fc_range.specs.Reached.{IsReached, is_held};
 
+use crate::gaps::{gaps_before, is_in_gap};
 use crate::inside::gap_around;
 use fc_column::LongColumn;
 use fc_count::Numbering;
 use fc_facet::Range;
-use fc_gaps::{gaps_before, is_in_gap};
 use fc_partial::{Cells, StatValue};
 
 /// The gaps of a range facet by their numbers: each counts the documents with an integer that it holds.

@@ -3,6 +3,7 @@
 
 mod counting;
 mod ends;
+mod gaps;
 mod inside;
 mod keys;
 mod query;

@@ -1,6 +1,5 @@
 // From which integer to which the buckets of a range facet reach.
 ghost use Rattle.std.specs.Prelude.{◌≡◌, ◌&&◌, ℤ, ◌≤ℤ◌, MatchOption, int_le, true, false};
-ghost use Rattle.std.specs.Ordering.{int_eq};
 ghost use Rattle.fc_spec.specs.documents.IntegerTexts.{is_long};
 ghost use Rattle.fc_spec.specs.requests.Buckets as bucket;
 ghost use Rattle.fc_spec.specs.requests.Gaps as definition;
@@ -10,8 +9,10 @@ ghost use Rattle.fc_partial.specs.View.{key_view};
 ghost use Rattle.fc_domain.specs.Within.{PassesFromTo};
 ghost use Rattle.fc_range.specs.HeldEnds.{is_alone, is_from, is_to};
 
+use crate::gaps::{
+    high_end_of, holds_end, holds_high, holds_low, holds_start, is_same, low_end_of,
+};
 use fc_facet::Range;
-use fc_gaps::{high_end_of, holds_end, holds_high, holds_low, holds_start, low_end_of};
 use fc_partial::Key;
 
 // The least integer above a number, or from it on where it is held.
@@ -54,12 +55,6 @@ fn from_to(low: i128, with_low: bool, high: i128, with_high: bool) -> (i64, i64)
         (Some(least), Some(greatest)) => (least, greatest),
         _ => (1, 0),
     }
-}
-
-fn is_same(a: i128, b: i128) -> bool
-    ensures { result ≡ int_eq a b }
-{
-    a.cmp(&b).is_eq()
 }
 
 // Whether both ends are one number, which one of them holds.

@@ -3,7 +3,7 @@ use Rattle.std.specs.Prelude.{nat_le}
 use Rattle.std.proofs.lemmas.Int.{to_z-of_z}
 use Rattle.fc_spec.specs.requests.Gaps.{in_gap}
 use Rattle.fc_facet.specs.KindView.{range_view}
-use Rattle.fc_gaps.proofs.NearGaps.{none_below}
+use Rattle.fc_range.proofs.NearGaps.{none_below}
 use Rattle.fc_partial.specs.View.{stat_value_view}
 use Rattle.fc_count.specs.Counted.{HaveCounted}
 use Rattle.fc_count.proofs.CountedSteps.{counted_none, counted_same}

@@ -3,7 +3,7 @@ use Rattle.std.proofs.lemmas.Bool.{ne_eqb}
 use Rattle.std.proofs.lemmas.Int.{to_z-of_z}
 use Rattle.fc_spec.specs.requests.Gaps.{gap_count, in_gap, is_last_gap}
 use Rattle.fc_facet.specs.KindView.{range_view}
-use Rattle.fc_gaps.proofs.NearGaps.{distance}
+use Rattle.fc_range.proofs.NearGaps.{distance}
 use Rattle.fc_range.proofs.GapInside.{gap_alone}
 use Rattle.fc_range.proofs.Tests.{and_false}
 use Rattle.fc_range.proofs.inside.gap_around.Goals as goal

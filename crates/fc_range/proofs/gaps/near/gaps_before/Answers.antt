@@ -1,8 +1,8 @@
 use Rattle.std.proofs.Common.{◌≡◌, ◌∙◌, ◌+◌, ◌/◌, ◌⊎◌, pos, ◌+ℤ◌, ◌-ℤ◌, ap, sym, subst, w64, FitsSigned, unsigned_abs, rules}
 use Rattle.std.proofs.lemmas.Int.{to_z-of_z}
 use Rattle.fc_facet.specs.KindView.{range_view}
-use Rattle.fc_gaps.proofs.NearGaps.{distance, near_gaps}
-use Rattle.fc_gaps.proofs.near.gaps_before.Goals as goal
+use Rattle.fc_range.proofs.NearGaps.{distance, near_gaps}
+use Rattle.fc_range.proofs.gaps.near.gaps_before.Goals as goal
 
 pub returns : goal.returns
 returns c = λ i h.

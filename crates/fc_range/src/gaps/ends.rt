@@ -32,16 +32,16 @@ pub(crate) fn is_last_gap(range: &Range, number: u32) -> bool
     u64::from(range.gaps()) == u64::from(number) + 1
 }
 
-/// The low end of a gap, by its number from 0.
-pub fn low_end_of(range: &Range, number: u32) -> i128
+// The low end of a gap, by its number from 0.
+pub(crate) fn low_end_of(range: &Range, number: u32) -> i128
     requires { HasFewGaps (range_view range.now) }
     ensures { result ≡ definition.low_end (range_view range.now) number }
 {
     low_end(range, u64::from(number))
 }
 
-/// The high end of a gap.
-pub fn high_end_of(range: &Range, number: u32) -> i128
+// The high end of a gap.
+pub(crate) fn high_end_of(range: &Range, number: u32) -> i128
     requires { HasFewGaps (range_view range.now) }
     ensures { result ≡ definition.high_end (range_view range.now) number }
 {
