@@ -6,7 +6,7 @@ ghost use Rattle.fc_spec.specs.requests.Request.{stats_of};
 ghost use Rattle.fc_spec.specs.requests.Statistics.{stats_over};
 ghost use Rattle.fc_partial.specs.BucketView.{bare, bucket_view, buckets_view};
 ghost use Rattle.fc_partial.specs.StatsView.{stats_view};
-ghost use Rattle.fc_partial.specs.Tallying.{entry_at};
+ghost use Rattle.fc_partial.specs.Tallying.{IsTally, entry_at};
 ghost use Rattle.fc_request.specs.FacetNode.{has_buckets, kind_of, kind_view};
 ghost use Rattle.fc_request.specs.NodeView.{inner_view};
 ghost use Rattle.fc_answers.specs.Listed.{listed_of};
@@ -34,6 +34,7 @@ pub fn listed(alloc: Global, node: &Node, tally: Tally) -> Result<Vec<PartialBuc
     requires keys { All (λ key. IsTrue (is_key_of (kind_view (kind_of node.now)) key)) (keys_of tally.entries) }
     ensures listed { IfOk result (λ list. buckets_view list.items ≡ bare (listed_of (kind_view (kind_of node.now)) tally.stats tally.entries)) }
     ensures keys { IfOk result (λ list. All (λ b. IsTrue (is_key_of (kind_view (kind_of node.now)) (bucket_view b).key)) list.items) }
+    ensures tally { IsTally tally }
 {
     match &node.kind {
         Kind::Terms(terms) => {
@@ -55,7 +56,8 @@ pub fn listed(alloc: Global, node: &Node, tally: Tally) -> Result<Vec<PartialBuc
 // The statistics of the one bucket of a query facet, which may have no document.
 fn whole_stats(alloc: Global, node: &Node, tally: &Tally) -> Result<Stats, WantMemory>
     requires { tally.now.stats ≡ stats_of (inner_view node.now) }
-    ensures { IfOk result (λ stats. stats_view stats ≡ unwrap_or (entry_at tally.now.entries whole) (stats_over tally.now.stats [])) }
+    ensures stats { IfOk result (λ stats. stats_view stats ≡ unwrap_or (entry_at tally.now.entries whole) (stats_over tally.now.stats [])) }
+    ensures tally { IsTally tally.now }
 {
     match tally.get(&Key::Whole) {
         Some(stats) => {
@@ -73,8 +75,9 @@ fn whole_stats(alloc: Global, node: &Node, tally: &Tally) -> Result<Stats, WantM
 // That bucket, by itself.
 fn whole_bucket(alloc: Global, node: &Node, tally: &Tally) -> Result<Vec<PartialBucket>, WantMemory>
     requires { tally.now.stats ≡ stats_of (inner_view node.now) }
-    ensures { IfOk result (λ list. buckets_view list.items
+    ensures list { IfOk result (λ list. buckets_view list.items
         ≡ bare ((whole, unwrap_or (entry_at tally.now.entries whole) (stats_over tally.now.stats [])) ∷ [])) }
+    ensures tally { IsTally tally.now }
 {
     let stats = whole_stats(alloc, node, tally)?;
     let mut list = Vec::new(alloc);

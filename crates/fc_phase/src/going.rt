@@ -5,7 +5,6 @@ ghost use Rattle.fc_spec.specs.documents.Schema.{Schema};
 ghost use Rattle.fc_spec.specs.requests.DomainSets.{base_set};
 ghost use Rattle.fc_spec.specs.requests.Request.{stats_of};
 ghost use Rattle.fc_partial.specs.BucketView.{bucket_view, linked};
-ghost use Rattle.fc_partial.specs.Tallying.{IsTally};
 ghost use Rattle.fc_request.specs.FacetNode.{has_buckets, kind_of};
 ghost use Rattle.fc_request.specs.NodeView.{inner_view};
 ghost use Rattle.fc_request.specs.RequestView.{request_view};
@@ -33,7 +32,7 @@ use fc_docset::DocSet;
 use fc_jobs::{listed, tally_of};
 use fc_kind::FacetKind;
 use fc_levels::{Level, Next, job_ended, top_ended};
-use fc_partial::{Key, Message, PartialBucket, PartialNode, Stats, Tally};
+use fc_partial::{Message, PartialBucket, PartialNode, Stats};
 use fc_refine::Ask;
 use fc_request::{Node, Request};
 use fc_segment::Segment;
@@ -273,13 +272,6 @@ fn top_unit<'a>(
     top_followed(alloc, request, ask, segments.len(), roots, buckets, job)
 }
 
-// That the keys of a tally ascend, as a look-up tells.
-fn keys_ascend(tally: &Tally)
-    ensures { IsTally tally.now }
-{
-    let _whole = tally.get(&Key::Whole);
-}
-
 // What follows the last segment of a facet's job.
 fn facet_done<'a>(
     alloc: Global,
@@ -308,7 +300,6 @@ fn facet_done<'a>(
         domain,
         tally,
     } = job;
-    keys_ascend(&tally);
     let list = listed(alloc, node, tally)?;
     let next = job_ended(alloc, &mut levels, node, domain, list)?;
     after_job(alloc, request, ask, roots, buckets, levels, next)

@@ -8,6 +8,7 @@ ghost use Rattle.fc_refine.specs.ValuedView.{valued_entry};
 ghost use Rattle.fc_facet.specs.declared.kind.Kind.TheVariants as variant;
 ghost use Rattle.fc_facet.specs.KindView.{sort_view, terms_view};
 ghost use Rattle.fc_partial.specs.BucketView.{bare, bucket_view, buckets_view};
+ghost use Rattle.fc_partial.specs.Tallying.{IsTally};
 ghost use Rattle.fc_request.specs.FacetNode.{IsTerms, kind_of};
 ghost use Rattle.fc_request.specs.NodeView.{inner_view};
 ghost use Rattle.fc_refine.specs.Tops.{bare_of, entries_in, is_value_or_missing, of_entry, others_of_tally, top_of, values_of_tally};
@@ -134,8 +135,9 @@ pub fn top(
     requires terms { IsTerms (kind_of node.now) }
     requires stats { tally.stats ≡ stats_of (inner_view node.now) }
     requires keys { All (λ key. IsTrue (is_value_or_missing key)) (keys_of tally.entries) }
-    ensures { IfOk result (λ buckets. (terms : Terms) → kind_of node.now ≡ variant.Terms terms →
+    ensures buckets { IfOk result (λ buckets. (terms : Terms) → kind_of node.now ≡ variant.Terms terms →
         buckets_view buckets.items ≡ bare (top_of (sort_view terms.sort) at_most tally.entries)) }
+    ensures tally { IsTally tally }
 {
     let buckets = tally.into_buckets()?;
     match &node.kind {

@@ -14,7 +14,7 @@ returns-in_ok-list-in-Terms-clause-keys c =
     let kind = kind_view (kind_of c.args.node.now) in
     let bs = c.in_ok-list-in-Terms.list.items in
     let same : buckets_view bs ≡ bare (listed_of kind ss es) =
-    c.in_ok-list-in-Terms.ensures c.in-Terms.terms c.in-Terms.is ∙ ap (λ b. bare (top_of (sort_view c.in-Terms.terms.sort) b es)) c.offered.ensures
+    c.in_ok-list-in-Terms.ensures.buckets c.in-Terms.terms c.in-Terms.is ∙ ap (λ b. bare (top_of (sort_view c.in-Terms.terms.sort) b es)) c.offered.ensures
     ∙ ap (λ k. bare (listed_of (kind_view k) ss es)) (sym c.in-Terms.is) in
     keys_listed kind ss es bs c.requires.keys same
 
@@ -34,5 +34,5 @@ returns-in_ok-list-in-Query-clause-keys c =
     let ss = c.args.tally.stats in
     let kind = kind_view (kind_of c.args.node.now) in
     let bs = c.in_ok-list-in-Query.list.items in
-    let same : buckets_view bs ≡ bare (listed_of kind ss es) = c.in_ok-list-in-Query.ensures ∙ ap (λ k. bare (listed_of (kind_view k) ss es)) (sym c.in-Query.is) in
+    let same : buckets_view bs ≡ bare (listed_of kind ss es) = c.in_ok-list-in-Query.ensures.list ∙ ap (λ k. bare (listed_of (kind_view k) ss es)) (sym c.in-Query.is) in
     keys_listed kind ss es bs c.requires.keys same

@@ -8,4 +8,4 @@ listed-requires-clause-keys c = listed_keys_of c.requires.stands.0 c.requires.st
 pub returns : goal.returns
 returns c =
     facet_goes c.args.request.now (ask_view c.args.ask.now) c.args.roots.items c.args.buckets.items c.args.levels.items c.job_ended.new.levels.items c.args.job c.in_ok-list.list.items c.in_ok-next.next
-    (record { ascends = c.keys_ascend.ensures; listed = c.in_ok-list.ensures.listed; keys = c.in_ok-list.ensures.keys }) (record { goes = c.in_ok-next.ensures.goes; kept = c.in_ok-next.ensures.kept; next_is = c.in_ok-next.ensures.next }) c.after_job.result c.after_job.ensures
+    (record { ascends = c.in_ok-list.ensures.tally; listed = c.in_ok-list.ensures.listed; keys = c.in_ok-list.ensures.keys }) (record { goes = c.in_ok-next.ensures.goes; kept = c.in_ok-next.ensures.kept; next_is = c.in_ok-next.ensures.next }) c.after_job.result c.after_job.ensures
