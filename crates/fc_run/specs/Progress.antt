@@ -1,8 +1,7 @@
 -- Commits of a shard's batches, and what is left of them.
-use Rattle.std.specs.Prelude.{ℕ, ◌+◌, ◌-◌, ◌≤◌, List, ◌++◌, length, map, take, drop, All, Vec}
+use Rattle.std.specs.Prelude.{ℕ, ◌+◌, ◌-◌, ◌≤◌, List, ◌++◌, length, map, take, drop, All}
 use Rattle.std.specs.Arc.{arc_value}
 use Rattle.std.specs.List.{zip}
-use Rattle.std.specs.declared.alloc.Global.{Global}
 use Rattle.fc_spec.specs.documents.Schema.{Schema}
 use Rattle.fc_spec.specs.words.Lists.{joined}
 use Rattle.fc_docs.specs.declared.block.Batch.{Batch}
@@ -12,17 +11,10 @@ use Rattle.fc_store.specs.Generated.{Generated}
 use Rattle.fc_store.specs.declared.generation.Generation.{Generation}
 use Rattle.fc_run.specs.Generations.{generation_at}
 use Rattle.fc_run.specs.declared.commits.Committed.{Committed}
-use Rattle.fc_run.specs.declared.uncommitted.Uncommitted.{Uncommitted}
-use Rattle.fc_run.specs.declared.uncommitted.Uncommitted.TheVariants.{Own, Shared}
 
 -- the generation after a commit of each of the batches
 abbrev pub generation_after : Generated → List Batch → Generated
 generation_after g batches = record { schema = g.schema; number = g.number + length batches; blocks = g.blocks ++ joined (batches_view batches) }
-
--- the batches of a shard that are not committed yet
-abbrev pub left_of : Uncommitted → List Batch
-left_of (Own batches) = batches.items
-left_of (Shared batches committed) = drop committed (arc_value {X = Vec Batch Global} batches).items
 
 -- a shard between two commits: its generation, and the batches that are left
 pub record Progress : Type 0 where
@@ -30,7 +22,7 @@ pub record Progress : Type 0 where
   pub left : List Batch
 
 abbrev pub progress_of : Committed → Progress
-progress_of c = record { generation = arc_value {X = Generation} c.generation; left = left_of c.uncommitted }
+progress_of c = record { generation = arc_value {X = Generation} c.generation; left = c.uncommitted.items }
 
 -- how many commits are missing for so many
 abbrev pub missing_to : Progress → ℕ → ℕ
@@ -40,12 +32,11 @@ missing_to p commits = commits - p.generation.number
 abbrev pub carried : Progress → ℕ → Progress
 carried p commits = record { generation = generation_after p.generation (take (missing_to p commits) p.left); left = drop (missing_to p commits) p.left }
 
--- so many can be made: the shard has no more yet, there are as many batches, each of the schema, together few, and they are 4,096 commits at most
+-- so many can be made: the shard has no more yet, there are as many batches, together of the schema and few, and they are 4,096 commits at most
 pub record CanCarry (p : Progress) (commits : ℕ) : Type 0 where
   pub below : p.generation.number ≤ commits
   pub there : missing_to p commits ≤ length p.left
   pub number : p.generation.number + missing_to p commits ≤ 4096
-  pub each : All (IsBatchOf p.generation.schema) (batches_view (take (missing_to p commits) p.left))
   pub all : IsBatchOf p.generation.schema (joined (batches_view (take (missing_to p commits) p.left)))
 
 -- shards, each once it has its number of commits

@@ -1,9 +1,7 @@
 -- What the searches of a script that was read write.
 use Rattle.std.specs.Prelude.{ℕ, List, map, Vec}
-use Rattle.std.specs.Arc.{arc_value}
 use Rattle.std.specs.List.{flat_map}
 use Rattle.std.specs.declared.alloc.Global.{Global}
-use Rattle.std.specs.declared.sync.Arc.{Arc}
 use Rattle.fc_spec.specs.documents.Document as documents
 use Rattle.fc_spec.specs.documents.Val.{Text}
 use Rattle.fc_spec.specs.documents.World.{World}
@@ -16,15 +14,15 @@ use Rattle.fc_script.specs.declared.script.Phase.{Phase}
 use Rattle.fc_script.specs.declared.script.Search.{Search}
 use Rattle.fc_run.specs.Replies.{world_at}
 
--- the batches of a shard, that are shared
+-- the batches of a shard
 abbrev pub Shard : Type 0
-Shard = Arc (Vec Batch Global) Global
+Shard = Vec Batch Global
 
 abbrev pub lists_in : List Shard → List (List Batch)
-lists_in shards = map (λ shard. (arc_value {X = Vec Batch Global} shard).items) shards
+lists_in shards = map (λ shard. shard.items) shards
 
 abbrev pub shards_view : List Shard → List (List documents.Batch)
-shards_view shards = map (λ shard. batches_view (arc_value {X = Vec Batch Global} shard).items) shards
+shards_view shards = map (λ shard. batches_view shard.items) shards
 
 -- the lines of searches over a world and its numbers
 abbrev pub search_lines : Replies → World → List ℕ → (sessions : List Text) → List Search → Text

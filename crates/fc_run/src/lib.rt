@@ -8,7 +8,6 @@ mod replies;
 mod run_text;
 mod shards;
 mod status;
-mod uncommitted;
 
 pub use call::run;
 pub use run_text::{RunText, run_text_of};

@@ -5,7 +5,6 @@ ghost use Rattle.fc_run.specs.Searches.{lists_in};
 ghost use Rattle.fc_run.specs.Progress.{CanCarryAll, all_carried, all_progress_at, progress_of};
 
 use crate::commits::{Committed, carry};
-use crate::uncommitted::Uncommitted;
 use fc_base::{Schema, WantMemory};
 use fc_docs::Batch;
 use fc_store::Generation;
@@ -16,7 +15,7 @@ use std::sync::Arc;
 pub(crate) fn first_shards(
     alloc: Global,
     schema: &Arc<Schema>,
-    batches: Vec<Arc<Vec<Batch>>>,
+    batches: Vec<Vec<Batch>>,
 ) -> Result<Vec<Committed>, WantMemory>
     ensures { IfOk result (λ first. map progress_of first.items
         ≡ all_progress_at (arc_value schema.now) (lists_in batches.items) (map (λ shard. 0) batches.items)) }
@@ -25,7 +24,7 @@ pub(crate) fn first_shards(
     for shard in batches {
         first.push(Committed {
             generation: Generation::first(alloc, Arc::try_clone(schema)?)?,
-            uncommitted: Uncommitted::all(shard),
+            uncommitted: shard,
         })?;
     }
     Ok(first)

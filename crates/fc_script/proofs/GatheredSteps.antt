@@ -90,10 +90,10 @@ batches_are (x ∷ xs) = ap (λ bs. batches_view x.batches.items ∷ bs) (batche
 
 -- where the lines end
 pub finished : (s : Schema) (sessions : List Text) (old new : Gathered) (script : Script) → gathered_view sessions new ≡ gathered.with_sync (gathered_view sessions old) → new.shards ≡ old.shards → arc_value script.schema ≡ s → script.sessions.items ≡ sessions
-    → map (λ b. batches_view (arc_value {X = Vec Batch Global} b).items) script.batches.items ≡ map (λ x. batches_view x.batches.items) new.shards.items → script.phases.items ≡ new.phases.items
+    → map (λ b. batches_view b.items) script.batches.items ≡ map (λ x. batches_view x.batches.items) new.shards.items → script.phases.items ≡ new.phases.items
     → parts_view script ≡ gathered.gathered_parts s sessions (gathered_view sessions old)
 finished s sessions old new script ended same schema among batches phases =
-    let all : map (λ b. batches_view (arc_value {X = Vec Batch Global} b).items) script.batches.items ≡ map (λ x. x.batches) (map shard_view old.shards.items) =
+    let all : map (λ b. batches_view b.items) script.batches.items ≡ map (λ x. x.batches) (map shard_view old.shards.items) =
     batches ∙ ap (λ (v : Vec ShardSoFar Global). map (λ x. batches_view x.batches.items) v.items) same ∙ batches_are old.shards.items in
     let parted : phases_view script.sessions.items script.phases.items ≡ (gathered.with_sync (gathered_view sessions old)).phases =
     (λ i. phases_view (among i) (phases i)) ∙ ap (λ (g : gathered.Gathered). g.phases) ended in

@@ -69,12 +69,12 @@ pub sound_parts : (script : Script) (S : AskedScript) → parts_view script ≡ 
 sound_parts script S same limits within sound valid = record {
   schema = valid;
   shards =
-      sym (length-map script.batches.items (λ b. batches_view (arc_value {X = Vec Batch Global} b).items)) ∙ ap (λ (p : Parts Asked). length p.batches) same
+      sym (length-map script.batches.items (λ b. batches_view b.items)) ∙ ap (λ (p : Parts Asked). length p.batches) same
       ∙ length-map-range_with_len (stream S.lines) 0 S.schema.shards ∙ sym (ap (λ (p : Parts Asked). p.schema.shards) same);
-  batches = All-unmap (All (IsBatchOf limits (arc_value script.schema))) (λ b. batches_view (arc_value {X = Vec Batch Global} b).items) script.batches.items (subst (valid_batches limits) (sym same) (batches_are limits S within));
+  batches = All-unmap (All (IsBatchOf limits (arc_value script.schema))) (λ b. batches_view b.items) script.batches.items (subst (valid_batches limits) (sym same) (batches_are limits S within));
   phases = λ k d below. record {
-    commits = cut_seen (λ b. (arc_value {X = Vec Batch Global} b).items) batch_view script.batches.items (get_or script.phases.items k d).commits.items
-        (subst (CutBatches (map (λ b. batches_view (arc_value {X = Vec Batch Global} b).items) script.batches.items)) (commits_at script.sessions.items script.phases.items k d below)
+    commits = cut_seen (λ b. b.items) batch_view script.batches.items (get_or script.phases.items k d).commits.items
+        (subst (CutBatches (map (λ b. batches_view b.items) script.batches.items)) (commits_at script.sessions.items script.phases.items k d below)
         (cut k (phase_view script.sessions.items (0, d)) (let long = phases_length script.sessions.items script.phases.items in omega arith)));
     searches = sound k d below;
   };

@@ -1,8 +1,7 @@
 -- What a script that was read stands for in the definitions.
-use Rattle.std.specs.Prelude.{ℕ, List, [], map, Vec, slice_index_or}
+use Rattle.std.specs.Prelude.{ℕ, List, [], map, slice_index_or}
 use Rattle.std.specs.Arc.{arc_value}
 use Rattle.std.specs.List.{enumerate_from}
-use Rattle.std.specs.declared.alloc.Global.{Global}
 use Rattle.fc_spec.specs.documents.Document as documents
 use Rattle.fc_spec.specs.documents.Val.{Text}
 use Rattle.fc_spec.specs.scripts.AskedScripts.{Asked}
@@ -37,6 +36,6 @@ abbrev pub parts_view : Script → Parts Asked
 parts_view s = record {
   schema = arc_value s.schema;
   sessions = s.sessions.items;
-  batches = map (λ b. batches_view (arc_value {X = Vec Batch Global} b).items) s.batches.items;
+  batches = map (λ b. batches_view b.items) s.batches.items;
   phases = phases_view s.sessions.items s.phases.items;
 }

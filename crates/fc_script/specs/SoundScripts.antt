@@ -1,7 +1,6 @@
 -- What is known of a script that was read: of its schema, its batches, its numbers and its requests.
 use Rattle.std.specs.Prelude.{◌≡◌, ℕ, ◌<◌, ◌≤◌, List, [], length, map, All, IfOk, slice_index, slice_index_or, Vec}
 use Rattle.std.specs.declared.alloc.Global.{Global}
-use Rattle.std.specs.declared.sync.Arc.{Arc}
 use Rattle.std.specs.Arc.{arc_value}
 use Rattle.fc_spec.specs.documents.Document as documents
 use Rattle.fc_spec.specs.documents.Schema.{Schema}
@@ -39,12 +38,12 @@ pub record IsBatchOf (limits : Limits) (s : Schema) (b : documents.Batch) : Type
   pub few : document_total b ≤ limits.documents
 
 -- so are the batches of a shard
-abbrev pub AreBatchesOf : Limits → Schema → Arc (Vec Batch Global) Global → Type 0
-AreBatchesOf limits s shard = All (IsBatchOf limits s) (batches_view (arc_value {X = Vec Batch Global} shard).items)
+abbrev pub AreBatchesOf : Limits → Schema → Vec Batch Global → Type 0
+AreBatchesOf limits s shard = All (IsBatchOf limits s) (batches_view shard.items)
 
 -- its schema is one, there are batches of it for each shard, and its phases are sound
 pub record IsSound (limits : Limits) (s : Script) : Type 0 where
   pub schema : IsValidSchema (arc_value s.schema)
   pub shards : length s.batches.items ≡ (arc_value s.schema).shards
   pub batches : All (AreBatchesOf limits (arc_value s.schema)) s.batches.items
-  pub phases : All (IsSoundPhase (arc_value s.schema) (length s.sessions.items) (map (λ b. (arc_value {X = Vec Batch Global} b).items) s.batches.items)) s.phases.items
+  pub phases : All (IsSoundPhase (arc_value s.schema) (length s.sessions.items) (map (λ b. b.items) s.batches.items)) s.phases.items

@@ -30,7 +30,7 @@ pub struct Phase {
 pub struct Script {
     pub schema: Arc<Schema>,
     pub sessions: Vec<Name>,
-    pub batches: Vec<Arc<Vec<Batch>>>,
+    pub batches: Vec<Vec<Batch>>,
     pub phases: Vec<Phase>,
 }
 

@@ -1,8 +1,7 @@
 -- The generations of a shard, batch by batch.
-use Rattle.std.proofs.Common.{◌≡◌, ℕ, ◌+◌, ◌-◌, ◌<◌, ◌≤◌, List, ◌++◌, length, take, drop, get_or, flat_map, sym, ◌∙◌, ap, subst, arith, take-add}
-use Rattle.std.specs.Prelude.{All}
+use Rattle.std.proofs.Common.{◌≡◌, ℕ, ◌+◌, ◌-◌, ◌≤◌, List, ◌++◌, take, drop, flat_map, sym, ◌∙◌, ap, arith, take-add}
 use Rattle.std.proofs.lemmas.Grind.{flat_map-append}
-use Rattle.std.proofs.lemmas.List.{get_or-map, length-map, take-map}
+use Rattle.std.proofs.lemmas.List.{take-map}
 use Rattle.std.proofs.lemmas.List.Folds.{flat_map-map}
 use Rattle.fc_spec.specs.documents.Document as documents
 use Rattle.fc_spec.specs.words.Lists.{joined}
@@ -23,8 +22,3 @@ blocks_begin batches from commits blocks below is =
     ∙ sym (flat_map-append batch_view (take from batches) rest)
     ∙ ap (flat_map batch_view) (sym (take-add from (commits - from) batches) ∙ ap (λ n. take n batches) all)
     ∙ sym (joined_views commits batches)
-
--- what holds of all batches holds of one
-pub batch_valid : (P : documents.Batch → Type 0) (batches : List Batch) (i : ℕ) (b : Batch) → i < length batches → b ≡ get_or batches i b → All P (batches_view batches) → P (batch_view b)
-batch_valid P batches i b below is all =
-    subst P (get_or-map batch_view batches i b (batch_view b) below ∙ ap batch_view (sym is)) (all i (batch_view b) (let long = length-map batches batch_view in omega (arith, below, long)))

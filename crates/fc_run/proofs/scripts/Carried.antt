@@ -33,7 +33,7 @@ fit_below : (s : Schema) (shards : List Shard) (commits : List ℕ) → All (IsC
 fit_below s [] commits valid cut few = tt
 fit_below s (shard ∷ shards) [] valid cut few = tt
 fit_below s (shard ∷ shards) (n ∷ commits) valid cut few =
-    let batches = (arc_value {X = Vec Batch Global} shard).items in
+    let batches = shard.items in
     let both = document_total-append (joined (take n (batches_view batches))) (joined (world_at (shards_view shards) commits)) in (
       record { shard = All-head (IsCommittable s) (batches_view batches) (shards_view shards) valid; there = cut 0 (omega arith); few = omega (arith, both, few) },
       fit_below s shards commits (All-tail (IsCommittable s) (batches_view batches) (shards_view shards) valid) (λ i below. cut (suc i) (omega (arith, below))) (omega (arith, both, few)),
@@ -74,7 +74,7 @@ pub progress_generations : (s : Schema) (shards : List Shard) (numbers : List �
 progress_generations s [] numbers = refl
 progress_generations s (shard ∷ shards) [] = refl
 progress_generations s (shard ∷ shards) (n ∷ numbers) =
-    ap (λ rest. (progress_at s (arc_value {X = Vec Batch Global} shard).items n).generation ∷ rest) (progress_generations s shards numbers)
+    ap (λ rest. (progress_at s shard.items n).generation ∷ rest) (progress_generations s shards numbers)
 
 pub progress_numbers : (s : Schema) (lists : List (List Batch)) (numbers : List ℕ) → length numbers ≡ length lists → map (λ (p : Progress). p.generation.number) (all_progress_at s lists numbers) ≡ numbers
 progress_numbers s [] [] same = refl
@@ -99,7 +99,7 @@ phase_shards s shards own commits are same = record {
 }
   where
     items : Shard → List Batch
-    items x = (arc_value {X = Vec Batch Global} x).items
+    items x = x.items
 
     lists : length commits ≡ length (lists_in shards)
     lists = same ∙ sym (length-map shards items)
@@ -116,6 +116,6 @@ module _ (s : Schema) (shards : List Shard) (own : List Committed) (before asked
       (
       made
       ∙ (λ i. all_carried (are i) (is i))
-      ∙ all_carried_is s (lists_in shards) before commits fit below (same ∙ sym (length-map shards (λ x. (arc_value {X = Vec Batch Global} x).items)))
+      ∙ all_carried_is s (lists_in shards) before commits fit below (same ∙ sym (length-map shards (λ x. x.items)))
       )
       count

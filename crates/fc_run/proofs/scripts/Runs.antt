@@ -33,7 +33,7 @@ committable : (s : Schema) (shards : List Shard) → All (AreBatchesOf script_li
 committable s shards valid few = λ k d below. record { valid = all k d below; few = few k d below }
   where
     view : Shard → List documents.Batch
-    view shard = batches_view (arc_value {X = Vec Batch Global} shard).items
+    view shard = batches_view shard.items
 
     all : All (λ bs. All (IsBatchOf s) bs) (shards_view shards)
     all =

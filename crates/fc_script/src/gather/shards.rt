@@ -1,9 +1,6 @@
 // Shards as far as a script's lines have been gathered.
-ghost use Rattle.std.specs.Prelude.{◌≡◌, ◌<◌, length, map, replicate, All, IfOk, IfSome, OnOk, Vec};
-ghost use Rattle.std.specs.Arc.{arc_value};
-ghost use Rattle.std.specs.declared.alloc.Global.{Global};
+ghost use Rattle.std.specs.Prelude.{◌≡◌, ◌<◌, length, map, replicate, All, IfOk, IfSome, OnOk};
 ghost use Rattle.fc_docs.specs.View.{block_view};
-ghost use Rattle.fc_docs.specs.declared.block.Batch.{Batch};
 ghost use Rattle.fc_script.specs.Gathered.{changed_at, empty_shard, with_block, with_commit, with_commit_of};
 ghost use Rattle.fc_script.specs.PartsView.{batches_view};
 ghost use Rattle.fc_script.specs.ShardView.{shard_view, HasFewBatches};
@@ -12,7 +9,6 @@ use fc_base::WantMemory;
 use fc_docs::{Batch, Block};
 use std::alloc::Global;
 use std::mem;
-use std::sync::Arc;
 
 /// A batch for each commit of a shard, and the blocks behind the last one.
 #[derive(Debug, Drop)]
@@ -126,16 +122,13 @@ pub(crate) fn commits(alloc: Global, shards: &[ShardSoFar]) -> Result<Vec<u32>, 
 }
 
 /// The batches of each shard.
-pub(crate) fn batches(
-    alloc: Global,
-    shards: Vec<ShardSoFar>,
-) -> Result<Vec<Arc<Vec<Batch>>>, WantMemory>
-    ensures { IfOk result (λ batches. map (λ b. batches_view (arc_value {X = Vec Batch Global} b).items) batches.items
+pub(crate) fn batches(alloc: Global, shards: Vec<ShardSoFar>) -> Result<Vec<Vec<Batch>>, WantMemory>
+    ensures { IfOk result (λ batches. map (λ b. batches_view b.items) batches.items
         ≡ map (λ x. batches_view x.batches.items) shards.items) }
 {
     let mut batches = Vec::new(alloc);
     for shard in shards {
-        batches.push(Arc::new(alloc, shard.batches)?)?;
+        batches.push(shard.batches)?;
     }
     Ok(batches)
 }

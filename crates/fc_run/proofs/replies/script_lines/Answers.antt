@@ -32,7 +32,7 @@ later_shards-requires-clause-count g c =
     let i = c.loop-phase.phase-index in
     let p = c.phase-item.result in
     let sound = all_at (IsRunnablePhase c.args.script) c.args.script.phases.items ps i p c.deref-phase-items.ensures.value c.loop-phase-test.true c.phase-item.is c.requires.runnable.phases in
-    ap length c.deref.ensures.value ∙ sound.commits.count ∙ length-map batches (λ x. (arc_value x).items) ∙ sym c.loop-phase.invariant.count
+    ap length c.deref.ensures.value ∙ sound.commits.count ∙ length-map batches (λ x. x.items) ∙ sym c.loop-phase.invariant.count
 
 pub later_shards-requires-clause-each : goal.later_shards-requires-clause-each
 later_shards-requires-clause-each g c =
@@ -61,8 +61,8 @@ write_searches-requires-clause-searchable g c =
     let sound = all_at (IsRunnablePhase c.args.script) c.args.script.phases.items ps i p c.deref-phase-items.ensures.value c.loop-phase-test.true c.phase-item.is c.requires.runnable.phases in
     let rising = rising_more _ ps i p c.loop-phase-test.true c.phase-item.is was.rising in
     let numbers = length-map own (λ x. (progress_of x).generation.number) in
-    let lists = length-map batches (λ x. (arc_value x).items) in
-    let views = length-map batches (λ x. batches_view (arc_value x).items) in
+    let lists = length-map batches (λ x. x.items) in
+    let views = length-map batches (λ x. batches_view x.items) in
     let now = later_are s batches own _ c.deref.result.now p.commits.items was.are (numbers ∙ was.count) (all_fit s batches p.commits.items c.requires.runnable.shards sound.commits sound.within) rising.0 c.deref.ensures.value
     c.in_ok-shards-2.shards.items c.in_ok-shards-2.ensures (sound.commits.count ∙ lists) in
     let used : map arc_value c.deref-in-loop-phase-2.result.now ≡ generations_at s shards p.commits.items =
@@ -83,8 +83,8 @@ write_searches-requires-clause-searches g c =
     let sound = all_at (IsRunnablePhase c.args.script) c.args.script.phases.items ps i p c.deref-phase-items.ensures.value c.loop-phase-test.true c.phase-item.is c.requires.runnable.phases in
     let rising = rising_more _ ps i p c.loop-phase-test.true c.phase-item.is was.rising in
     let numbers = length-map own (λ x. (progress_of x).generation.number) in
-    let lists = length-map batches (λ x. (arc_value x).items) in
-    let views = length-map batches (λ x. batches_view (arc_value x).items) in
+    let lists = length-map batches (λ x. x.items) in
+    let views = length-map batches (λ x. batches_view x.items) in
     let now = later_are s batches own _ c.deref.result.now p.commits.items was.are (numbers ∙ was.count) (all_fit s batches p.commits.items c.requires.runnable.shards sound.commits sound.within) rising.0 c.deref.ensures.value
     c.in_ok-shards-2.shards.items c.in_ok-shards-2.ensures (sound.commits.count ∙ lists) in
     let used : map arc_value c.deref-in-loop-phase-2.result.now ≡ generations_at s shards p.commits.items =
@@ -106,8 +106,8 @@ loop-phase-preserved g c =
     let sound = all_at (IsRunnablePhase c.args.script) c.args.script.phases.items ps i p c.deref-phase-items.ensures.value c.loop-phase-test.true c.phase-item.is c.requires.runnable.phases in
     let rising = rising_more _ ps i p c.loop-phase-test.true c.phase-item.is was.rising in
     let numbers = length-map own (λ x. (progress_of x).generation.number) in
-    let lists = length-map batches (λ x. (arc_value x).items) in
-    let views = length-map batches (λ x. batches_view (arc_value x).items) in
+    let lists = length-map batches (λ x. x.items) in
+    let views = length-map batches (λ x. batches_view x.items) in
     let now = later_are s batches own _ c.deref.result.now p.commits.items was.are (numbers ∙ was.count) (all_fit s batches p.commits.items c.requires.runnable.shards sound.commits sound.within) rising.0 c.deref.ensures.value
     c.in_ok-shards-2.shards.items c.in_ok-shards-2.ensures (sound.commits.count ∙ lists) in
     let used : map arc_value c.deref-in-loop-phase-2.result.now ≡ generations_at s shards p.commits.items =

@@ -1,10 +1,8 @@
-use Rattle.std.proofs.Common.{◌≡◌, ◌++◌, Global, Vec, map}
-use Rattle.std.specs.Arc.{arc_value}
-use Rattle.fc_docs.specs.declared.block.Batch.{Batch}
+use Rattle.std.proofs.Common.{◌≡◌, ◌++◌, map}
 use Rattle.fc_script.specs.PartsView.{batches_view}
 use Rattle.fc_script.proofs.gather.shards.batches.Given as goal
 
 abbrev pub invariant-loop-shard : goal.invariant-loop-shard
 invariant-loop-shard l =
-    map (λ b. batches_view (arc_value {X = Vec Batch Global} b).items) l.batches.items ++ map (λ x. batches_view x.batches.items) l.shard-iterator.rest.items
+    map (λ b. batches_view b.items) l.batches.items ++ map (λ x. batches_view x.batches.items) l.shard-iterator.rest.items
     ≡ map (λ x. batches_view x.batches.items) l.fn.shards.items
