@@ -1,1 +1,1 @@
-mod plain
+mod OneBucket

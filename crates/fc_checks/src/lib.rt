@@ -1,4 +1,4 @@
-//! Tests that cross crates: searches by turns of every order, and, over worlds by chance, against the plain program.
+//! Tests of what no clause says and no script shows.
 #![tactic(auto)]
 
 #[cfg(test)]

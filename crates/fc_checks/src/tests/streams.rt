@@ -1,9 +1,75 @@
-// Sources and sinks that fail, and the words of the command.
-use super::engine::kinds_in;
-use fc_io::{MemSink, MemSource};
+// Sources and sinks that falter: what fails is told, and not tried again.
+use super::kinds::kinds_in;
+use fc_io::{AllRead, MemSink, MemSource, StdSink, StdSource, WriteEnd, read_all, write_all};
 use fc_run::{Status, run};
 use std::alloc::Global;
+use std::io;
+use std::io::{Read, Write};
 use std::test::Fail;
+
+// Reads and writes a byte in a call. Its second call fails, and its fourth gives or takes nothing.
+#[derive(Drop)]
+struct Faltering {
+    calls: u8,
+}
+
+impl Faltering {
+    fn step(&mut self) -> io::Result<usize> {
+        self.calls = self.calls.saturating_add(1);
+        match self.calls {
+            2 => Err(io::Error::from(io::ErrorKind::Interrupted)),
+            4 => Ok(0),
+            _ => Ok(1),
+        }
+    }
+}
+
+impl Read for Faltering {
+    fn read(&mut self, buf: &mut [u8]) -> io::Result<usize> {
+        Ok(self.step()?.min(buf.len()))
+    }
+}
+
+impl Write for Faltering {
+    fn write(&mut self, buf: &[u8]) -> io::Result<usize> {
+        Ok(self.step()?.min(buf.len()))
+    }
+
+    fn flush(&mut self) -> io::Result<()> {
+        Ok(())
+    }
+}
+
+fn outcome_of(all: &AllRead) -> &[u8] {
+    match all {
+        AllRead::Bytes(bytes) => bytes,
+        AllRead::TooLong => b"too long",
+        AllRead::ReadFault => b"fault",
+    }
+}
+
+#[test]
+fn a_faltering_reader_is_a_source(rt: HostRuntime) -> Result<(), Fail> {
+    let alloc = rt.alloc();
+    let mut source = StdSource::new(Faltering { calls: 0 });
+    for outcome in ["fault", "\0"] {
+        let all = read_all(alloc, &mut source, 3)?;
+        assert!(rt; outcome_of(&all) == outcome.as_bytes(), "no {outcome}");
+    }
+    Ok(())
+}
+
+#[test]
+fn a_faltering_writer_is_a_sink(rt: HostRuntime) {
+    let mut sink = StdSink::new(Faltering { calls: 0 });
+    for (number, text, end) in [
+        (1, "abc", WriteEnd::WriteFault),
+        (2, "a", WriteEnd::Whole),
+        (3, "a", WriteEnd::WriteFault),
+    ] {
+        assert!(rt; write_all(&mut sink, text.as_bytes()) == end, "at {number}");
+    }
+}
 
 const SCRIPT: &str = r#"{"schema":{"shards":1,"fields":{"cat":"string"}}}
 {"add":{"doc":{"id":"1","cat":"b"}}}
@@ -17,59 +83,32 @@ const ANSWER: &str =
     r#"{"facets":{"cats":{"buckets":[{"count":1,"val":"a"},{"count":1,"val":"b"}]},"count":2},"generations":[1],"session":"a"}
 "#;
 
-const CUT: &str = r#"{"schema":{"shards":1,"fields":{"cat":"string"}}}
-{"search":"#;
-
-const CUT_ANSWER: &str = r#"{"error":"not-json","line":2,"number":1}
-"#;
-
-// A run over streams: the number of words, the script, the calls of the source that fail, the room of the sink and its calls
-// that fail; the status and what is written. What fails is not tried again, though the next call would fail too.
-const STREAMS: &[(usize, &str, &[u32], usize, &[u32], Status, &str)] = &[
-    (1, SCRIPT, &[], 1000, &[], Status::Done, ANSWER),
-    (0, SCRIPT, &[], 1000, &[], Status::Usage, ""),
-    (2, SCRIPT, &[], 1000, &[], Status::Usage, ""),
-    (0, SCRIPT, &[1], 1000, &[1], Status::Usage, ""),
-    (1, CUT, &[], 1000, &[], Status::Script, CUT_ANSWER),
-    (1, SCRIPT, &[1], 1000, &[], Status::Read, ""),
-    (1, SCRIPT, &[2], 1000, &[], Status::Read, ""),
-    (1, SCRIPT, &[2, 3, 4], 1000, &[], Status::Read, ""),
-    (1, CUT, &[2, 3], 1000, &[1], Status::Read, ""),
-    (1, SCRIPT, &[], 1000, &[1], Status::Write, ""),
-    (1, SCRIPT, &[], 1000, &[1, 2, 3], Status::Write, ""),
-    (1, SCRIPT, &[], 1000, &[2], Status::Write, r#"{"facet"#),
-    (1, SCRIPT, &[], 1000, &[2, 3], Status::Write, r#"{"facet"#),
-    (1, SCRIPT, &[], 10, &[], Status::Write, r#"{"facets":"#),
-    (1, CUT, &[], 1000, &[2, 3], Status::Write, r#"{"error"#),
-    (1, CUT, &[], 10, &[], Status::Write, r#"{"error":""#),
+// A run over streams: the calls of the source that fail, the room of the sink and its calls that fail; the status, the faults
+// of both and what is written. What fails is not tried again, though the next call would fail too.
+const STREAMS: &[(&[u32], usize, &[u32], Status, (u64, u64), &str)] = &[
+    (&[], 1000, &[], Status::Done, (0, 0), ANSWER),
+    (&[1], 1000, &[], Status::Read, (1, 0), ""),
+    (&[2], 1000, &[], Status::Read, (1, 0), ""),
+    (&[2, 3, 4], 1000, &[], Status::Read, (1, 0), ""),
+    (&[], 1000, &[1], Status::Write, (0, 1), ""),
+    (&[], 1000, &[1, 2, 3], Status::Write, (0, 1), ""),
+    (&[], 1000, &[2, 3], Status::Write, (0, 1), r#"{"facet"#),
+    (&[], 10, &[], Status::Write, (0, 1), r#"{"facets":"#),
 ];
 
-// So many words.
-fn words_of(alloc: Global, count: usize) -> Result<Vec<String>, Fail> {
-    let mut words = Vec::new(alloc);
-    for _ in 0..count {
-        words.push(String::from_str(alloc, "facets")?)?;
-    }
-    Ok(words)
-}
-
 #[test]
-fn streams_and_words(rt: HostRuntime) -> Result<(), Fail> {
+fn runs_over_streams(rt: HostRuntime) -> Result<(), Fail> {
     let alloc = rt.alloc();
     let kinds = kinds_in(alloc)?;
-    for (count, script, failing_reads, room, failing_writes, status, written) in STREAMS {
-        let words = words_of(alloc, *count)?;
-        let mut source = MemSource::new(alloc, script.as_bytes(), 16, failing_reads)?;
+    let words = vec![in alloc; String::from_str(alloc, "facets")?]?;
+    for (failing_reads, room, failing_writes, status, counted, written) in STREAMS {
+        let mut source = MemSource::new(alloc, SCRIPT.as_bytes(), 16, failing_reads)?;
         let mut sink = MemSink::new(alloc, *room, 7, failing_writes)?;
         let found = run(alloc, &words, &mut source, &mut sink, &kinds);
         let faults = (source.faults(), sink.faults());
-        let wanted = (
-            u64::from(*status == Status::Read),
-            u64::from(*status == Status::Write),
-        );
         assert!(rt;
-            found == *status && sink.written() == written.as_bytes() && faults == wanted,
-            "{count}, {failing_reads:?}, {room}, {failing_writes:?}: {found:?}"
+            found == *status && sink.written() == written.as_bytes() && faults == *counted,
+            "{failing_reads:?}, {room}, {failing_writes:?}: {found:?}"
         );
     }
     Ok(())

@@ -1,2 +1,0 @@
-pub mod Answerable
-pub mod WorldSteps

@@ -1,0 +1,162 @@
+// Stores: readers see what is published, also where they and the writer run in threads of their own.
+ghost use Rattle.std.specs.Prelude.{◌≡◌, ◌≤◌, length, All, IfOk};
+ghost use Rattle.std.specs.Arc.{arc_value};
+ghost use Rattle.fc_store.specs.Charters.{IsBatchOf};
+
+use super::documents::{batch_of, schema_of};
+use fc_base::{Schema, WantMemory};
+use fc_store::{Charter, Generation, ShardReader, ShardWriter, open_shard};
+use std::alloc::Global;
+use std::process::Abort;
+use std::sync::{Arc, Wait};
+use std::test::Fail;
+use std::thread;
+use std::thread::Threads;
+
+const SCHEMA: &str = r#"{"shards":1,"fields":{"cat":"string"}}"#;
+
+// The blocks of each batch.
+const BATCHES: [&[&str]; 3] = [
+    &[r#"{"id":"1","cat":"b"}"#, r#"{"id":"2","cat":"a"}"#],
+    &[],
+    &[r#"{"id":"3","cat":"c"}"#],
+];
+
+// A charter of batches with these blocks.
+fn charter_of(alloc: Global, schema: &Schema, batches: &[&[&str]]) -> Result<Charter, Fail>
+    requires { length batches.now ≤ 4096 }
+    ensures { IfOk result (λ charter. All (IsBatchOf schema.now) charter) }
+{
+    let mut read = Vec::new(alloc);
+    for blocks in batches {
+        read.push(batch_of(alloc, schema, blocks)?)?;
+    }
+    let last = read.len() as u32;
+    Ok(Charter::new(Arc::new(alloc, read)?, last))
+}
+
+// A store of these batches with two readers.
+struct Opened {
+    writer: ShardWriter,
+    one: ShardReader,
+    other: ShardReader,
+    ghost alike: { (other.schema ≡ writer.schema) × (other.charter ≡ writer.charter) },
+}
+
+fn open(rt: &(impl Abort + Wait), alloc: Global, batches: &[&[&str]]) -> Result<Opened, Fail>
+    requires { length batches.now ≤ 4096 }
+{
+    let schema = schema_of(alloc, SCHEMA)?;
+    let charter = charter_of(alloc, &schema, batches)?;
+    let start = Generation::first(alloc, schema)?;
+    let (writer, mut readers) = open_shard(rt, alloc, start, charter, 2)?;
+    match (readers.pop(), readers.pop()) {
+        (Some(other), Some(one)) => Ok(Opened { writer, one, other }),
+        _ => {
+            let _ = writer.finish(rt);
+            Err(WantMemory.into())
+        }
+    }
+}
+
+fn number_of(pinned: Result<Arc<Generation>, WantMemory>) -> Option<u64> {
+    Some(pinned.ok()?.number())
+}
+
+impl Opened {
+    // The number that is published; 0 where no commit is left.
+    fn commit<R: Wait>(&mut self, rt: &R) -> Option<u64> {
+        if self.writer.commits_left() == 0 {
+            return Some(0);
+        }
+        self.writer.commit_next(rt).ok()
+    }
+
+    // What the other reader pins once it has learnt what the writer tells.
+    fn learnt(&mut self) -> Option<u64> {
+        let told = self.writer.tell().ok()?;
+        self.other.learn(told).ok()?;
+        number_of(self.other.pin())
+    }
+
+    // What is published, pinned and learnt in turn, and at last a generation that was pinned first.
+    fn seen<R: Wait>(&mut self, rt: &R) -> [Option<u64>; 9] {
+        let held = self.one.pin();
+        [
+            self.commit(rt),
+            number_of(self.one.pin()),
+            self.commit(rt),
+            number_of(self.other.pin()),
+            self.commit(rt),
+            self.learnt(),
+            number_of(self.one.pin()),
+            self.commit(rt),
+            number_of(held),
+        ]
+    }
+}
+
+#[test]
+fn readers_see_what_is_published(rt: HostRuntime) -> Result<(), Fail> {
+    let mut store = open(&rt, rt.alloc(), &BATCHES)?;
+    let seen = store.seen(&rt);
+    let Opened {
+        writer,
+        mut one,
+        other: _,
+    } = store;
+    let last = writer.finish(&rt)?;
+    for (found, wanted) in seen.iter().zip([1, 1, 2, 2, 3, 3, 3, 0, 0]) {
+        assert_eq!(rt; *found, Some(wanted));
+    }
+    assert_eq!(rt; (last.number(), last.segments().len()), (3, 2));
+    assert!(rt; one.pin().is_err());
+    Ok(())
+}
+
+// Publishes whatever is left, and answers the number that is then published.
+fn commit_all<R: Wait>(rt: &R, writer: &mut ShardWriter) -> u64 {
+    for _ in 0..writer.commits_left() {
+        if writer.commits_left() > 0 {
+            let _number = writer.commit_next(rt);
+        }
+    }
+    writer.number()
+}
+
+// Pins again and again. It answers whether no number was lower than the one before.
+fn pins_rise(reader: &mut ShardReader) -> bool {
+    let mut last = 0;
+    let mut rise = true;
+    for _ in 0..500 {
+        let number = number_of(reader.pin()).unwrap_or(last);
+        rise = rise && last <= number;
+        last = number;
+    }
+    rise
+}
+
+// A writer and a reader in threads of their own, and then what the reader pins.
+fn beside<R: Threads + Wait + Sync>(
+    rt: &R,
+    writer: &mut ShardWriter,
+    reader: &mut ShardReader,
+) -> (u64, bool, Option<u64>) {
+    let (number, rise) = thread::join(rt, || commit_all(rt, writer), || pins_rise(reader));
+    (number, rise, number_of(reader.pin()))
+}
+
+#[test]
+fn ends_run_in_threads(rt: HostRuntime) -> Result<(), Fail> {
+    for count in 0..=BATCHES.len() {
+        let Opened {
+            mut writer,
+            mut one,
+            other: _,
+        } = open(&rt, rt.alloc(), &BATCHES[..count])?;
+        let seen = beside(&rt, &mut writer, &mut one);
+        let _ = writer.finish(&rt);
+        assert_eq!(rt; seen, (count as u64, true, Some(count as u64)));
+    }
+    Ok(())
+}

@@ -1,6 +1,0 @@
-use Rattle.std.proofs.Common.{◌≡◌, length}
-use Rattle.fc_spec.specs.documents.Totals.{document_total}
-use Rattle.fc_measure.proofs.collecting.domain_of.Given as goal
-
-abbrev pub invariant-loop-at : goal.invariant-loop-at
-invariant-loop-at l = length l.docs ≡ document_total l.segment.blocks

@@ -1,3 +1,0 @@
-mod Mapped
-mod NamedKeys
-mod Joined

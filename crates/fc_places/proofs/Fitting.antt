@@ -1,2 +1,0 @@
--- Which places have statistics that fit.
-pub use Rattle.fc_partial.proofs.Fitting.{filtered_fit, places_fit}

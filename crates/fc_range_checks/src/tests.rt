@@ -1,4 +1,0 @@
-// What no clause says: kinds with memory enough.
-mod ends;
-mod ranges;
-mod wholes;

@@ -1,2 +1,0 @@
-pub mod Facets
-pub mod SmallParts
