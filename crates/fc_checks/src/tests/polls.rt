@@ -1,4 +1,4 @@
-// A shard's future by a turn and then by polls, over a shard without documents.
+// A shard's futures, one by a turn and one by polls, over a shard without documents.
 ghost use Rattle.std.specs.Prelude.{◌≡◌, IfOk, false, map};
 ghost use Rattle.std.specs.Arc.{arc_value};
 ghost use Rattle.fc_spec.specs.requests.ValidRequests.{IsValidRequest};
@@ -51,7 +51,8 @@ fn a_turn_and_polls(rt: HostRuntime) -> Result<(), Fail> {
     assert!(rt; !future.spent() && future.done() == 0 && future.left() == 3);
     assert!(rt; matches!(future.turn()?, Turn::Pending));
     assert!(rt; !future.spent() && future.done() == 1 && future.left() == 2);
-    let message = block_on(&rt, future)??;
+    let polled = future_of(alloc, &kinds, &schema, &request)?;
+    let message = block_on(&rt, polled)??;
     assert!(rt; shaped(&request, &Ask::First, &message));
     assert!(rt; message.buckets.iter().all(|root| root.stats.count == 0));
     Ok(())
