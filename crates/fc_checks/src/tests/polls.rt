@@ -10,13 +10,15 @@ use super::documents::{request_of, schema_of};
 use super::kinds::kinds_in;
 use fc_base::Schema;
 use fc_kind::FacetKind;
+use fc_partial::Message;
 use fc_phase::{PhaseFuture, Turn};
 use fc_refine::{Ask, shaped};
 use fc_request::Request;
 use fc_store::Generation;
 use futures::executor::block_on;
-use std::alloc::Global;
-use std::sync::Arc;
+use std::alloc::{AllocGlobal, Global};
+use std::random::RandomSource;
+use std::sync::{Arc, Wait};
 use std::test::Fail;
 
 const SCHEMA: &str = r#"{"shards":1,"fields":{"cat":"string"}}"#;
@@ -40,6 +42,22 @@ fn future_of<'a>(
     Ok(PhaseFuture::first(alloc, generation, request, kinds)?)
 }
 
+// The message of a future by polls.
+fn polled(
+    rt: &(impl Wait + RandomSource + AllocGlobal),
+    alloc: Global,
+    kinds: &[Box<dyn FacetKind>],
+    schema: &Arc<Schema>,
+    request: &Request,
+) -> Result<Message, Fail>
+    requires covers { Covers (map name kinds.now) }
+    requires root { IsRoot request.now.root }
+    requires valid { IsValidRequest (arc_value schema.now) (request_view request.now) }
+{
+    let message = block_on(rt, future_of(alloc, kinds, schema, request)?)??;
+    Ok(message)
+}
+
 #[test]
 fn a_turn_and_polls(rt: HostRuntime) -> Result<(), Fail> {
     let alloc = rt.alloc();
@@ -51,8 +69,7 @@ fn a_turn_and_polls(rt: HostRuntime) -> Result<(), Fail> {
     assert!(rt; !future.spent() && future.done() == 0 && future.left() == 3);
     assert!(rt; matches!(future.turn()?, Turn::Pending));
     assert!(rt; !future.spent() && future.done() == 1 && future.left() == 2);
-    let polled = future_of(alloc, &kinds, &schema, &request)?;
-    let message = block_on(&rt, polled)??;
+    let message = polled(&rt, alloc, &kinds, &schema, &request)?;
     assert!(rt; shaped(&request, &Ask::First, &message));
     assert!(rt; message.buckets.iter().all(|root| root.stats.count == 0));
     Ok(())
