@@ -9,6 +9,9 @@ pub mod JoinedNumbers
 pub mod JoinedPlaces
 pub mod JoinedShards
 pub mod BlockTotals
+pub mod LeftBlocks
+pub mod LiveBlocks
+pub mod LiveSets
 pub mod PlacedDocuments
 pub mod ValueKinds
 pub mod FoundPlaces

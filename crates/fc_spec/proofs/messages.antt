@@ -28,3 +28,6 @@ pub mod LacksDeep
 pub mod ToldOnce
 pub mod FittingSums
 pub mod SearchesTellOnce
+pub mod TraceEntries
+pub mod MessageLengths
+pub mod ListedTraces

@@ -1,3 +1,4 @@
+pub mod PathBuckets
 pub mod Unlimited
 pub mod OfferedValues
 pub mod Carried
@@ -7,3 +8,4 @@ pub mod NoLimits
 pub mod RenumberedReply
 pub mod SingleIndex
 pub mod DistinctKeys
+pub mod TopValues

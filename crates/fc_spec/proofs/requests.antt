@@ -8,12 +8,14 @@ pub mod EntryOrder
 pub mod EntryTotal
 pub mod SortedEntries
 pub mod RestEntries
+pub mod Certificate
 pub mod Together
 pub mod ValidChanges
 pub mod ValidKinds
 pub mod ValidNodes
 pub mod ValidStatistics
 pub mod ValidWalk
+pub mod RebuiltPaths
 pub mod BlockSteps
 pub mod SetChanges
 pub mod JoinedSets

@@ -11,6 +11,10 @@ pub mod WorldBlocks
 pub mod WorldTotals
 pub mod RisingPins
 pub mod LegalPins
+pub mod FirstBatches
+pub mod WovenLines
+pub mod AddedPhases
 pub mod NumberedLines
 pub mod BatchesSoFar
 pub mod PhasesSoFar
+pub mod BookedOutputs

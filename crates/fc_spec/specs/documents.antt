@@ -1,5 +1,6 @@
 pub mod Val
 pub mod Document
+pub mod Operations
 pub mod Schema
 pub mod World
 pub mod Bits
@@ -11,4 +12,5 @@ pub mod BlockReading
 pub mod ValidBlocks
 pub mod Totals
 pub mod Sets
+pub mod Live
 pub mod ValOrder

@@ -2,6 +2,7 @@ pub mod CombiningLaw
 pub mod SortingLaw
 pub mod WithoutLimits
 pub mod RefinedPaths
+pub mod RebuiltPaths
 pub mod ShardAlone
 pub mod Merging
 pub mod RoundsEnd
@@ -11,7 +12,12 @@ pub mod QueryReadingLaw
 pub mod RequestLaws
 pub mod ScheduleLaw
 pub mod ScriptLaws
+pub mod PhaseLaws
 pub mod Blockwise
 pub mod ShapedAnswers
 pub mod LacksLaws
 pub mod SumsLaw
+pub mod TraceLaws
+pub mod LiveLaws
+pub mod LiveSetLaws
+pub mod CertificateLaw

@@ -7,6 +7,8 @@ pub mod Merged
 pub mod MessageShape
 pub mod Lacks
 pub mod Rounds
+pub mod TopRounds
 pub mod MessageBytes
 pub mod Nesting
 pub mod Trace
+pub mod Lengths

@@ -5,4 +5,6 @@ pub mod Exact
 pub mod Reading
 pub mod Chosen
 pub mod Distributed
+pub mod Replied
+pub mod Tops
 pub mod Json

@@ -8,6 +8,7 @@ pub mod DomainSets
 pub mod Statistics
 pub mod Combining
 pub mod Ranks
+pub mod Least
 pub mod Paths
 pub mod Shape
 pub mod RequestWalk

@@ -4,6 +4,7 @@ pub mod Lines
 pub mod Script
 pub mod Phases
 pub mod Outputs
+pub mod Booked
 pub mod PhaseCore
 pub mod ScriptLines
 pub mod ScriptTotals
@@ -14,4 +15,5 @@ pub mod ValidScripts
 pub mod AskedScripts
 pub mod WorldLimits
 pub mod PhaseEnds
+pub mod PhaseTexts
 pub mod JsonValues

@@ -18,7 +18,11 @@ ghost use Rattle.fc_spec.specs.laws.Blockwise.{
   DocumentsJoin,
   DocumentsOfShards,
   KeepLengths,
+  RebuiltAreBlockwise,
+  RebuiltJoin,
+  RebuiltOfShards,
 };
+ghost use Rattle.fc_spec.specs.laws.CertificateLaw.{CertifiedAreEnough, RanksAreReached, SharesAreEnough, TopsAreListed, TopsLookAtCounts};
 ghost use Rattle.fc_spec.specs.laws.CombiningLaw.{CombinesLists, CombinesParts};
 ghost use Rattle.fc_spec.specs.scripts.JsonValues.{TextsAreJson};
 ghost use Rattle.fc_spec.specs.laws.LacksLaws.{
@@ -36,27 +40,31 @@ ghost use Rattle.fc_spec.specs.laws.LacksLaws.{
   ShapedAreFitting,
   WantsStandApart,
 };
+ghost use Rattle.fc_spec.specs.laws.LiveLaws.{LiveAreAtPositions, OperationsGoByLists};
+ghost use Rattle.fc_spec.specs.laws.LiveSetLaws.{ChangesOnLive, PassingOfOnLive, PassingOnLive};
 ghost use Rattle.fc_spec.specs.laws.Merging.{MergesIntoReply};
+ghost use Rattle.fc_spec.specs.laws.PhaseLaws.{FirstAreWithin, PhasesAddUp, SessionsWeave};
 ghost use Rattle.fc_spec.specs.laws.QueryReadingLaw.{HasOneReading};
 ghost use Rattle.fc_spec.specs.laws.QuerySpellingLaw.{HasOneTree};
+ghost use Rattle.fc_spec.specs.laws.RebuiltPaths.{RebuiltArePlaces};
 ghost use Rattle.fc_spec.specs.laws.RefinedPaths.{AreRefinedPathsExact};
 ghost use Rattle.fc_spec.specs.laws.RequestLaws.{
   ReadAreValid,
   ReadAreValidWhole,
   ScriptsAskValid,
   ValidAnswersNestLittle,
-  ValidExcludeOutermost,
   ValidHaveFewDepths,
   ValidHaveFewRounds,
 };
 ghost use Rattle.fc_spec.specs.laws.RoundsEnd.{NothingLacksBeyond, RoundsAnswer, RoundsAreFew, RoundsComplete, SearchesEnd};
 ghost use Rattle.fc_spec.specs.laws.ScheduleLaw.{PhasesGoOn, PinsAreLegal, RunsAreLegal};
 ghost use Rattle.fc_spec.specs.laws.ScriptLaws.{EndsAreOutputs, IsOnlyOutput, StandByPhase, WorldsAreWithin};
-ghost use Rattle.fc_spec.specs.laws.ShapedAnswers.{AnswersAreShaped};
-ghost use Rattle.fc_spec.specs.laws.ShardAlone.{AnswersFromItsBlocks};
+ghost use Rattle.fc_spec.specs.laws.ShapedAnswers.{AnswersAreShaped, LeastsAreShaped};
+ghost use Rattle.fc_spec.specs.laws.ShardAlone.{AnswersFromItsBlocks, ExactFromItsBlocks};
 ghost use Rattle.fc_spec.specs.laws.SortingLaw.{PagesAreCuts, RanksAreFronts, RestsKeepFronts, RestsKeepPages};
 ghost use Rattle.fc_spec.specs.laws.SpellingLaw.{HasOneSpelling};
 ghost use Rattle.fc_spec.specs.laws.SumsLaw.{AnswersFit};
+ghost use Rattle.fc_spec.specs.laws.TraceLaws.{EntriesAreIn, OrderOfWantsIsFree, TracesAscend, ValidTracesAreListed, ValidTracesAreWithin};
 ghost use Rattle.fc_spec.specs.laws.WithoutLimits.{
   IsExactOverSingle,
   IsExactWithoutLimits,
@@ -89,20 +97,35 @@ pub fn refined_paths_are_exact()
     ensures { AreRefinedPathsExact }
 {}
 
+/// The top values are among those that shards list down to a share of a count that is told, whatever they told first. A
+/// page of values is the same without those that are not listed, where a count certifies that enough are; a share is enough
+/// for that, and the count of a rank is reached. Where the greatest count comes first, nested statistics play no part.
+pub fn top_values_are_certified()
+    ensures enough { CertifiedAreEnough }
+    ensures shares { SharesAreEnough }
+    ensures ranks { RanksAreReached }
+    ensures listed { TopsAreListed }
+    ensures counts { TopsLookAtCounts }
+{}
+
 /// A shard's answer is made from its own blocks, and its number plays no part.
 pub fn shards_answer_alone()
-    ensures { AnswersFromItsBlocks }
+    ensures answers { AnswersFromItsBlocks }
+    ensures exact { ExactFromItsBlocks }
 {}
 
 /// A shard's answer has the shape of its ask, whatever is asked: in each list the keys are the facet's and ascend, buckets
-/// other than a query facet's have a place, and values are at most as many as a terms facet's shard may offer.
+/// have a place where they need one, and values are at most as many as a terms facet's shard may offer.
 pub fn answers_are_shaped()
-    ensures { AnswersAreShaped }
+    ensures answers { AnswersAreShaped }
+    ensures leasts { LeastsAreShaped }
 {}
 
-/// The base, a domain change and the places of a bucket are made list of blocks by list of blocks.
+/// The base, also as it is rebuilt along a path, a domain change and the places of a bucket are made list of blocks by
+/// list of blocks.
 pub fn places_are_blockwise()
     ensures bases { BasesAreBlockwise }
+    ensures rebuilt { RebuiltAreBlockwise }
     ensures changes { ChangesAreBlockwise }
     ensures buckets { BucketsAreBlockwise }
     ensures lengths { KeepLengths }
@@ -112,6 +135,7 @@ pub fn places_are_blockwise()
 /// Where lists of blocks are joined, the sets that are made of them stand one behind the other.
 pub fn sets_join()
     ensures bases { BasesJoin }
+    ensures rebuilt { RebuiltJoin }
     ensures changes { ChangesJoin }
     ensures buckets { BucketsJoin }
     ensures documents { DocumentsJoin }
@@ -120,6 +144,7 @@ pub fn sets_join()
 /// What the base, a domain change and a bucket have on a shard is made from that shard's blocks.
 pub fn shards_change_alone()
     ensures bases { BasesOfShards }
+    ensures rebuilt { RebuiltOfShards }
     ensures changes { ChangesOfShards }
     ensures buckets { BucketsOfShards }
     ensures documents { DocumentsOfShards }
@@ -163,7 +188,7 @@ pub fn order_of_arrival_is_free()
 {}
 
 /// No two buckets that a shard tells hold one bucket, whatever its messages hold, where it first tells of its root and
-/// then, one depth after another, of what lacks there. Of whole searches this is said where only outermost facets exclude.
+/// then, one depth after another, of what lacks there.
 pub fn buckets_are_told_once()
     ensures depth { LacksAtDepth }
     ensures first { FirstTellOnce }
@@ -180,6 +205,17 @@ pub fn answers_fit()
 /// No two messages have the same bytes, and no bytes of a message are the front of another's.
 pub fn messages_have_one_spelling()
     ensures { HasOneSpelling }
+{}
+
+/// In the trace of a search each round and shard has one entry, and of a valid request rounds and shards are few. Entries
+/// that are put into a map stand there, and are listed again from it. The order in which a shard is asked for buckets
+/// changes no length.
+pub fn traces_are_maps()
+    ensures ascend { TracesAscend }
+    ensures within { ValidTracesAreWithin }
+    ensures entries { EntriesAreIn }
+    ensures listed { ValidTracesAreListed }
+    ensures wants { OrderOfWantsIsFree }
 {}
 
 /// No two trees of query texts have the same tokens.
@@ -205,9 +241,10 @@ pub fn what_is_read_is_valid()
     ensures scripts { ScriptsAskValid }
 {}
 
-/// In a valid request only outermost facets exclude tags, as the laws of replies ask for.
-pub fn valid_requests_exclude_outermost()
-    ensures { ValidExcludeOutermost }
+/// Along paths whose facets have no block step, as they stand around exclusions in a valid request, the base is rebuilt
+/// to the places of the path where no more tags are excluded.
+pub fn bases_are_rebuilt()
+    ensures { RebuiltArePlaces }
 {}
 
 /// A search of a valid request has at most nine rounds, since at most eight terms facets stand around each other.
@@ -244,4 +281,31 @@ pub fn scripts_have_one_output()
 /// Where a script of at most 64 shards is within the limits, each of its worlds is, whatever the generations.
 pub fn worlds_are_within_limits()
     ensures { WorldsAreWithin }
+{}
+
+/// What the sessions of a phase write, each by itself, woven in the order of the searches, is what the phase may write; and
+/// what the phases write, one after another, is an output of the script.
+pub fn phases_write_outputs()
+    ensures sessions { SessionsWeave }
+    ensures phases { PhasesAddUp }
+{}
+
+/// Where the batches of all shards are within the limits, the first ones of each are, however many.
+pub fn first_batches_are_within()
+    ensures { FirstAreWithin }
+{}
+
+/// What operations leave of live blocks is found list of blocks by list of blocks: of earlier ones the blocks that no
+/// operation names, and of those that are added the blocks that no later one names.
+pub fn operations_go_by_lists()
+    ensures lists { OperationsGoByLists }
+    ensures positions { LiveAreAtPositions }
+{}
+
+/// Bases, domain changes and buckets are found on whole lists of blocks and kept at the live positions: that is what they
+/// are on the live blocks.
+pub fn sets_hold_on_live_blocks()
+    ensures passing { PassingOnLive }
+    ensures of_sets { PassingOfOnLive }
+    ensures changes { ChangesOnLive }
 {}

@@ -7,8 +7,8 @@ use Rattle.fc_spec.specs.queries.Query.{Query}
 use Rattle.fc_spec.specs.queries.Matching.{matches}
 use Rattle.fc_spec.specs.documents.World.{World, Place, places, same_block, on_shards}
 use Rattle.fc_spec.specs.requests.Request.{Request, BlockStep, stay, parents, children, DomainChange}
-use Rattle.fc_spec.specs.requests.Base.{base}
-use Rattle.fc_spec.specs.requests.Domain.{domain, moved, children_of, parents_of, is_parent_of}
+use Rattle.fc_spec.specs.requests.Domain.{moved, children_of, parents_of, is_parent_of}
+use Rattle.fc_spec.specs.requests.Paths.{Path, rebuilt, domain}
 use Rattle.fc_spec.proofs.words.Members.{Every, every_from_members, every_member, filter_every, every_filter, every_own_filter, filter_member, passing_member}
 
 -- the place is on one of the shards
@@ -54,7 +54,7 @@ moved_on_shards W (parents q) H Y e = parents_on_shards W q H Y e
 moved_on_shards W (children q) H Y e = children_on_shards W q H Y e
 
 -- without exclusion the change of a domain on the shards stays on them
-pub domain_on_shards : (r : Request) (W : World) (change : DomainChange) (H : List ℕ) (X : List Place) → is_empty change.exclude ≡ true → Every (is_on H) X → Every (is_on H) (domain r W change X)
-domain_on_shards r W change H X none e =
-    every_filter (is_on H) _ (moved W change.block (cond (is_empty change.exclude) X (base r W change.exclude)))
-    (moved_on_shards W change.block H _ (subst (λ b. Every (is_on H) (cond b X (base r W change.exclude))) (sym none) e))
+pub domain_on_shards : (r : Request) (W : World) (path : Path) (change : DomainChange) (H : List ℕ) (X : List Place) → is_empty change.exclude ≡ true → Every (is_on H) X → Every (is_on H) (domain r W path change X)
+domain_on_shards r W path change H X none e =
+    every_filter (is_on H) _ (moved W change.block (cond (is_empty change.exclude) X (rebuilt r W path change.exclude)))
+    (moved_on_shards W change.block H _ (subst (λ b. Every (is_on H) (cond b X (rebuilt r W path change.exclude))) (sym none) e))

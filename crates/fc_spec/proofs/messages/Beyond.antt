@@ -11,7 +11,7 @@ use Rattle.fc_spec.specs.messages.Message.{Way}
 use Rattle.fc_spec.specs.messages.Merged.{over_held}
 use Rattle.fc_spec.specs.messages.Rounds.{told_in}
 use Rattle.fc_spec.specs.messages.Lacks.{Lack, want_of, each_of, wanted_values, wanted_at, facet_wanted, wanted, untold, own_depth, terms_depth}
-use Rattle.fc_spec.specs.requests.Shape.{asks_again}
+use Rattle.fc_spec.specs.requests.Shape.{asks_again, counts_all}
 use Rattle.fc_spec.specs.laws.RoundsEnd.{NothingLacksBeyond}
 use Rattle.fc_spec.proofs.words.Members.{Member, filter_member}
 use Rattle.fc_spec.proofs.messages.HeldFurther.{step_to}
@@ -53,7 +53,7 @@ nothing_lacks_beyond r n e sent h = ap (untold (told_in r.nodes sent)) (wanted_b
 -- ---- the shards of what is wanted
 
 carried_among : {B D : Type 0} (R : Reading B D) (kind : Kind) (inner : Nodes) (H : List ℕ) (Y : D) (key : Key) (i : ℕ) → Member i (carried R kind inner H Y key) → Member i H
-carried_among R (terms t) inner H Y (value v) i m = go t.refine m
+carried_among R (terms t) inner H Y (value v) i m = go (counts_all t inner) m
   where
     go : (b : Bool) → Member i (cond b H (offering R t inner H Y v)) → Member i H
     go true m = m
@@ -71,7 +71,7 @@ each_among : (H : List ℕ) (way : Way) (n : ℕ) (key : Key) (l : Lack) → Mem
 each_among H way n key l m = let r = member_map (λ i. record { shard = i; want = want_of way n key }) H l m in subst (λ i. Member i H) (sym (ap (λ (w : Lack). w.shard) r.2)) r.1
 
 at_among : {B D : Type 0} (R : Reading B D) (kind : Kind) (inner : Nodes) (e n : ℕ) (H : List ℕ) (Y : D) (way : Way) (under : ℕ → List Lack) (l : Lack) → ((d : ℕ) → Member l (under d) → Member l.shard H) → Member l (wanted_at R kind inner e n H Y way under) → Member l.shard H
-at_among R (terms t) inner zero n H Y way under l u m = go (asks_again t) m
+at_among R (terms t) inner zero n H Y way under l u m = go (asks_again t inner) m
   where
     go : (b : Bool) → Member l (cond b (wanted_values R t inner n H Y way) []) → Member l.shard H
     go true m = let r = member_flat_map (λ v. each_of H (want_of way n (value v))) (chosen R t inner H Y) l m in each_among H way n (value r.0) l r.2

@@ -3,10 +3,11 @@ use Rattle.std.proofs.Common.{◌≡◌, ℕ, zero, suc, List, [], ◌∷◌, Bo
 use Rattle.std.specs.List.{AllByRecursion}
 use Rattle.std.specs.Option.{option_and_then}
 use Rattle.std.proofs.lemmas.Bool.{false≢true, and_parts}
-use Rattle.fc_spec.specs.requests.Request.{Stat, Terms, terms, Facet, Nodes, no_nodes, statistic, facet, Request, stats_of}
+use Rattle.fc_spec.specs.requests.Request.{Terms, terms, Facet, Nodes, no_nodes, statistic, facet, Request, stats_of}
 use Rattle.fc_spec.specs.requests.Buckets.{Key, value, missing, gap, before, between, after, whole, has_prefix, is_key_of}
 use Rattle.fc_spec.specs.requests.Statistics.{Stats}
 use Rattle.fc_spec.specs.requests.Paths.{at_root}
+use Rattle.fc_spec.specs.requests.Shape.{holds_exclusion}
 use Rattle.fc_spec.specs.messages.KeyOrder.{same_key}
 use Rattle.fc_spec.specs.messages.Message.{Partials, no_partials, partial, Rows, no_rows, row, Way, Want, way_of, first, more}
 use Rattle.fc_spec.specs.messages.MessageShape.{values_fit, count_fits, key_ascends, bucket_fits, buckets_fit, is_complete, rows_fit, insides_fit, top_fits, wants_fit}
@@ -27,14 +28,14 @@ stepped_nodes_are key n (leads_to path nodes) = go (facet_at n nodes)
     go (Some f) = refl
 
 -- the values among keys of a terms facet begin with its prefix
-listed_prefixed : (t : Terms) (ss : List Stat) (ps : Partials) (last : Option Key) → buckets_fit (terms t) ss ps last ≡ true → Every (has_prefix t.prefix) (listed_values ps)
-listed_prefixed t ss no_partials last h = tt
-listed_prefixed t ss (partial k stats rows rest) last h =
-    let both = and_parts (bucket_fits (terms t) ss last k stats) (buckets_fit (terms t) ss rest (Some k)) h in
-    let values = and_parts (key_ascends last k && is_key_of (terms t) k && count_fits k stats) (values_fit ss stats.values) both.0 in
-    let count = and_parts (key_ascends last k && is_key_of (terms t) k) (count_fits k stats) values.0 in
+listed_prefixed : (t : Terms) (inner : Nodes) (ps : Partials) (last : Option Key) → buckets_fit (terms t) inner ps last ≡ true → Every (has_prefix t.prefix) (listed_values ps)
+listed_prefixed t inner no_partials last h = tt
+listed_prefixed t inner (partial k stats rows rest) last h =
+    let both = and_parts (bucket_fits (terms t) inner last k stats) (buckets_fit (terms t) inner rest (Some k)) h in
+    let values = and_parts (key_ascends last k && is_key_of (terms t) k && count_fits (holds_exclusion inner) k stats) (values_fit (stats_of inner) stats.values) both.0 in
+    let count = and_parts (key_ascends last k && is_key_of (terms t) k) (count_fits (holds_exclusion inner) k stats) values.0 in
     let own = and_parts (key_ascends last k) (is_key_of (terms t) k) count.0 in
-    go k own.1 (listed_prefixed t ss rest (Some k) both.1)
+    go k own.1 (listed_prefixed t inner rest (Some k) both.1)
   where
     go : (k : Key) → is_key_of (terms t) k ≡ true → Every (has_prefix t.prefix) (listed_values rest) → Every (has_prefix t.prefix) (listed_value k (listed_values rest))
     go (value v) own ih = (own, ih)
@@ -53,14 +54,14 @@ module _ (most : Terms → Option ℕ) where
   -- the row of a facet fits it; there is none of no facet
   abbrev pub RowFits : Option (Facet × Nodes) → Partials → Type 0
   RowFits None ps = ps ≡ no_partials
-  RowFits (Some f) ps = (buckets_fit (f.0).kind (stats_of f.1) ps None ≡ true) × (insides_fit most ps f.1 ≡ true)
+  RowFits (Some f) ps = (buckets_fit (f.0).kind f.1 ps None ≡ true) × (insides_fit most ps f.1 ≡ true)
 
   -- the parts of a row that fits
   row_parts : (f : Facet) (inner rest : Nodes) (ps : Partials) (rows : Rows) → rows_fit most (row ps rows) (facet f inner rest) ≡ true → RowFits (Some (f, inner)) ps × (rows_fit most rows rest ≡ true)
   row_parts f inner rest ps rows h =
-      let others = and_parts (is_complete most f.kind ps && buckets_fit f.kind (stats_of inner) ps None && insides_fit most ps inner) (rows_fit most rows rest) h in
-      let insides = and_parts (is_complete most f.kind ps && buckets_fit f.kind (stats_of inner) ps None) (insides_fit most ps inner) others.0 in
-      let buckets = and_parts (is_complete most f.kind ps) (buckets_fit f.kind (stats_of inner) ps None) insides.0 in
+      let others = and_parts (is_complete most f.kind ps && buckets_fit f.kind inner ps None && insides_fit most ps inner) (rows_fit most rows rest) h in
+      let insides = and_parts (is_complete most f.kind ps && buckets_fit f.kind inner ps None) (insides_fit most ps inner) others.0 in
+      let buckets = and_parts (is_complete most f.kind ps) (buckets_fit f.kind inner ps None) insides.0 in
       ((buckets.1, insides.1), others.1)
 
   pub row_fits_at : (n : ℕ) (nodes : Nodes) (rows : Rows) → rows_fit most rows nodes ≡ true → RowFits (facet_at n nodes) (row_at n nodes rows)
@@ -137,7 +138,7 @@ module _ (most : Terms → Option ℕ) where
       go (Some b) e =
           let fit = held_fits r A i way b all e in
           let row = subst (λ o. RowFits o (row_at n b.nodes b.rows)) (ap (facet_at n) fit.0 ∙ at) (row_fits_at n b.nodes b.rows fit.1) in
-          listed_prefixed t (stats_of inner) (row_at n b.nodes b.rows) None (subst (λ k. buckets_fit k (stats_of inner) (row_at n b.nodes b.rows) None ≡ true) kind row.0)
+          listed_prefixed t inner (row_at n b.nodes b.rows) None (subst (λ k. buckets_fit k inner (row_at n b.nodes b.rows) None ≡ true) kind row.0)
 
   top_rows : (key : Key) (nodes : Nodes) (k : Key) (stats : Stats) (rows : Rows) → top_fits most key nodes k stats rows ≡ true → rows_fit most rows nodes ≡ true
   top_rows key nodes k stats rows h =

@@ -17,10 +17,9 @@ use Rattle.fc_spec.specs.documents.World.{World, Place, places, on_shards}
 use Rattle.fc_spec.specs.words.Lists.{joined, is_empty}
 use Rattle.fc_spec.specs.queries.Matching.{matches}
 use Rattle.fc_spec.specs.requests.Request.{StatKind, sum, min, max, countvals, missing, Stat, BlockStep, stay, parents, children, DomainChange, Request, stats_of}
-use Rattle.fc_spec.specs.requests.Base.{base}
-use Rattle.fc_spec.specs.requests.Domain.{moved, domain}
+use Rattle.fc_spec.specs.requests.Domain.{moved}
 use Rattle.fc_spec.specs.requests.Buckets.{bucket_places}
-use Rattle.fc_spec.specs.requests.Paths.{Path, at_root, into, path_places}
+use Rattle.fc_spec.specs.requests.Paths.{Path, at_root, into, rebuilt, domain, path_places}
 use Rattle.fc_spec.specs.requests.Statistics.{number, pair_values, longs_of, total_of, statistic_in, value_over}
 use Rattle.fc_spec.specs.scripts.WorldLimits.{IsWithinLimits}
 use Rattle.fc_spec.specs.messages.Message.{Way}
@@ -50,23 +49,23 @@ module _ (f : Place → ℕ) (r : Request) (W : World) where
   fewer_moved (parents q) Y h = fewer f _ (places W)
   fewer_moved (children q) Y h = fewer f _ (places W)
 
-  fewer_domain : (change : DomainChange) (X : List Place) → sum_by f X ≤ sum_by f (places W) → sum_by f (domain r W change X) ≤ sum_by f (places W)
-  fewer_domain change X h =
-      let start = cond (is_empty change.exclude) X (base r W change.exclude) in
+  fewer_domain : (path : Path) (change : DomainChange) (X : List Place) → sum_by f X ≤ sum_by f (places W) → sum_by f (domain r W path change X) ≤ sum_by f (places W)
+  fewer_domain path change X h =
+      let start = cond (is_empty change.exclude) X (rebuilt r W path change.exclude) in
       let kept = fewer f (λ p. list_all (λ q. matches q p.document) change.filters) (moved W change.block start) in
       let whole = fewer_moved change.block start (go (is_empty change.exclude)) in
       omega (arith, kept, whole)
     where
-      go : (c : Bool) → sum_by f (cond c X (base r W change.exclude)) ≤ sum_by f (places W)
+      go : (c : Bool) → sum_by f (cond c X (rebuilt r W path change.exclude)) ≤ sum_by f (places W)
       go true = h
       go false = fewer f _ (places W)
 
   fewer_path : (path : Path) → sum_by f (path_places r W path) ≤ sum_by f (places W)
   fewer_path at_root = fewer f _ (places W)
   fewer_path (into path g key) =
-      let D = domain r W g.change (path_places r W path) in
+      let D = domain r W path g.change (path_places r W path) in
       let own : sum_by f (bucket_places g.kind key D) ≤ sum_by f D = fewer f _ D in
-      let whole = fewer_domain g.change (path_places r W path) (fewer_path path) in
+      let whole = fewer_domain path g.change (path_places r W path) (fewer_path path) in
       omega (arith, own, whole)
 
   fewer_target : (t : Target) → sum_by f (target_places r W t) ≤ sum_by f (places W)

@@ -5,13 +5,12 @@ use Rattle.std.specs.Option.{option_and_then}
 use Rattle.std.proofs.lemmas.Bool.{false≢true, eqb-true}
 use Rattle.fc_spec.specs.documents.World.{World, Place, on_shards}
 use Rattle.fc_spec.specs.requests.Request.{Facet, Nodes, no_nodes, statistic, facet, Request, stats_of}
-use Rattle.fc_spec.specs.requests.Domain.{domain}
 use Rattle.fc_spec.specs.requests.Buckets.{Key, bucket_places}
-use Rattle.fc_spec.specs.requests.Paths.{Path, at_root, path_places}
+use Rattle.fc_spec.specs.requests.Paths.{Path, at_root, into, domain, path_places}
 use Rattle.fc_spec.specs.messages.KeyOrder.{same_key}
 use Rattle.fc_spec.specs.requests.Statistics.{Stats, stats_over}
 use Rattle.fc_spec.specs.messages.Message.{Partials, no_partials, Rows, Way}
-use Rattle.fc_spec.specs.messages.Target.{Target, leads_nowhere, leads_to, target_nodes, target_places, target_in, target_from, target_of, facet_at, nodes_in}
+use Rattle.fc_spec.specs.messages.Target.{Target, leads_nowhere, leads_to, target_path, target_nodes, target_places, target_in, target_from, target_of, facet_at, nodes_in}
 use Rattle.fc_spec.specs.messages.Answer.{partials_of, answer_keys, answer_domain, answer_rows}
 use Rattle.fc_spec.specs.messages.Held.{HeldBucket, Told, find_key, row_at, descend, behind, held_in, held, or_else}
 use Rattle.fc_spec.proofs.words.Members.{Member}
@@ -23,13 +22,13 @@ use Rattle.fc_spec.proofs.messages.Ways.{some_exact, none_not_some, target_from-
 abbrev pub part : ℕ → List Place → List Place
 part i S = on_shards (i ∷ []) S
 
--- shard i's bucket, from its part of the bucket
-abbrev pub answer_of : Request → World → ℕ → Nodes → List Place → HeldBucket
-answer_of r W i nodes X = record { stats = stats_over (stats_of nodes) X; nodes = nodes; rows = answer_rows r W i nodes X }
+-- shard i's bucket of a path, from its part of the bucket
+abbrev pub answer_of : Request → World → ℕ → Path → Nodes → List Place → HeldBucket
+answer_of r W i path nodes X = record { stats = stats_over (stats_of nodes) X; nodes = nodes; rows = answer_rows r W i path nodes X }
 
 -- where a way leads
 abbrev pub answer_at : Request → World → ℕ → Target → HeldBucket
-answer_at r W i t = answer_of r W i (target_nodes t) (part i (target_places r W t))
+answer_at r W i t = answer_of r W i (target_path t) (target_nodes t) (part i (target_places r W t))
 
 -- the bucket of a key in a list of buckets, one for each of some keys
 pub find_key-partials_of : (nodes : Nodes) (stats : Key → Stats) (rows : Key → Rows) (keys : List Key) (key : Key) (b : HeldBucket) → find_key nodes key (partials_of stats rows keys) ≡ Some b → b ≡ record { stats = stats key; nodes = nodes; rows = rows key }
@@ -50,34 +49,36 @@ find_key-member nodes stats rows (k ∷ ks) key m = go (same_key key k) refl m (
     go false e (inl h) ih = absurd (false≢true (sym e ∙ ap (same_key key) (sym h) ∙ same_key_itself key))
     go false e (inr m) ih = ih m
 
--- what shard i lists for a facet, from its part X of the bucket around it
-abbrev pub listed_for : Request → World → ℕ → List Place → Option (Facet × Nodes) → Partials
-listed_for r W i X None = no_partials
-listed_for r W i X (Some f) =
-    partials_of (λ k. stats_over (stats_of f.1) (bucket_places (f.0).kind k (answer_domain r W i f.0 X))) (λ k. answer_rows r W i f.1 (bucket_places (f.0).kind k (answer_domain r W i f.0 X)))
-    (answer_keys (f.0).kind f.1 (answer_domain r W i f.0 X) i)
+-- what shard i lists for a facet in the bucket of a path, from its part X of that bucket
+abbrev pub listed_for : Request → World → ℕ → Path → List Place → Option (Facet × Nodes) → Partials
+listed_for r W i path X None = no_partials
+listed_for r W i path X (Some f) =
+    partials_of (λ k. stats_over (stats_of f.1) (bucket_places (f.0).kind k (answer_domain r W i path f.0 X)))
+    (λ k. answer_rows r W i (into path f.0 k) f.1 (bucket_places (f.0).kind k (answer_domain r W i path f.0 X)))
+    (answer_keys (f.0).kind f.1 (answer_domain r W i path f.0 X) i)
 
-pub row_at-answer_rows : (r : Request) (W : World) (i n : ℕ) (nodes : Nodes) (X : List Place) → row_at n nodes (answer_rows r W i nodes X) ≡ listed_for r W i X (facet_at n nodes)
-row_at-answer_rows r W i n no_nodes X = refl
-row_at-answer_rows r W i zero (statistic name s rest) X = refl
-row_at-answer_rows r W i (suc n) (statistic name s rest) X = row_at-answer_rows r W i n rest X
-row_at-answer_rows r W i zero (facet f inner rest) X = refl
-row_at-answer_rows r W i (suc n) (facet f inner rest) X = row_at-answer_rows r W i n rest X
+pub row_at-answer_rows : (r : Request) (W : World) (i n : ℕ) (path : Path) (nodes : Nodes) (X : List Place) → row_at n nodes (answer_rows r W i path nodes X) ≡ listed_for r W i path X (facet_at n nodes)
+row_at-answer_rows r W i n path no_nodes X = refl
+row_at-answer_rows r W i zero path (statistic name s rest) X = refl
+row_at-answer_rows r W i (suc n) path (statistic name s rest) X = row_at-answer_rows r W i n path rest X
+row_at-answer_rows r W i zero path (facet f inner rest) X = refl
+row_at-answer_rows r W i (suc n) path (facet f inner rest) X = row_at-answer_rows r W i n path rest X
 
 -- shard i's part of the bucket of a key is made from its part of the bucket around
-pub part_of_bucket : (r : Request) (W : World) (i : ℕ) (f : Facet) (key : Key) (S : List Place) → bucket_places f.kind key (answer_domain r W i f (part i S)) ≡ part i (bucket_places f.kind key (domain r W f.change S))
-part_of_bucket r W i f key S = ap (bucket_places f.kind key) (domain_local r W f.change (i ∷ []) S) ∙ sym (bucket_local f.kind key (i ∷ []) (domain r W f.change S))
+pub part_of_bucket : (r : Request) (W : World) (i : ℕ) (path : Path) (f : Facet) (key : Key) (S : List Place)
+    → bucket_places f.kind key (answer_domain r W i path f (part i S)) ≡ part i (bucket_places f.kind key (domain r W path f.change S))
+part_of_bucket r W i path f key S = ap (bucket_places f.kind key) (domain_local r W path f.change (i ∷ []) S) ∙ sym (bucket_local f.kind key (i ∷ []) (domain r W path f.change S))
 
 -- one step down from an answer is an answer
-step_from : (r : Request) (W : World) (i : ℕ) (path : Path) (nodes : Nodes) (key : Key) (f : Option (Facet × Nodes)) (b : HeldBucket) → find_key (nodes_in f) key (listed_for r W i (part i (path_places r W path)) f) ≡ Some b
+step_from : (r : Request) (W : World) (i : ℕ) (path : Path) (nodes : Nodes) (key : Key) (f : Option (Facet × Nodes)) (b : HeldBucket) → find_key (nodes_in f) key (listed_for r W i path (part i (path_places r W path)) f) ≡ Some b
     → b ≡ answer_at r W i (target_in key (leads_to path nodes) f)
 step_from r W i path nodes key None b h = absurd (none_not_some b h)
 step_from r W i path nodes key (Some f) b h =
-    find_key-partials_of f.1 _ _ (answer_keys (f.0).kind f.1 (answer_domain r W i f.0 (part i (path_places r W path))) i) key b h ∙ ap (answer_of r W i f.1) (part_of_bucket r W i f.0 key (path_places r W path))
+    find_key-partials_of f.1 _ _ (answer_keys (f.0).kind f.1 (answer_domain r W i path f.0 (part i (path_places r W path))) i) key b h ∙ ap (answer_of r W i (into path f.0 key) f.1) (part_of_bucket r W i path f.0 key (path_places r W path))
 
 -- what shard i lists for the facet with a number there
 abbrev listed_there : Request → World → ℕ → Target → ℕ → Partials
-listed_there r W i t n = listed_for r W i (part i (target_places r W t)) (facet_at n (target_nodes t))
+listed_there r W i t n = listed_for r W i (target_path t) (part i (target_places r W t)) (facet_at n (target_nodes t))
 
 -- the bucket of a key in it
 abbrev found_there : Request → World → ℕ → Target → ℕ → Key → Option HeldBucket
@@ -96,7 +97,7 @@ pub descend_answer : (r : Request) (W : World) (i : ℕ) (way : Way) (t : Target
 descend_answer r W i [] t b h = sym (some_exact (answer_at r W i t) b h)
 descend_answer r W i (step ∷ way) t b h =
     go (found_there r W i t step.node step.key) refl
-    (ap (λ ps. option_and_then (descend way) (find_key (nodes_in (facet_at step.node (target_nodes t))) step.key ps)) (sym (row_at-answer_rows r W i step.node (target_nodes t) (part i (target_places r W t)))) ∙ h)
+    (ap (λ ps. option_and_then (descend way) (find_key (nodes_in (facet_at step.node (target_nodes t))) step.key ps)) (sym (row_at-answer_rows r W i step.node (target_path t) (target_nodes t) (part i (target_places r W t)))) ∙ h)
     (descend_answer r W i way (stepped t step.node step.key) b)
   where
     next : Target

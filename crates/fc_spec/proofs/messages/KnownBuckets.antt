@@ -6,9 +6,10 @@ use Rattle.fc_spec.specs.words.Lists.{is_empty}
 use Rattle.fc_spec.specs.documents.World.{World, Place, on_shards}
 use Rattle.fc_spec.specs.requests.Request.{Stat, Facet, Nodes, no_nodes, statistic, facet, Request, stats_of}
 use Rattle.fc_spec.specs.requests.Statistics.{value_over, combined_value}
-use Rattle.fc_spec.specs.requests.Shape.{no_exclusions, outermost_exclusions}
+use Rattle.fc_spec.specs.requests.Shape.{no_exclusions}
+use Rattle.fc_spec.specs.requests.Paths.{Path}
 use Rattle.fc_spec.specs.messages.Message.{Way}
-use Rattle.fc_spec.specs.messages.Target.{target_of, target_nodes, target_places, facet_at}
+use Rattle.fc_spec.specs.messages.Target.{target_of, target_path, target_nodes, target_places, facet_at}
 use Rattle.fc_spec.specs.messages.Held.{HeldBucket, Told, held}
 use Rattle.fc_spec.specs.messages.Merged.{held_count, held_value, count_held, value_held}
 use Rattle.fc_spec.proofs.words.Members.{Member}
@@ -16,12 +17,15 @@ use Rattle.fc_spec.proofs.requests.Together.{IsDistinct, length-on_more, value_o
 use Rattle.fc_spec.proofs.messages.Ways.{none_not_some}
 use Rattle.fc_spec.proofs.messages.HeldAnswers.{part, answer_at, IsTold, held_answer}
 
--- the places and the nodes where a way leads
+-- the places, the nodes and the path where a way leads
 abbrev pub places_at : Request → World → Way → List Place
 places_at r W way = target_places r W (target_of r.nodes way)
 
 abbrev pub nodes_of : Request → Way → Nodes
 nodes_of r way = target_nodes (target_of r.nodes way)
+
+abbrev pub path_of : Request → Way → Path
+path_of r way = target_path (target_of r.nodes way)
 
 -- the bucket of shard i there is held; or it isn't, has no place, and none of its nodes excludes
 abbrev pub IsKnown : Request → World → List Told → Way → ℕ → Type 0
@@ -76,13 +80,3 @@ facet_excludes_none zero (facet g nodes rest) f inner h none =
     let parts = and_parts (is_empty g.change.exclude) (no_exclusions nodes) both.0 in
     subst (λ (p : Facet × Nodes). (is_empty (p.0).change.exclude ≡ true) × (no_exclusions p.1 ≡ true)) same parts
 facet_excludes_none (suc n) (facet g nodes rest) f inner h none = facet_excludes_none n rest f inner h (and_parts (is_empty g.change.exclude && no_exclusions nodes) (no_exclusions rest) none).1
-
--- nor do the nodes in an outermost facet
-pub inner_excludes_none : (n : ℕ) (nodes : Nodes) (f : Facet) (inner : Nodes) → facet_at n nodes ≡ Some (f, inner) → outermost_exclusions nodes ≡ true → no_exclusions inner ≡ true
-inner_excludes_none n no_nodes f inner h none = absurd (none_not_some (f, inner) h)
-inner_excludes_none zero (statistic name s rest) f inner h none = absurd (none_not_some (f, inner) h)
-inner_excludes_none (suc n) (statistic name s rest) f inner h none = inner_excludes_none n rest f inner h none
-inner_excludes_none zero (facet g nodes rest) f inner h none =
-    let same : (g, nodes) ≡ (f, inner) = cc in
-    subst (λ (p : Facet × Nodes). no_exclusions p.1 ≡ true) same (and_parts (no_exclusions nodes) (outermost_exclusions rest) none).0
-inner_excludes_none (suc n) (facet g nodes rest) f inner h none = inner_excludes_none n rest f inner h (and_parts (no_exclusions nodes) (outermost_exclusions rest) none).1

@@ -5,7 +5,7 @@ use Rattle.std.proofs.lemmas.Bool.{eq-eqb, eqb-true}
 use Rattle.fc_spec.specs.words.Lists.{is_empty, numbers_below}
 use Rattle.fc_spec.specs.requests.Request.{Terms, Kind, terms, range, query, Facet, Nodes, no_nodes, statistic, facet, Request}
 use Rattle.fc_spec.specs.requests.Buckets.{Key, value}
-use Rattle.fc_spec.specs.requests.Shape.{asks_again}
+use Rattle.fc_spec.specs.requests.Shape.{asks_again, counts_all}
 use Rattle.fc_spec.specs.replies.Reading.{Reading}
 use Rattle.fc_spec.specs.replies.Chosen.{offering, chosen}
 use Rattle.fc_spec.specs.replies.Distributed.{printed_keys, carried}
@@ -70,7 +70,7 @@ each_apart H w d = differ_map Other StandApart (λ i. record { shard = i; want =
 
 -- the shards that a bucket carries differ
 carried_differ : {B D : Type 0} (R : Reading B D) (kind : Kind) (inner : Nodes) (H : List ℕ) (Y : D) (k : Key) → Differ Other H → Differ Other (carried R kind inner H Y k)
-carried_differ R (terms t) inner H Y (value v) d = go t.refine
+carried_differ R (terms t) inner H Y (value v) d = go (counts_all t inner)
   where
     go : (b : Bool) → Differ Other (cond b H (offering R t inner H Y v))
     go true = d
@@ -114,7 +114,7 @@ under_apart way n f ks d each = (
 
 at_apart : {B D : Type 0} (R : Reading B D) (kind : Kind) (inner : Nodes) (e n : ℕ) (H : List ℕ) (Y : D) (way : Way) (under : ℕ → List Lack) → Differ Other H → ((d : ℕ) → Differ StandApart (under d) × AreAt way n (under d))
     → Differ StandApart (wanted_at R kind inner e n H Y way under) × AreAt way n (wanted_at R kind inner e n H Y way under)
-at_apart R (terms t) inner zero n H Y way under d u = go (asks_again t)
+at_apart R (terms t) inner zero n H Y way under d u = go (asks_again t inner)
   where
     go : (b : Bool) → Differ StandApart (cond b (wanted_values R t inner n H Y way) []) × AreAt way n (cond b (wanted_values R t inner n H Y way) [])
     go true = values_apart R t inner n H Y way d

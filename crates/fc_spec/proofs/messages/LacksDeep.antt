@@ -59,7 +59,7 @@ module _ (r : Request) (A : List Told) where
       inside d (carried (over_held A) f.kind inner H (node_at way n) k.0) (way ++ step_to n k.0) l (from_start r [] (way ++ step_to n k.0) inner (next_nodes r way n f inner k.0 at)) k.2 ∙ ap (λ z. z + d + 1) (depth_more way n f inner k.0 at)
 
   at_deep : (way : Way) (n : ℕ) (f : Facet) (kind : Kind) (inner : Nodes) (H : List ℕ) (e : ℕ) (l : Lack) → f.kind ≡ kind → facet_at n (nodes_of r way) ≡ Some (f, inner) → DeepInside inner → Member l (wanted_held A kind inner n H way e) → IsDeep way e l
-  at_deep way n f (terms t) inner H zero l is at inside m = go (asks_again t) m
+  at_deep way n f (terms t) inner H zero l is at inside m = go (asks_again t inner) m
     where
       go : (b : Bool) → Member l (cond b (wanted_values (over_held A) t inner n H (node_at way n) way) []) → IsDeep way 0 l
       go true there = values_deep way n f t inner H l at is there

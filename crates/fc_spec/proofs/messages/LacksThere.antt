@@ -56,7 +56,7 @@ module _ (most : Terms → Option ℕ) (r : Request) (A : List Told) (fitting : 
 
   -- the chosen values of a terms facet that asks again
   values_named : (way : Way) (n : ℕ) (name : Text) (change : DomainChange) (t : Terms) (inner : Nodes) (H : List ℕ) (l : Lack) → names_keys r.nodes way ≡ true
-      → facet_at n (nodes_of r way) ≡ Some (record { name = name; change = change; kind = terms t }, inner) → asks_again t ≡ true → Member l (wanted_values (over_held A) t inner n H (node_at way n) way) → IsNamed r l.want
+      → facet_at n (nodes_of r way) ≡ Some (record { name = name; change = change; kind = terms t }, inner) → asks_again t inner ≡ true → Member l (wanted_values (over_held A) t inner n H (node_at way n) way) → IsNamed r l.want
   values_named way n name change t inner H l names at again m =
       let v = member_flat_map (λ v. each_of H (want_of way n (value v))) (chosen (over_held A) t inner H (node_at way n)) l m in
       let i = member_map (λ i. record { shard = i; want = want_of way n (value v.0) }) H l v.2 in
@@ -79,9 +79,9 @@ module _ (most : Terms → Option ℕ) (r : Request) (A : List Told) (fitting : 
 
   at_named : (way : Way) (n : ℕ) (name : Text) (change : DomainChange) (kind : Kind) (inner : Nodes) (H : List ℕ) (e : ℕ) (l : Lack) → names_keys r.nodes way ≡ true
       → facet_at n (nodes_of r way) ≡ Some (record { name = name; change = change; kind = kind }, inner) → NamedInside inner → Member l (wanted_held A kind inner n H way e) → IsNamed r l.want
-  at_named way n name change (terms t) inner H zero l names at inside m = go (asks_again t) refl m
+  at_named way n name change (terms t) inner H zero l names at inside m = go (asks_again t inner) refl m
     where
-      go : (b : Bool) → asks_again t ≡ b → Member l (cond b (wanted_values (over_held A) t inner n H (node_at way n) way) []) → IsNamed r l.want
+      go : (b : Bool) → asks_again t inner ≡ b → Member l (cond b (wanted_values (over_held A) t inner n H (node_at way n) way) []) → IsNamed r l.want
       go true again there = values_named way n name change t inner H l names at again there
       go false again there = absurd there
   at_named way n name change (terms t) inner H (suc e) l names at inside m = under_named way n name change (terms t) inner H e l names at inside m

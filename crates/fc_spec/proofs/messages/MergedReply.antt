@@ -1,14 +1,12 @@
 -- Answers that tell of every root and lack nothing merge into the distributed reply.
-use Rattle.std.proofs.Common.{◌≡◌, ℕ, List, [], ◌∷◌, length, true, cond, Option, None, Some, is_some, is_none, refl, inl, inr}
+use Rattle.std.proofs.Common.{◌≡◌, ℕ, List, [], ◌∷◌, length, true, cond, Option, None, Some, is_some, is_none, refl, inl}
 use Rattle.std.specs.List.{AllByRecursion}
 use Rattle.std.proofs.lemmas.Bool.{false≢true}
 use Rattle.fc_spec.specs.words.Lists.{numbers_below}
 use Rattle.fc_spec.specs.documents.World.{World}
 use Rattle.fc_spec.specs.requests.Request.{Request}
-use Rattle.fc_spec.specs.requests.Base.{root_domain}
-use Rattle.fc_spec.specs.requests.Shape.{outermost_exclusions}
 use Rattle.fc_spec.specs.replies.Reply.{bucket}
-use Rattle.fc_spec.specs.replies.Distributed.{distributed}
+use Rattle.fc_spec.specs.replies.Distributed.{root_bucket, distributed}
 use Rattle.fc_spec.specs.messages.Message.{way_of}
 use Rattle.fc_spec.specs.messages.Held.{HeldBucket, Told, held}
 use Rattle.fc_spec.specs.messages.Merged.{over_held, merged}
@@ -41,20 +39,20 @@ none_untold A (l ∷ ls) t = go (held A l.shard (way_of l.want)) t.0 (none_untol
     go (Some b) e ih = ih
 
 -- the root, over all shards
-pub root_state : (r : Request) (W : World) (A : List Told) → outermost_exclusions r.nodes ≡ true → HasRoots (length W) A → IsState r W A (numbers_below (length W)) [] (root_domain r W)
-root_state r W A outermost roots = record {
+pub root_state : (r : Request) (W : World) (A : List Told) → HasRoots (length W) A → IsState r W A (numbers_below (length W)) [] (root_bucket r W)
+root_state r W A roots = record {
+  path = refl;
   places = refl;
   known = λ i m. inl (roots i (member_below (length W) i m));
   distinct = distinct_numbers (length W);
-  inside = inr outermost;
 }
 
 -- the same of told buckets
-pub told_merge : (r : Request) (W : World) (A : List Told) → outermost_exclusions r.nodes ≡ true → AllByRecursion (IsTold r W) A → HasRoots (length W) A → ((e : ℕ) → lacks r (length W) A e ≡ []) → merged r (length W) A ≡ distributed r W
-told_merge r W A outermost all roots none =
-    let state = root_state r W A outermost roots in
-    let facets = facets_merge r W A r.nodes 0 0 (numbers_below (length W)) [] (root_domain r W) all state (from_start r W [] r.nodes refl) (λ e. all_told A (wanted (over_held A) e r.nodes 0 (numbers_below (length W)) [] []) (none e)) in
-    λ i. bucket None (count_agrees r W A (numbers_below (length W)) [] (root_domain r W) all state i) (facets i)
+pub told_merge : (r : Request) (W : World) (A : List Told) → AllByRecursion (IsTold r W) A → HasRoots (length W) A → ((e : ℕ) → lacks r (length W) A e ≡ []) → merged r (length W) A ≡ distributed r W
+told_merge r W A all roots none =
+    let state = root_state r W A roots in
+    let facets = facets_merge r W A r.nodes 0 0 (numbers_below (length W)) [] (root_bucket r W) all state (from_start r W [] r.nodes refl) (λ e. all_told A (wanted (over_held A) e r.nodes 0 (numbers_below (length W)) [] []) (none e)) in
+    λ i. bucket None (count_agrees r W A (numbers_below (length W)) [] (root_bucket r W) all state i) (facets i)
 
 pub answers_merge_into_reply : MergesIntoReply
-answers_merge_into_reply r W sent outermost answers roots none = told_merge r W (told_in r.nodes sent) outermost (answers_told r W sent answers) roots none
+answers_merge_into_reply r W sent answers roots none = told_merge r W (told_in r.nodes sent) (answers_told r W sent answers) roots none

@@ -3,13 +3,13 @@ use Rattle.std.proofs.Common.{◌≡◌, ℕ, suc, ◌+◌, List, [], ◌∷◌,
 use Rattle.std.specs.List.{AllByRecursion, flat_map, slice_get}
 use Rattle.fc_spec.specs.documents.Val.{Text}
 use Rattle.fc_spec.specs.words.Lists.{is_empty}
-use Rattle.fc_spec.specs.documents.World.{World, Place, on_shards}
+use Rattle.fc_spec.specs.documents.World.{World, on_shards}
 use Rattle.fc_spec.specs.requests.Request.{Stat, Kind, terms, range, query, DomainChange, Facet, Nodes, no_nodes, statistic, facet, Request, stats_of}
 use Rattle.fc_spec.specs.requests.Buckets.{Key, value, whole, bucket_places}
 use Rattle.fc_spec.specs.requests.Statistics.{shown}
 use Rattle.fc_spec.specs.replies.Reply.{bucket, Facets, row_of, part, with_buckets, many, one, spot_of, val_of}
 use Rattle.fc_spec.specs.replies.Printed.{statistic_part, facet_part}
-use Rattle.fc_spec.specs.replies.Reading.{over_places}
+use Rattle.fc_spec.specs.replies.Reading.{PathBucket, PathDomain, over_places}
 use Rattle.fc_spec.specs.replies.Chosen.{chosen}
 use Rattle.fc_spec.specs.replies.Distributed.{printed_keys, carried, dist_buckets, dist_facets}
 use Rattle.fc_spec.specs.messages.Message.{Way, way_of}
@@ -17,11 +17,12 @@ use Rattle.fc_spec.specs.messages.Target.{facet_at}
 use Rattle.fc_spec.specs.messages.Held.{Told, held}
 use Rattle.fc_spec.specs.messages.Merged.{count_held, over_held}
 use Rattle.fc_spec.specs.messages.Lacks.{Lack, want_of, each_of, wanted_values, wanted_at, facet_wanted, wanted}
+use Rattle.fc_spec.proofs.replies.PathBuckets.{in_key}
 use Rattle.fc_spec.proofs.words.Members.{Member, Every}
 use Rattle.fc_spec.proofs.messages.HeldAnswers.{IsTold}
 use Rattle.fc_spec.proofs.messages.HeldFurther.{step_to}
 use Rattle.fc_spec.proofs.messages.KnownBuckets.{nodes_of}
-use Rattle.fc_spec.proofs.messages.NextBuckets.{IsState, next_nodes, domain_there, count_agrees, value_agrees, chosen_agree}
+use Rattle.fc_spec.proofs.messages.NextBuckets.{IsState, next_nodes, facet_of, domain_there, count_agrees, value_agrees, chosen_agree}
 use Rattle.fc_spec.proofs.messages.PrintedAgree.{node_at, FacetIsTold, keys_agree, carried_agree, printed_state}
 
 -- a row's buckets, made by functions that agree on its keys
@@ -40,7 +41,7 @@ with_buckets_alike name (terms t) c d i j keys more w h e = ap (λ row. many nam
 with_buckets_alike name (range g) c d i j keys more w h e = ap (λ row. many name row more) (row_of_alike (range g) c d i j keys h e)
 with_buckets_alike name (query q) c d i j keys more w h e = λ x. one name (bucket None (h whole w x) (e whole w x)) more
 
-has_whole : (r : Request) (W : World) (kind : Kind) (inner : Nodes) (H : List ℕ) (Y : List Place) → HasWhole kind (printed_keys (over_places r W) kind inner H Y)
+has_whole : (r : Request) (W : World) (kind : Kind) (inner : Nodes) (H : List ℕ) (Y : PathDomain) → HasWhole kind (printed_keys (over_places r W) kind inner H Y)
 has_whole r W (terms t) inner H Y = tt
 has_whole r W (range g) inner H Y = tt
 has_whole r W (query q) inner H Y = inl refl
@@ -76,8 +77,8 @@ abbrev pub wanted_held : List Told → Kind → Nodes → ℕ → List ℕ → W
 wanted_held A kind inner n H way d = wanted_at (over_held A) kind inner d n H (node_at way n) way (under_held A kind inner n H way)
 
 -- where all is told of at a facet itself, its chosen values are told of
-pub facet_told : (r : Request) (W : World) (A : List Told) (H : List ℕ) (way : Way) (X : List Place) (n : ℕ) (name : Text) (change : DomainChange) (kind : Kind) (inner : Nodes) → AllByRecursion (IsTold r W) A → IsState r W A H way X
-    → facet_at n (nodes_of r way) ≡ Some (record { name = name; change = change; kind = kind }, inner) → AllTold A (wanted_held A kind inner n H way 0) → FacetIsTold r W A H way X n change kind inner
+pub facet_told : (r : Request) (W : World) (A : List Told) (H : List ℕ) (way : Way) (X : PathBucket) (n : ℕ) (name : Text) (change : DomainChange) (kind : Kind) (inner : Nodes) → AllByRecursion (IsTold r W) A → IsState r W A H way X
+    → facet_at n (nodes_of r way) ≡ Some (facet_of name change kind, inner) → AllTold A (wanted_held A kind inner n H way 0) → FacetIsTold r W A H way X n name change kind inner
 facet_told r W A H way X n name change (terms t) inner all state at e = λ asks v m i here.
     told_of_each A H way n (value v) i
     (every_in (λ l. is_some (held A l.shard (way_of l.want))) (λ w. each_of H (want_of way n (value w))) (chosen (over_held A) t inner H (node_at way n)) v
@@ -108,7 +109,7 @@ after_statistic r W way n m name s rest from =
 
 -- the step under the buckets of a facet: there the recursion goes on, in the bucket of each printed key
 abbrev pub Inside : Request → World → List Told → Nodes → Type 0
-Inside r W A inner = (H : List ℕ) (way : Way) (X : List Place) → IsState r W A H way X → AreFrom r W way 0 0 inner → ((e : ℕ) → AllTold A (wanted (over_held A) e inner 0 H way way))
+Inside r W A inner = (H : List ℕ) (way : Way) (X : PathBucket) → IsState r W A H way X → AreFrom r W way 0 0 inner → ((e : ℕ) → AllTold A (wanted (over_held A) e inner 0 H way way))
     → dist_facets (over_held A) inner 0 0 H way ≡ dist_facets (over_places r W) inner 0 0 H X
 
 -- what is told of at a facet at every depth is told of under it
@@ -118,24 +119,24 @@ told_inside A H way n (range g) inner told e = told e
 told_inside A H way n (query q) inner told e = told e
 
 -- the buckets of a facet
-buckets_merge : (r : Request) (W : World) (A : List Told) (H : List ℕ) (way : Way) (X : List Place) (n : ℕ) (name : Text) (change : DomainChange) (kind : Kind) (inner : Nodes) (more : Facets) → AllByRecursion (IsTold r W) A → IsState r W A H way X
-    → facet_at n (nodes_of r way) ≡ Some (record { name = name; change = change; kind = kind }, inner) → ((e : ℕ) → AllTold A (wanted_held A kind inner n H way e)) → Inside r W A inner
-    → dist_buckets (over_held A) (record { name = name; change = change; kind = kind }) inner (λ K P. dist_facets (over_held A) inner 0 0 K P) H (node_at way n) more
-    ≡ dist_buckets (over_places r W) (record { name = name; change = change; kind = kind }) inner (λ K P. dist_facets (over_places r W) inner 0 0 K P) H (domain_there r W H change X) more
+buckets_merge : (r : Request) (W : World) (A : List Told) (H : List ℕ) (way : Way) (X : PathBucket) (n : ℕ) (name : Text) (change : DomainChange) (kind : Kind) (inner : Nodes) (more : Facets) → AllByRecursion (IsTold r W) A → IsState r W A H way X
+    → facet_at n (nodes_of r way) ≡ Some (facet_of name change kind, inner) → ((e : ℕ) → AllTold A (wanted_held A kind inner n H way e)) → Inside r W A inner
+    → dist_buckets (over_held A) (facet_of name change kind) inner (λ K P. dist_facets (over_held A) inner 0 0 K P) H (node_at way n) more
+    ≡ dist_buckets (over_places r W) (facet_of name change kind) inner (λ K P. dist_facets (over_places r W) inner 0 0 K P) H (domain_there r W H (facet_of name change kind) X) more
 buckets_merge r W A H way X n name change kind inner more all state at told inside =
-    let f : Facet = record { name = name; change = change; kind = kind } in
-    let Y = domain_there r W H change X in
+    let f : Facet = facet_of name change kind in
+    let Y = domain_there r W H f X in
     let facet_is = facet_told r W A H way X n name change kind inner all state at (told 0) in
     let shards = λ (k : Key). carried_agree r W A H way X n name change kind inner k all state at in
     let keys = keys_agree r W A H way X n name change kind inner all state at facet_is in
     let next = λ (k : Key) (m : Member k (printed_keys (over_places r W) kind inner H Y)). printed_state r W A H way X n name change kind inner k all state at facet_is m in
     ap (λ ks. with_buckets name kind (λ k. count_held A (carried (over_held A) kind inner H (node_at way n) k) (way ++ step_to n k)) (λ k. dist_facets (over_held A) inner 0 0 (carried (over_held A) kind inner H (node_at way n) k) (way ++ step_to n k)) ks more) keys
-    ∙ with_buckets_alike name kind (λ k. count_held A (carried (over_held A) kind inner H (node_at way n) k) (way ++ step_to n k)) (λ k. length (on_shards (carried (over_places r W) kind inner H Y k) (bucket_places kind k Y)))
-    (λ k. dist_facets (over_held A) inner 0 0 (carried (over_held A) kind inner H (node_at way n) k) (way ++ step_to n k)) (λ k. dist_facets (over_places r W) inner 0 0 (carried (over_places r W) kind inner H Y k) (bucket_places kind k Y))
+    ∙ with_buckets_alike name kind (λ k. count_held A (carried (over_held A) kind inner H (node_at way n) k) (way ++ step_to n k)) (λ k. length (on_shards (carried (over_places r W) kind inner H Y k) (bucket_places kind k Y.places)))
+    (λ k. dist_facets (over_held A) inner 0 0 (carried (over_held A) kind inner H (node_at way n) k) (way ++ step_to n k)) (λ k. dist_facets (over_places r W) inner 0 0 (carried (over_places r W) kind inner H Y k) (in_key Y kind k))
     (printed_keys (over_places r W) kind inner H Y) more (has_whole r W kind inner H Y)
-    (λ k m. ap (λ K. count_held A K (way ++ step_to n k)) (shards k) ∙ count_agrees r W A (carried (over_places r W) kind inner H Y k) (way ++ step_to n k) (bucket_places kind k Y) all (next k m))
+    (λ k m. ap (λ K. count_held A K (way ++ step_to n k)) (shards k) ∙ count_agrees r W A (carried (over_places r W) kind inner H Y k) (way ++ step_to n k) (in_key Y kind k) all (next k m))
     (λ k m. ap (λ K. dist_facets (over_held A) inner 0 0 K (way ++ step_to n k)) (shards k)
-    ∙ inside (carried (over_places r W) kind inner H Y k) (way ++ step_to n k) (bucket_places kind k Y) (next k m) (from_start r W (way ++ step_to n k) inner (next_nodes r way n f inner k at))
+    ∙ inside (carried (over_places r W) kind inner H Y k) (way ++ step_to n k) (in_key Y kind k) (next k m) (from_start r W (way ++ step_to n k) inner (next_nodes r way n f inner k at))
     (λ e. subst (λ K. AllTold A (wanted (over_held A) e inner 0 K (way ++ step_to n k) (way ++ step_to n k))) (shards k)
     (every_in (λ l. is_some (held A l.shard (way_of l.want))) (λ l. wanted (over_held A) e inner 0 (carried (over_held A) kind inner H (node_at way n) l) (way ++ step_to n l) (way ++ step_to n l)) (printed_keys (over_held A) kind inner H (node_at way n)) k
     (told_inside A H way n kind inner told e) (subst (λ ks. Member k ks) (sym keys) m))))
@@ -150,7 +151,7 @@ part_merges A empty f printed other more last all rest h told = go (empty && is_
     go false t = h t
 
 -- the facets of a bucket, from some node on
-pub facets_merge : (r : Request) (W : World) (A : List Told) (nodes : Nodes) (n m : ℕ) (H : List ℕ) (way : Way) (X : List Place) → AllByRecursion (IsTold r W) A → IsState r W A H way X → AreFrom r W way n m nodes
+pub facets_merge : (r : Request) (W : World) (A : List Told) (nodes : Nodes) (n m : ℕ) (H : List ℕ) (way : Way) (X : PathBucket) → AllByRecursion (IsTold r W) A → IsState r W A H way X → AreFrom r W way n m nodes
     → ((e : ℕ) → AllTold A (wanted (over_held A) e nodes n H way way)) → dist_facets (over_held A) nodes n m H way ≡ dist_facets (over_places r W) nodes n m H X
 facets_merge r W A no_nodes n m H way X all state from told = refl
 facets_merge r W A (statistic name s rest) n m H way X all state from told =
@@ -163,10 +164,10 @@ facets_merge r W A (facet f inner rest) n m H way X all state from told =
     let more = facets_merge r W A rest (suc n) m H way X all state (after_facet r W way n m f inner rest from) (λ e. every_right p (here e) (later e) (told e)) in
     part_merges A (count_held A H way == 0) f
     (dist_buckets (over_held A) f inner (λ K P. dist_facets (over_held A) inner 0 0 K P) H (node_at way n) (dist_facets (over_held A) rest (suc n) m H way))
-    (dist_buckets (over_places r W) f inner (λ K P. dist_facets (over_places r W) inner 0 0 K P) H (domain_there r W H f.change X) (dist_facets (over_places r W) rest (suc n) m H X))
+    (dist_buckets (over_places r W) f inner (λ K P. dist_facets (over_places r W) inner 0 0 K P) H (domain_there r W H f X) (dist_facets (over_places r W) rest (suc n) m H X))
     (dist_facets (over_held A) rest (suc n) m H way) (dist_facets (over_places r W) rest (suc n) m H X) (wanted_held A f.kind inner n H way) more
     (λ t. buckets_merge r W A H way X n f.name f.change f.kind inner (dist_facets (over_held A) rest (suc n) m H way) all state (facet_first r W way n m f inner rest from) t
-    (λ K w P st fr to. facets_merge r W A inner 0 0 K w P all st fr to) ∙ ap (dist_buckets (over_places r W) f inner (λ K P. dist_facets (over_places r W) inner 0 0 K P) H (domain_there r W H f.change X)) more)
+    (λ K w P st fr to. facets_merge r W A inner 0 0 K w P all st fr to) ∙ ap (dist_buckets (over_places r W) f inner (λ K P. dist_facets (over_places r W) inner 0 0 K P) H (domain_there r W H f X)) more)
     (λ e. every_left p (here e) (later e) (told e))
-    ∙ ap (λ c. facet_part (c == 0) f (dist_buckets (over_places r W) f inner (λ K P. dist_facets (over_places r W) inner 0 0 K P) H (domain_there r W H f.change X) (dist_facets (over_places r W) rest (suc n) m H X)) (dist_facets (over_places r W) rest (suc n) m H X))
+    ∙ ap (λ c. facet_part (c == 0) f (dist_buckets (over_places r W) f inner (λ K P. dist_facets (over_places r W) inner 0 0 K P) H (domain_there r W H f X) (dist_facets (over_places r W) rest (suc n) m H X)) (dist_facets (over_places r W) rest (suc n) m H X))
     (count_agrees r W A H way X all state)

@@ -1,5 +1,6 @@
 -- A shard's answer is made from its own blocks, and its number plays no part.
 use Rattle.std.proofs.Common.{◌≡◌, ℕ, zero, suc, ◌+◌, ◌<◌, List, [], ◌∷◌, ◌++◌, map, length, Bool, true, false, cond, not, ◌||◌, ◌&&◌, ◌==◌, Option, None, Some, refl, sym, ◌∙◌, ap, append-nil, subst, inl, inr, arith}
+use Rattle.std.specs.Prelude.{nat_le}
 use Rattle.std.specs.List.{filter, list_all, slice_get}
 use Rattle.std.proofs.lemmas.Bool.{false≢true, or_cases, eqb-true, eq-eqb, ne_eqb}
 use Rattle.std.proofs.lemmas.List.Elements.{filter-append}
@@ -9,18 +10,20 @@ use Rattle.fc_spec.specs.words.Lists.{is_empty}
 use Rattle.fc_spec.specs.queries.Matching.{matches}
 use Rattle.fc_spec.specs.documents.World.{World, Place, places, places_from, shard_places, block_places, on_shards, same_block}
 use Rattle.fc_spec.specs.requests.Request.{Stat, Request, BlockStep, stay, parents, children, DomainChange, Kind, terms, range, query, Nodes, no_nodes, statistic, facet, stats_of}
-use Rattle.fc_spec.specs.requests.Base.{base, meets_base}
-use Rattle.fc_spec.specs.requests.Domain.{domain, moved, filtered, is_parent_of}
+use Rattle.fc_spec.specs.requests.Base.{meets_base}
+use Rattle.fc_spec.specs.requests.Domain.{moved, filtered, is_parent_of}
 use Rattle.fc_spec.specs.requests.Buckets.{Key, value, missing, whole, in_bucket, bucket_places}
-use Rattle.fc_spec.specs.requests.Paths.{Path, at_root, into, path_places}
+use Rattle.fc_spec.specs.requests.Paths.{Path, at_root, into, meets_rebuilt, rebuilt, domain, path_places}
+use Rattle.fc_spec.specs.requests.Shape.{no_exclusions}
 use Rattle.fc_spec.specs.requests.Statistics.{stats_over}
 use Rattle.fc_spec.specs.replies.Printed.{asked, range_keys}
 use Rattle.fc_spec.specs.requests.Ranks.{below_rank, rank_bound}
 use Rattle.fc_spec.specs.replies.Values.{entries_in}
 use Rattle.fc_spec.specs.messages.Message.{Partials, no_partials, partial, row, Way, Want, way_of, Ask, first, more}
-use Rattle.fc_spec.specs.messages.Target.{Target, leads_nowhere, leads_to, target_nodes, target_places, target_of}
-use Rattle.fc_spec.specs.messages.Answer.{not_empty, partials_of, answer_keys, answer_domain, answer_rows, answer_bucket, answer_wants, answer}
-use Rattle.fc_spec.specs.laws.ShardAlone.{AnswersFromItsBlocks}
+use Rattle.fc_spec.specs.messages.Target.{Target, leads_nowhere, leads_to, target_nodes, target_path, target_places, target_of}
+use Rattle.fc_spec.specs.messages.Answer.{not_empty, listed_keys, partials_of, answer_keys, answer_domain, answer_rows, answer_bucket, answer_wants, answer}
+use Rattle.fc_spec.specs.messages.TopRounds.{exact_first, exact_least, exact_more, first_number, later_numbers, least_keys, least_rows}
+use Rattle.fc_spec.specs.laws.ShardAlone.{AnswersFromItsBlocks, ExactFromItsBlocks}
 use Rattle.fc_spec.proofs.words.MappedLists.{filter-map, list_any-map}
 use Rattle.fc_spec.proofs.documents.Shards.{is_on, every_on_shards}
 use Rattle.fc_spec.proofs.requests.Locality.{filter-filter, filter_twice, moved_local}
@@ -147,15 +150,15 @@ documents_alike i j t P Q same alike =
     filter-filter (is_on (j ∷ [])) t Q ∙ ap (filter t) alike ∙ filter_renumbered (to_shard j) t (part i P) same ∙ ap (put j) (sym (filter-filter (is_on (i ∷ [])) t P))
 
 -- so does the change of a domain
-domain_alike : (r : Request) (V W : World) (i j : ℕ) (change : DomainChange) (X Y : List Place) → SameAt i j V W → Alike i j X Y → Alike i j (domain r V change X) (domain r W change Y)
-domain_alike r V W i j change X Y same alike = go (is_empty change.exclude)
+domain_alike : (r : Request) (V W : World) (i j : ℕ) (path : Path) (change : DomainChange) (X Y : List Place) → SameAt i j V W → Alike i j X Y → Alike i j (domain r V path change X) (domain r W path change Y)
+domain_alike r V W i j path change X Y same alike = go (is_empty change.exclude)
   where
     from_parts : (P Q : List Place) → Alike i j P Q → Alike i j (filtered change.filters (moved V change.block P)) (filtered change.filters (moved W change.block Q))
     from_parts P Q k = documents_alike i j (λ p. list_all (λ q. matches q p.document) change.filters) (moved V change.block P) (moved W change.block Q) (λ p. refl) (moved_alike V W i j change.block P Q same k)
 
-    go : (b : Bool) → Alike i j (filtered change.filters (moved V change.block (cond b X (base r V change.exclude)))) (filtered change.filters (moved W change.block (cond b Y (base r W change.exclude))))
+    go : (b : Bool) → Alike i j (filtered change.filters (moved V change.block (cond b X (rebuilt r V path change.exclude)))) (filtered change.filters (moved W change.block (cond b Y (rebuilt r W path change.exclude))))
     go true = from_parts X Y alike
-    go false = from_parts (base r V change.exclude) (base r W change.exclude) (documents_alike i j (λ p. meets_base r change.exclude p.document) (places V) (places W) (λ p. refl) same)
+    go false = from_parts (rebuilt r V path change.exclude) (rebuilt r W path change.exclude) (documents_alike i j (λ p. meets_rebuilt r path change.exclude p.document) (places V) (places W) (λ p. refl) same)
 
 -- the part of a part
 part_alike : (i j : ℕ) (X Y : List Place) → Alike i j X Y → Alike i j (part i X) (part j Y)
@@ -168,37 +171,41 @@ not_empty_put j kind D keys = λ k. filter (λ key. not (same key k == 0)) keys
     same : (key : Key) → length (bucket_places kind key (put j D)) ≡ length (bucket_places kind key D)
     same key = ap length (bucket_renumbered (to_shard j) kind key D) ∙ length_renumbered (to_shard j) (bucket_places kind key D)
 
+-- the same keys are listed
+listed_put : (j : ℕ) (kind : Kind) (inner : Nodes) (D : List Place) (keys : List Key) → listed_keys kind inner (put j D) keys ≡ listed_keys kind inner D keys
+listed_put j kind inner D keys = ap (cond (not (no_exclusions inner)) keys) (not_empty_put j kind D keys)
+
 -- the same keys are answered
 keys_put : (i j : ℕ) (kind : Kind) (inner : Nodes) (D : List Place) → Alike i j D (put j D) → answer_keys kind inner (put j D) j ≡ answer_keys kind inner D i
 keys_put i j (terms t) inner D alike =
     let entries = ap (entries_in t (stats_of inner)) alike ∙ entries_renumbered (to_shard j) t (stats_of inner) (part i D) in
-    λ k. map value (map (λ e. e.val) (below_rank t.sort (rank_bound t.offset t.limit t.overrequest) (entries k))) ++ not_empty_put j (terms t) D (asked t.missing missing) k
-keys_put i j (range g) inner D alike = not_empty_put j (range g) D (range_keys g)
+    λ k. map value (map (λ e. e.val) (below_rank t.sort (rank_bound t.offset t.limit t.overrequest) (entries k))) ++ listed_put j (terms t) inner D (asked t.missing missing) k
+keys_put i j (range g) inner D alike = listed_put j (range g) inner D (range_keys g)
 keys_put i j (query q) inner D alike = refl
 
 -- the statistics of a bucket are the same
 bucket_stats_put : (j : ℕ) (kind : Kind) (ss : List Stat) (D : List Place) (key : Key) → stats_over ss (bucket_places kind key (put j D)) ≡ stats_over ss (bucket_places kind key D)
 bucket_stats_put j kind ss D key = ap (stats_over ss) (bucket_renumbered (to_shard j) kind key D) ∙ stats_renumbered (to_shard j) ss (bucket_places kind key D)
 
-rows_alike : (r : Request) (V W : World) (i j : ℕ) (nodes : Nodes) (X Y : List Place) → SameAt i j V W → Alike i j X Y → answer_rows r W j nodes Y ≡ answer_rows r V i nodes X
-rows_alike r V W i j no_nodes X Y same alike = refl
-rows_alike r V W i j (statistic name s rest) X Y same alike = rows_alike r V W i j rest X Y same alike
-rows_alike r V W i j (facet f inner rest) X Y same alike =
-    let D = answer_domain r V i f X in
-    let over : answer_domain r W j f Y ≡ put j D = domain_alike r V W i j f.change X Y same alike in
-    let own : Alike i j D (answer_domain r W j f Y) = part_alike i j (domain r V f.change X) (domain r W f.change Y) over in
+rows_alike : (r : Request) (V W : World) (i j : ℕ) (path : Path) (nodes : Nodes) (X Y : List Place) → SameAt i j V W → Alike i j X Y → answer_rows r W j path nodes Y ≡ answer_rows r V i path nodes X
+rows_alike r V W i j path no_nodes X Y same alike = refl
+rows_alike r V W i j path (statistic name s rest) X Y same alike = rows_alike r V W i j path rest X Y same alike
+rows_alike r V W i j path (facet f inner rest) X Y same alike =
+    let D = answer_domain r V i path f X in
+    let over : answer_domain r W j path f Y ≡ put j D = domain_alike r V W i j path f.change X Y same alike in
+    let own : Alike i j D (answer_domain r W j path f Y) = part_alike i j (domain r V path f.change X) (domain r W path f.change Y) over in
     let put_alike : Alike i j D (put j D) = subst (Alike i j D) over own in
-    let insides = λ (key : Key). rows_alike r V W i j inner (bucket_places f.kind key D) (bucket_places f.kind key (put j D)) same (documents_alike i j (λ p. in_bucket f.kind key p.document) D (put j D) (λ p. refl) put_alike) in
-    let first = ap (λ E. partials_of (λ k. stats_over (stats_of inner) (bucket_places f.kind k E)) (λ k. answer_rows r W j inner (bucket_places f.kind k E)) (answer_keys f.kind inner E j)) over
+    let insides = λ (key : Key). rows_alike r V W i j (into path f key) inner (bucket_places f.kind key D) (bucket_places f.kind key (put j D)) same (documents_alike i j (λ p. in_bucket f.kind key p.document) D (put j D) (λ p. refl) put_alike) in
+    let first = ap (λ E. partials_of (λ k. stats_over (stats_of inner) (bucket_places f.kind k E)) (λ k. answer_rows r W j (into path f k) inner (bucket_places f.kind k E)) (answer_keys f.kind inner E j)) over
     ∙ (λ m. partials_of (λ k. bucket_stats_put j f.kind (stats_of inner) D k m) (λ k. insides k m) (keys_put i j f.kind inner D put_alike m)) in
-    λ m. row (first m) (rows_alike r V W i j rest X Y same alike m)
+    λ m. row (first m) (rows_alike r V W i j path rest X Y same alike m)
 
 -- the places of a path are alike, and so are those where a way leads
 path_alike : (r : Request) (V W : World) (i j : ℕ) (path : Path) → SameAt i j V W → Alike i j (path_places r V path) (path_places r W path)
 path_alike r V W i j at_root same = documents_alike i j (λ p. meets_base r [] p.document) (places V) (places W) (λ p. refl) same
 path_alike r V W i j (into path f key) same =
-    documents_alike i j (λ p. in_bucket f.kind key p.document) (domain r V f.change (path_places r V path)) (domain r W f.change (path_places r W path)) (λ p. refl)
-    (domain_alike r V W i j f.change (path_places r V path) (path_places r W path) same (path_alike r V W i j path same))
+    documents_alike i j (λ p. in_bucket f.kind key p.document) (domain r V path f.change (path_places r V path)) (domain r W path f.change (path_places r W path)) (λ p. refl)
+    (domain_alike r V W i j path f.change (path_places r V path) (path_places r W path) same (path_alike r V W i j path same))
 
 target_alike : (r : Request) (V W : World) (i j : ℕ) (t : Target) → SameAt i j V W → Alike i j (target_places r V t) (target_places r W t)
 target_alike r V W i j leads_nowhere same = refl
@@ -211,19 +218,56 @@ bucket_alike r V W i j way key rest other same e =
     let Y = target_places r W t in
     let alike : Alike i j X Y = target_alike r V W i j t same in
     let stats = ap (stats_over (stats_of (target_nodes t))) alike ∙ stats_renumbered (to_shard j) (stats_of (target_nodes t)) (part i X) in
-    let rows = rows_alike r V W i j (target_nodes t) (part i X) (part j Y) same (part_alike i j X Y alike) in
+    let rows = rows_alike r V W i j (target_path t) (target_nodes t) (part i X) (part j Y) same (part_alike i j X Y alike) in
     λ m. partial key (stats m) (rows m) (e m)
 
 wants_alike : (r : Request) (V W : World) (i j : ℕ) (ws : List Want) → SameAt i j V W → answer_wants r W j ws ≡ answer_wants r V i ws
 wants_alike r V W i j [] same = refl
 wants_alike r V W i j (w ∷ ws) same = bucket_alike r V W i j (way_of w) w.key (answer_wants r W j ws) (answer_wants r V i ws) same (wants_alike r V W i j ws same)
 
+-- the same keys from a count on
+least_keys_put : (i j n : ℕ) (kind : Kind) (inner : Nodes) (D : List Place) → Alike i j D (put j D) → least_keys kind inner n (put j D) j ≡ least_keys kind inner n D i
+least_keys_put i j n (terms t) inner D alike =
+    let entries = ap (entries_in t []) alike ∙ entries_renumbered (to_shard j) t [] (part i D) in
+    λ k. map value (map (λ e. e.val) (filter (λ e. nat_le n e.stats.count) (entries k))) ++ listed_put j (terms t) inner D (asked t.missing missing) k
+least_keys_put i j n (range g) inner D alike = keys_put i j (range g) inner D alike
+least_keys_put i j n (query q) inner D alike = keys_put i j (query q) inner D alike
+
+least_rows_alike : (r : Request) (V W : World) (i j : ℕ) (nodes : Nodes) (ns : List ℕ) (X Y : List Place) → SameAt i j V W → Alike i j X Y → least_rows r W j nodes ns Y ≡ least_rows r V i nodes ns X
+least_rows_alike r V W i j no_nodes ns X Y same alike = refl
+least_rows_alike r V W i j (statistic name s rest) ns X Y same alike = least_rows_alike r V W i j rest ns X Y same alike
+least_rows_alike r V W i j (facet f inner rest) ns X Y same alike =
+    let D = answer_domain r V i at_root f X in
+    let over : answer_domain r W j at_root f Y ≡ put j D = domain_alike r V W i j at_root f.change X Y same alike in
+    let own : Alike i j D (answer_domain r W j at_root f Y) = part_alike i j (domain r V at_root f.change X) (domain r W at_root f.change Y) over in
+    let put_alike : Alike i j D (put j D) = subst (Alike i j D) over own in
+    let insides = λ (key : Key). rows_alike r V W i j (into at_root f key) inner (bucket_places f.kind key D) (bucket_places f.kind key (put j D)) same (documents_alike i j (λ p. in_bucket f.kind key p.document) D (put j D) (λ p. refl) put_alike) in
+    let first = ap (λ E. partials_of (λ k. stats_over (stats_of inner) (bucket_places f.kind k E)) (λ k. answer_rows r W j (into at_root f k) inner (bucket_places f.kind k E)) (least_keys f.kind inner (first_number ns) E j)) over
+    ∙ (λ m. partials_of (λ k. bucket_stats_put j f.kind (stats_of inner) D k m) (λ k. insides k m) (least_keys_put i j (first_number ns) f.kind inner D put_alike m)) in
+    λ m. row (first m) (least_rows_alike r V W i j rest (later_numbers ns) X Y same alike m)
+
+-- shards of the same blocks
+same_blocks : (V W : World) (i j : ℕ) → slice_get V i ≡ slice_get W j → SameAt i j V W
+same_blocks V W i j e = part_of_places j W ∙ ap (of_blocks j) (sym e) ∙ blocks_put i j (slice_get V i) ∙ ap (put j) (sym (part_of_places i V))
+
 pub answers_from_its_blocks : AnswersFromItsBlocks
 answers_from_its_blocks r V W i j e ask = sym (go ask)
   where
     same : SameAt i j V W
-    same = part_of_places j W ∙ ap (of_blocks j) (sym e) ∙ blocks_put i j (slice_get V i) ∙ ap (put j) (sym (part_of_places i V))
+    same = same_blocks V W i j e
 
     go : (a : Ask) → answer r W j a ≡ answer r V i a
     go first = bucket_alike r V W i j [] whole no_partials no_partials same refl
     go (more ws) = wants_alike r V W i j ws same
+
+pub exact_from_its_blocks : ExactFromItsBlocks
+exact_from_its_blocks r V W i j e exact_first = answers_from_its_blocks r V W i j e first
+exact_from_its_blocks r V W i j e (exact_more ws) = answers_from_its_blocks r V W i j e (more ws)
+exact_from_its_blocks r V W i j e (exact_least ns) =
+    let same = same_blocks V W i j e in
+    let X = path_places r V at_root in
+    let Y = path_places r W at_root in
+    let alike : Alike i j X Y = path_alike r V W i j at_root same in
+    let stats = ap (stats_over (stats_of r.nodes)) alike ∙ stats_renumbered (to_shard j) (stats_of r.nodes) (part i X) in
+    let rows = least_rows_alike r V W i j r.nodes ns (part i X) (part j Y) same (part_alike i j X Y alike) in
+    sym (λ m. partial whole (stats m) (rows m) no_partials)

@@ -5,9 +5,8 @@ use Rattle.std.proofs.lemmas.Bool.{eq-eqb, ne_eqb, cases_lt}
 use Rattle.fc_spec.specs.words.Lists.{is_empty, numbers_below}
 use Rattle.fc_spec.specs.documents.World.{World}
 use Rattle.fc_spec.specs.requests.Request.{Nodes, Request}
-use Rattle.fc_spec.specs.requests.Base.{root_domain}
-use Rattle.fc_spec.specs.requests.Shape.{outermost_exclusions}
 use Rattle.fc_spec.specs.replies.Reading.{over_places}
+use Rattle.fc_spec.specs.replies.Distributed.{root_bucket}
 use Rattle.fc_spec.specs.messages.Message.{Way, way_of, more}
 use Rattle.fc_spec.specs.messages.Held.{HeldBucket, Told, held, told_by}
 use Rattle.fc_spec.specs.messages.Merged.{over_held}
@@ -70,19 +69,19 @@ held_or_lacks A all l m = go (held A l.shard (way_of l.want)) refl
 
 -- what is wanted of the root, over places
 abbrev pub wanted_of_root : Request → World → ℕ → List Lack
-wanted_of_root r W e = wanted (over_places r W) e r.nodes 0 (numbers_below (length W)) (root_domain r W) []
+wanted_of_root r W e = wanted (over_places r W) e r.nodes 0 (numbers_below (length W)) (root_bucket r W) []
 
 -- it is what is wanted over answers that lack nothing below
-pub root_agrees : (r : Request) (W : World) (A : List Told) (e : ℕ) → outermost_exclusions r.nodes ≡ true → AllByRecursion (IsTold r W) A → HasRoots (length W) A → ((d : ℕ) → d < e → lacks r (length W) A d ≡ [])
+pub root_agrees : (r : Request) (W : World) (A : List Told) (e : ℕ) → AllByRecursion (IsTold r W) A → HasRoots (length W) A → ((d : ℕ) → d < e → lacks r (length W) A d ≡ [])
     → wanted (over_held A) e r.nodes 0 (numbers_below (length W)) [] [] ≡ wanted_of_root r W e
-root_agrees r W A e outermost all roots none =
-    wanted_agrees r W A r.nodes e 0 0 (numbers_below (length W)) [] (root_domain r W) all (root_state r W A outermost roots) (from_start r W [] r.nodes refl)
+root_agrees r W A e all roots none =
+    wanted_agrees r W A r.nodes e 0 0 (numbers_below (length W)) [] (root_bucket r W) all (root_state r W A roots) (from_start r W [] r.nodes refl)
     (λ d less. all_told A (wanted (over_held A) d r.nodes 0 (numbers_below (length W)) [] []) (none d less))
 
 -- the same of told buckets: where more is told, which holds what lacked at a depth, that depth and those below lack nothing
-told_complete : (r : Request) (W : World) (A B : List Told) (e : ℕ) → outermost_exclusions r.nodes ≡ true → AllByRecursion (IsTold r W) A → AllByRecursion (IsTold r W) (A ++ B) → HasRoots (length W) A → ((d : ℕ) → d < e → lacks r (length W) A d ≡ [])
+told_complete : (r : Request) (W : World) (A B : List Told) (e : ℕ) → AllByRecursion (IsTold r W) A → AllByRecursion (IsTold r W) (A ++ B) → HasRoots (length W) A → ((d : ℕ) → d < e → lacks r (length W) A d ≡ [])
     → ((l : Lack) → Member l (lacks r (length W) A e) → is_some (held B l.shard (way_of l.want)) ≡ true) → (d : ℕ) → d < e + 1 → (below : (c : ℕ) → c < d → lacks r (length W) (A ++ B) c ≡ []) → lacks r (length W) (A ++ B) d ≡ []
-told_complete r W A B e outermost all all_more roots none answered d less below =
+told_complete r W A B e all all_more roots none answered d less below =
     none_untold (A ++ B) (wanted (over_held (A ++ B)) d r.nodes 0 (numbers_below (length W)) [] [])
     (subst (AllTold (A ++ B)) (before ∙ sym after) (every_from_members (λ l. is_some (held (A ++ B) l.shard (way_of l.want))) wanted_A (λ l m. still l m (cases_lt d e))))
   where
@@ -90,10 +89,10 @@ told_complete r W A B e outermost all all_more roots none answered d less below 
     wanted_A = wanted (over_held A) d r.nodes 0 (numbers_below (length W)) [] []
 
     before : wanted_A ≡ wanted_of_root r W d
-    before = root_agrees r W A d outermost all roots (λ c h. none c (let k : d < e + 1 = less in omega arith))
+    before = root_agrees r W A d all roots (λ c h. none c (let k : d < e + 1 = less in omega arith))
 
     after : wanted (over_held (A ++ B)) d r.nodes 0 (numbers_below (length W)) [] [] ≡ wanted_of_root r W d
-    after = root_agrees r W (A ++ B) d outermost all_more (λ i h. held_among_more A B i [] (roots i h)) below
+    after = root_agrees r W (A ++ B) d all_more (λ i h. held_among_more A B i [] (roots i h)) below
 
     still : (l : Lack) → Member l wanted_A → (d < e) ⊎ (e ≤ d) → is_some (held (A ++ B) l.shard (way_of l.want)) ≡ true
     still l m (inl low) = held_among_more A B l.shard (way_of l.want) (every_member (λ k. is_some (held A k.shard (way_of k.want))) wanted_A l (all_told A wanted_A (none d low)) m)
@@ -120,10 +119,10 @@ lacks_at_shards r n A e l m =
     (wanted_among (over_held A) r.nodes e 0 (numbers_below n) [] [] l (filter_member (λ k. is_none (held A k.shard (way_of k.want))) all l m).0)
 
 pub rounds_complete : RoundsComplete
-rounds_complete r W sent extra e outermost answers further roots none holds =
+rounds_complete r W sent extra e answers further roots none holds =
     by_those_below (λ d. lacks r (length W) (told_in r.nodes (sent ++ extra)) d ≡ []) (e + 1) (λ d less below.
     subst (λ T. lacks r (length W) T d ≡ []) (sym (told_in-append r.nodes sent extra))
-    (told_complete r W (told_in r.nodes sent) (told_in r.nodes extra) e outermost (answers_told r W sent answers)
+    (told_complete r W (told_in r.nodes sent) (told_in r.nodes extra) e (answers_told r W sent answers)
     (all_append (IsTold r W) (told_in r.nodes sent) (told_in r.nodes extra) (answers_told r W sent answers) (answers_told r W extra further)) roots none
     (λ l m. every_member (λ k. is_some (held (told_in r.nodes extra) k.shard (way_of k.want))) lacking l (all_told (told_in r.nodes extra) lacking holds) m)
     d less (λ c h. subst (λ T. lacks r (length W) T c ≡ []) (told_in-append r.nodes sent extra) (below c h))))
@@ -142,8 +141,8 @@ rounds_answer r W A e round = (
     lacking = lacks r (length W) A e
 
 -- where answers lack nothing below a depth, the round that answers what lacks there completes it
-pub round_completes : (r : Request) (W : World) (sent : List SentMessage) (e round : ℕ) → outermost_exclusions r.nodes ≡ true → AllByRecursion (IsAnswer r W) sent → HasRoots (length W) (told_in r.nodes sent)
+pub round_completes : (r : Request) (W : World) (sent : List SentMessage) (e round : ℕ) → AllByRecursion (IsAnswer r W) sent → HasRoots (length W) (told_in r.nodes sent)
     → LacksNothingBelow r (length W) sent e → LacksNothingBelow r (length W) (sent ++ later_round r W round (lacks r (length W) (told_in r.nodes sent) e)) (e + 1)
-round_completes r W sent e round outermost answers roots none =
+round_completes r W sent e round answers roots none =
     let round_answers = rounds_answer r W (told_in r.nodes sent) e round in
-    rounds_complete r W sent (later_round r W round (lacks r (length W) (told_in r.nodes sent) e)) e outermost answers round_answers.0 roots none round_answers.1
+    rounds_complete r W sent (later_round r W round (lacks r (length W) (told_in r.nodes sent) e)) e answers round_answers.0 roots none round_answers.1

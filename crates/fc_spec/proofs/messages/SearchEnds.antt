@@ -5,7 +5,6 @@ use Rattle.std.proofs.lemmas.Bool.{false≢true, cases_lt, cases_eq}
 use Rattle.fc_spec.specs.words.Lists.{is_empty, numbers_below}
 use Rattle.fc_spec.specs.documents.World.{World}
 use Rattle.fc_spec.specs.requests.Request.{Request}
-use Rattle.fc_spec.specs.requests.Shape.{outermost_exclusions}
 use Rattle.fc_spec.specs.messages.Message.{first, more}
 use Rattle.fc_spec.specs.messages.Target.{target_of}
 use Rattle.fc_spec.specs.messages.Answer.{answer}
@@ -51,10 +50,10 @@ HasEnded r W sent = AllByRecursion (IsAnswer r W) sent × HasRoots (length W) (t
 nothing_at_all : (r : Request) (n : ℕ) (sent : List SentMessage) → LacksNothingBelow r n sent (terms_depth r.nodes) → LacksNothing r n (told_in r.nodes sent)
 nothing_at_all r n sent none e = elim (cases_lt e (terms_depth r.nodes)) [ inl low ↦ none e low | inr high ↦ nothing_lacks_beyond r n e sent high ]
 
-ends_from : (r : Request) (W : World) (left done round : ℕ) (sent : List SentMessage) → outermost_exclusions r.nodes ≡ true → terms_depth r.nodes ≤ done + left → AllByRecursion (IsAnswer r W) sent → HasRoots (length W) (told_in r.nodes sent)
+ends_from : (r : Request) (W : World) (left done round : ℕ) (sent : List SentMessage) → terms_depth r.nodes ≤ done + left → AllByRecursion (IsAnswer r W) sent → HasRoots (length W) (told_in r.nodes sent)
     → LacksNothingBelow r (length W) sent done → HasEnded r W (rounds_from r W left round sent)
-ends_from r W zero done round sent outermost bound answers roots none = (answers, roots, nothing_at_all r (length W) sent (λ d less. none d (omega arith)))
-ends_from r W (suc left) done round sent outermost bound answers roots none = go (next_is r (length W) (told_in r.nodes sent) (terms_depth r.nodes) 0) (λ s. ends_from r W left (done + 1) (suc round) s outermost (omega arith))
+ends_from r W zero done round sent bound answers roots none = (answers, roots, nothing_at_all r (length W) sent (λ d less. none d (omega arith)))
+ends_from r W (suc left) done round sent bound answers roots none = go (next_is r (length W) (told_in r.nodes sent) (terms_depth r.nodes) 0) (λ s. ends_from r W left (done + 1) (suc round) s (omega arith))
   where
     all : List Lack
     all = next_lacks r (length W) (told_in r.nodes sent) (terms_depth r.nodes) 0
@@ -68,7 +67,7 @@ ends_from r W (suc left) done round sent outermost bound answers roots none = go
         (ih (sent ++ later_round r W round all) (all_append (IsAnswer r W) sent (later_round r W round all) answers (later_round_answers r W round all))
         (λ i h. subst (λ T. is_some (held T i []) ≡ true) (sym (told_in-append r.nodes sent (later_round r W round all))) (held_among_more (told_in r.nodes sent) (told_in r.nodes (later_round r W round all)) i [] (roots i h)))
         (λ d less. subst (λ a. lacks r (length W) (told_in r.nodes (sent ++ later_round r W round a)) d ≡ []) (sym goes_on.1)
-        (round_completes r W sent goes_on.0 round outermost answers roots (λ c h. goes_on.3 c (omega arith) h) d (deeper d less (cases_lt goes_on.0 done)))))
+        (round_completes r W sent goes_on.0 round answers roots (λ c h. goes_on.3 c (omega arith) h) d (deeper d less (cases_lt goes_on.0 done)))))
       where
         deeper : (d : ℕ) → d < done + 1 → (goes_on.0 < done) ⊎ (done ≤ goes_on.0) → d < goes_on.0 + 1
         deeper d less (inl shallow) = absurd (false≢true (sym goes_on.2 ∙ ap is_empty (goes_on.1 ∙ none goes_on.0 shallow)))
@@ -89,10 +88,10 @@ number_is_below zero a i low high = absurd (omega arith)
 number_is_below (suc n) a i low high = elim (cases_eq i a) [ inl e ↦ inl e | inr apart ↦ inr (number_is_below n (a + 1) i (omega arith) (omega arith)) ]
 
 pub searches_end : SearchesEnd
-searches_end r W outermost =
-    let ended = ends_from r W (terms_depth r.nodes) 0 2 (first_round r W) outermost (omega arith) (first_answers r W (numbers_below (length W)))
+searches_end r W =
+    let ended = ends_from r W (terms_depth r.nodes) 0 2 (first_round r W) (omega arith) (first_answers r W (numbers_below (length W)))
     (λ i h. first_roots r W (numbers_below (length W)) i (number_is_below (length W) 0 i (omega arith) (omega arith))) (λ d less. absurd (omega arith)) in
-    (ended.0, ended.2, answers_merge_into_reply r W (search_rounds r W) outermost ended.0 ended.1 ended.2)
+    (ended.0, ended.2, answers_merge_into_reply r W (search_rounds r W) ended.0 ended.1 ended.2)
 
 -- ---- how many rounds
 
@@ -100,11 +99,11 @@ searches_end r W outermost =
 abbrev pub IsRoundBefore : ℕ → SentMessage → Type 0
 IsRoundBefore end s = (1 ≤ s.round) × (s.round < end)
 
-more_rounds : (sent : List SentMessage) (a b : ℕ) → a ≤ b → AllByRecursion (IsRoundBefore a) sent → AllByRecursion (IsRoundBefore b) sent
+pub more_rounds : (sent : List SentMessage) (a b : ℕ) → a ≤ b → AllByRecursion (IsRoundBefore a) sent → AllByRecursion (IsRoundBefore b) sent
 more_rounds [] a b h all = tt
 more_rounds (s ∷ ss) a b h all = ((all.0.0, (let k : s.round < a = all.0.1 in omega arith)), more_rounds ss a b h all.1)
 
-this_round : (r : Request) (W : World) (round : ℕ) (all : List Lack) → 1 ≤ round → AllByRecursion (IsRoundBefore (suc round)) (later_round r W round all)
+pub this_round : (r : Request) (W : World) (round : ℕ) (all : List Lack) → 1 ≤ round → AllByRecursion (IsRoundBefore (suc round)) (later_round r W round all)
 this_round r W round all h = go (filter (λ i. not (is_empty (wants_of i all))) (numbers_below (length W)))
   where
     go : (is : List ℕ) → AllByRecursion (IsRoundBefore (suc round)) (map (λ i. sent_by r W round i (more (wants_of i all))) is)
@@ -125,7 +124,7 @@ few_from r W (suc left) round sent h all = go (is_empty next) (λ s. few_from r 
         more_rounds (rounds_from r W left (suc round) (sent ++ later_round r W round next)) (suc round + left) (round + suc left) (omega arith)
         (ih (sent ++ later_round r W round next) (all_append (IsRoundBefore (suc round)) sent (later_round r W round next) (more_rounds sent round (suc round) (omega arith) all) (this_round r W round next h)))
 
-first_rounds : (r : Request) (W : World) (is : List ℕ) → AllByRecursion (IsRoundBefore 2) (map (λ i. sent_by r W 1 i first) is)
+pub first_rounds : (r : Request) (W : World) (is : List ℕ) → AllByRecursion (IsRoundBefore 2) (map (λ i. sent_by r W 1 i first) is)
 first_rounds r W [] = tt
 first_rounds r W (i ∷ is) = ((omega arith, omega arith), first_rounds r W is)
 

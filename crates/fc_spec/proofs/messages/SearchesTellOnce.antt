@@ -5,7 +5,6 @@ use Rattle.std.proofs.lemmas.Bool.{false≢true, cases_lt}
 use Rattle.fc_spec.specs.words.Lists.{is_empty, numbers_below}
 use Rattle.fc_spec.specs.documents.World.{World}
 use Rattle.fc_spec.specs.requests.Request.{Request}
-use Rattle.fc_spec.specs.requests.Shape.{outermost_exclusions}
 use Rattle.fc_spec.specs.messages.Message.{first, more}
 use Rattle.fc_spec.specs.messages.Answer.{answer}
 use Rattle.fc_spec.specs.messages.Held.{Told, held, told_by}
@@ -65,10 +64,10 @@ module _ (r : Request) (W : World) where
         let told = later_tell is [] (differ_filter Other (λ i. not (is_empty (wants_of i all))) (numbers_below (length W)) (differ_range (length W) 0)) (λ j m. tt) (subst TellOnce (sym (append-nil A)) once) in
         (told.0, all_append (λ t. way_depth r.nodes t.way ≤ e + 1) A (laters is) (within_more r e (e + 1) A (omega arith) within) told.1)
 
-  tell_from : (left done round : ℕ) (sent : List SentMessage) → outermost_exclusions r.nodes ≡ true → AllByRecursion (IsAnswer r W) sent → HasRoots (length W) (told_in r.nodes sent)
+  tell_from : (left done round : ℕ) (sent : List SentMessage) → AllByRecursion (IsAnswer r W) sent → HasRoots (length W) (told_in r.nodes sent)
       → LacksNothingBelow r (length W) sent done → TellOnce (told_in r.nodes sent) → AreWithinDepth r.nodes done (told_in r.nodes sent) → TellOnce (told_in r.nodes (rounds_from r W left round sent))
-  tell_from zero done round sent outermost answers roots none once within = once
-  tell_from (suc left) done round sent outermost answers roots none once within = go (next_is r (length W) (told_in r.nodes sent) (terms_depth r.nodes) 0) (λ f s. tell_from left (f + 1) (suc round) s outermost)
+  tell_from zero done round sent answers roots none once within = once
+  tell_from (suc left) done round sent answers roots none once within = go (next_is r (length W) (told_in r.nodes sent) (terms_depth r.nodes) 0) (λ f s. tell_from left (f + 1) (suc round) s)
     where
       next : List Lack
       next = next_lacks r (length W) (told_in r.nodes sent) (terms_depth r.nodes) 0
@@ -88,7 +87,7 @@ module _ (r : Request) (W : World) where
           (subst (λ a. TellOnce (told_in r.nodes (rounds_from r W left (suc round) (sent ++ later_round r W round a)))) (sym goes_on.1)
           (ih f more_sent (all_append (IsAnswer r W) sent (later_round r W round (lacks r (length W) A f)) answers (later_round_answers r W round (lacks r (length W) A f)))
           (λ i h. subst (λ T. is_some (held T i []) ≡ true) (sym joined) (held_among_more A (told_in r.nodes (later_round r W round (lacks r (length W) A f))) i [] (roots i h)))
-          (round_completes r W sent f round outermost answers roots (λ c h. goes_on.3 c (omega arith) h))
+          (round_completes r W sent f round answers roots (λ c h. goes_on.3 c (omega arith) h))
           (subst TellOnce (sym joined) told.0) (subst (AreWithinDepth r.nodes (f + 1)) (sym joined) told.1)))
         where
           deeper : (goes_on.0 < done) ⊎ (done ≤ goes_on.0) → done ≤ goes_on.0
@@ -96,7 +95,7 @@ module _ (r : Request) (W : World) where
           deeper (inr deep) = deep
 
 pub searches_tell_once : SearchesTellOnce
-searches_tell_once r W outermost =
+searches_tell_once r W =
     let told = first_tell r W (numbers_below (length W)) [] (differ_range (length W) 0) (λ j m. tt) (λ i j d before within. absurd (omega arith)) in
-    tell_from r W (terms_depth r.nodes) 0 2 (first_round r W) outermost (first_answers r W (numbers_below (length W)))
+    tell_from r W (terms_depth r.nodes) 0 2 (first_round r W) (first_answers r W (numbers_below (length W)))
     (λ i h. first_roots r W (numbers_below (length W)) i (number_is_below (length W) 0 i (omega arith) (omega arith))) (λ d less. absurd (omega arith)) told.0 told.1

@@ -6,14 +6,15 @@ use Rattle.fc_spec.specs.words.Lists.{is_empty}
 use Rattle.fc_spec.specs.documents.Document.{Document, Block}
 use Rattle.fc_spec.specs.documents.World.{World, Place, places, shard_places, on_shards, same_block}
 use Rattle.fc_spec.specs.documents.Totals.{document_total}
-use Rattle.fc_spec.specs.documents.Sets.{zip_with, passing_of, places_on}
+use Rattle.fc_spec.specs.documents.Sets.{zip_with, passing, passing_of, places_on}
 use Rattle.fc_spec.specs.queries.Matching.{matches}
 use Rattle.fc_spec.specs.requests.Request.{BlockStep, stay, parents, children, DomainChange}
 use Rattle.fc_spec.specs.requests.Base.{meets_base}
+use Rattle.fc_spec.specs.requests.Paths.{meets_rebuilt}
 use Rattle.fc_spec.specs.requests.Domain.{moved, filtered}
 use Rattle.fc_spec.specs.requests.Buckets.{in_bucket}
 use Rattle.fc_spec.specs.requests.DomainSets.{moved_set}
-use Rattle.fc_spec.specs.laws.Blockwise.{IsOnShard, BasesOfShards, ChangesOfShards, BucketsOfShards, DocumentsOfShards}
+use Rattle.fc_spec.specs.laws.Blockwise.{IsOnShard, BasesOfShards, RebuiltOfShards, ChangesOfShards, BucketsOfShards, DocumentsOfShards}
 use Rattle.fc_spec.proofs.words.WhereTrue.{filter_where_true, filter-items_where_true, items_where_true-map}
 use Rattle.fc_spec.proofs.documents.Shards.{is_on}
 use Rattle.fc_spec.proofs.documents.PlacedDocuments.{documents_at-shard}
@@ -59,9 +60,15 @@ module _ (W : World) (s : ℕ) (blocks : List Block) (at : slice_get W s ≡ Som
       filter-filter (is_on (s ∷ [])) (λ p. t p.document) (moved W change.block X) ∙ ap (filter (λ p. t p.document)) (moved_on change.block X set e on)
       ∙ filter-places_on t s blocks (moved_set change.block blocks set)
 
+  -- of the places whose document passes, the shard has those of its blocks
+  documents_on : (t : Document → Bool) → IsOnShard s blocks (passing t blocks) (filter (λ p. t p.document) (places W))
+  documents_on t = filtered_on (λ p. t p.document) ∙ ap (places_on s blocks) (shard_documents t s 0 0 blocks)
+
 pub bases_of_shards : BasesOfShards
-bases_of_shards r tags W s blocks at =
-    filtered_on W s blocks at (λ p. meets_base r tags p.document) ∙ ap (places_on s blocks) (shard_documents (meets_base r tags) s 0 0 blocks)
+bases_of_shards r tags W s blocks at = documents_on W s blocks at (meets_base r tags)
+
+pub rebuilt_of_shards : RebuiltOfShards
+rebuilt_of_shards r path tags W s blocks at = documents_on W s blocks at (meets_rebuilt r path tags)
 
 pub changes_of_shards : ChangesOfShards
 changes_of_shards change W s blocks at B X base set h e base_on set_on = go (is_empty change.exclude)

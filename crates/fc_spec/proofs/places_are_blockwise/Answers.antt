@@ -1,8 +1,11 @@
-use Rattle.fc_spec.proofs.requests.SetChanges.{bases_are_blockwise, changes_are_blockwise, buckets_are_blockwise, keep_lengths, are_sets_again}
+use Rattle.fc_spec.proofs.requests.SetChanges.{bases_are_blockwise, rebuilt_are_blockwise, changes_are_blockwise, buckets_are_blockwise, keep_lengths, are_sets_again}
 use Rattle.fc_spec.proofs.places_are_blockwise.Goals as goal
 
 pub returns-clause-bases : goal.returns-clause-bases
 returns-clause-bases c = bases_are_blockwise
+
+pub returns-clause-rebuilt : goal.returns-clause-rebuilt
+returns-clause-rebuilt c = rebuilt_are_blockwise
 
 pub returns-clause-changes : goal.returns-clause-changes
 returns-clause-changes c = changes_are_blockwise

@@ -1,40 +1,44 @@
 -- Refined paths are exact: by recursion over the request's nodes.
-use Rattle.std.proofs.Common.{◌≡◌, ℕ, suc, List, [], ◌∷◌, length, true, ◌&&◌, ◌==◌, refl, ◌∙◌, ap, inl, inr, IsTrue}
+use Rattle.std.proofs.Common.{◌≡◌, ℕ, suc, List, [], ◌∷◌, length, Bool, true, false, ◌&&◌, ◌==◌, refl, ◌∙◌, ap, inl, inr, IsTrue}
 use Rattle.std.proofs.lemmas.Bool.{and_parts}
 use Rattle.fc_spec.specs.documents.Val.{Text}
 use Rattle.fc_spec.specs.words.Lists.{is_empty, numbers_below}
 use Rattle.fc_spec.specs.documents.World.{World, Place, places, on_shards}
 use Rattle.fc_spec.specs.requests.Request.{Kind, terms, range, query, DomainChange, Facet, Nodes, no_nodes, statistic, facet, Request}
-use Rattle.fc_spec.specs.requests.Domain.{domain}
 use Rattle.fc_spec.specs.requests.Buckets.{Key, whole, is_key_of, bucket_places}
 use Rattle.fc_spec.specs.requests.Statistics.{value_over, shown}
 use Rattle.fc_spec.specs.replies.Reply.{bucket, Facets, spot_of, val_of, row_of, with_buckets}
 use Rattle.fc_spec.specs.replies.Printed.{statistic_part, facet_part}
-use Rattle.fc_spec.specs.requests.Paths.{Path, at_root, into, path_places, is_refined}
+use Rattle.fc_spec.specs.requests.Paths.{Path, at_root, into, domain, path_places, is_refined}
 use Rattle.fc_spec.specs.replies.Distributed.{carried, printed_keys, dist_buckets, dist_facets}
 use Rattle.fc_spec.specs.laws.RefinedPaths.{IsBucketOf, IsSomeBucketOf, AreBucketsOf, IsFacetOf, AreFacetsOf, AreRefinedPathsExact}
 use Rattle.fc_spec.proofs.replies.PrintedKeys.{every_printed_key}
 use Rattle.fc_spec.specs.requests.Base.{root_domain, meets_base}
-use Rattle.fc_spec.specs.requests.Shape.{is_refining, no_exclusions, outermost_exclusions}
-use Rattle.fc_spec.specs.replies.Reading.{over_places}
+use Rattle.fc_spec.specs.requests.Shape.{is_refining, no_exclusions}
+use Rattle.fc_spec.specs.replies.Reading.{Reading, over_places}
 use Rattle.fc_spec.proofs.words.Members.{Every, every_filter}
 use Rattle.fc_spec.proofs.documents.Shards.{is_on, every_on_shards, on_shards_every}
 use Rattle.fc_spec.proofs.documents.AllShards.{every_place_on}
-use Rattle.fc_spec.proofs.replies.Carried.{AreAllowed, IsAllowed, domain_is, carried_holds}
+use Rattle.fc_spec.proofs.replies.PathBuckets.{at_path, in_path}
+use Rattle.fc_spec.proofs.replies.Carried.{AreAllowed, IsAllowed, domain_is, carries_all, carried_holds}
 
 -- the change of the first facet of allowed nodes, and the nodes after it
 pub first_allowed : (W : World) (H : List ℕ) (f : Facet) (inner rest : Nodes) → AreAllowed W H (facet f inner rest) → IsAllowed W H f.change
 first_allowed W H f inner rest (inl none) = inl (and_parts (is_empty f.change.exclude) (no_exclusions inner) (and_parts (is_empty f.change.exclude && no_exclusions inner) (no_exclusions rest) none).0).0
-first_allowed W H f inner rest (inr e) = inr e.1
+first_allowed W H f inner rest (inr e) = inr e
 
 pub rest_allowed : (W : World) (H : List ℕ) (f : Facet) (inner rest : Nodes) → AreAllowed W H (facet f inner rest) → AreAllowed W H rest
 rest_allowed W H f inner rest (inl none) = inl (and_parts (is_empty f.change.exclude && no_exclusions inner) (no_exclusions rest) none).1
-rest_allowed W H f inner rest (inr e) = inr ((and_parts (no_exclusions inner) (outermost_exclusions rest) e.0).1, e.1)
+rest_allowed W H f inner rest (inr e) = inr e
 
--- the nodes nested in it
-pub inner_allowed : (W : World) (H K : List ℕ) (f : Facet) (inner rest : Nodes) → AreAllowed W H (facet f inner rest) → AreAllowed W K inner
-inner_allowed W H K f inner rest (inl none) = inl (and_parts (is_empty f.change.exclude) (no_exclusions inner) (and_parts (is_empty f.change.exclude && no_exclusions inner) (no_exclusions rest) none).0).1
-inner_allowed W H K f inner rest (inr e) = inl (and_parts (no_exclusions inner) (outermost_exclusions rest) e.0).0
+-- the nodes nested in it, in the bucket of a key: they exclude nothing, or the bucket carries the shards of the one around it
+pub inner_allowed : {B D : Type 0} (R : Reading B D) (W : World) (H : List ℕ) (f : Facet) (inner rest : Nodes) (Y : D) (k : Key) → is_refining f.kind ≡ true → AreAllowed W H (facet f inner rest) → AreAllowed W (carried R f.kind inner H Y k) inner
+inner_allowed R W H f inner rest Y k refining (inl none) = inl (and_parts (is_empty f.change.exclude) (no_exclusions inner) (and_parts (is_empty f.change.exclude && no_exclusions inner) (no_exclusions rest) none).0).1
+inner_allowed R W H f inner rest Y k refining (inr e) = go (no_exclusions inner) refl
+  where
+    go : (b : Bool) → no_exclusions inner ≡ b → AreAllowed W (carried R f.kind inner H Y k) inner
+    go true none = inl none
+    go false holds = inr (carries_all R f.kind inner H Y k refining holds ∙ e)
 
 -- the bucket that a facet prints for one of its keys
 bucket_exact : (r : Request) (W : World) (path : Path) (f : Facet) (Inside : Key → Facets → Type 0) (count : Key → ℕ) (inside : Key → Facets) (k : Key) → is_key_of f.kind k ≡ true
@@ -62,39 +66,51 @@ facet_exact r W path name change (range g) Inside count inside keys more e h =
 facet_exact r W path name change (query q) Inside count inside keys more e h =
     (_, refl, bucket_exact r W path (record { name = name; change = change; kind = query q }) Inside count inside whole refl (h whole))
 
--- the domain of a facet in a bucket that carries the shards H
-abbrev pub dist_domain : Request → World → Facet → List ℕ → List Place → List Place
-dist_domain r W f H X = on_shards H (domain r W f.change (on_shards H X))
+-- the domain of a facet in the bucket of a path that carries the shards H
+abbrev pub dist_domain : Request → World → Path → Facet → List ℕ → List Place → List Place
+dist_domain r W path f H X = on_shards H (domain r W path f.change (on_shards H X))
 
--- the part of a key's bucket on the shards that it carries
-abbrev pub dist_part : Request → World → Facet → Nodes → List ℕ → List Place → Key → List Place
-dist_part r W f inner H X k = on_shards (carried (over_places r W) f.kind inner H (dist_domain r W f H X) k) (bucket_places f.kind k (dist_domain r W f H X))
+-- the shards that a key's bucket in it carries
+abbrev pub dist_shards : Request → World → Path → Facet → Nodes → List ℕ → List Place → Key → List ℕ
+dist_shards r W path f inner H X k = carried (over_places r W) f.kind inner H (in_path path f (dist_domain r W path f H X)) k
+
+-- the part of the bucket there
+abbrev pub dist_part : Request → World → Path → Facet → Nodes → List ℕ → List Place → Key → List Place
+dist_part r W path f inner H X k = on_shards (dist_shards r W path f inner H X k) (bucket_places f.kind k (dist_domain r W path f H X))
 
 -- it is the path's places
-pub part_is : (r : Request) (W : World) (f : Facet) (inner : Nodes) (H : List ℕ) (X Q : List Place) → IsAllowed W H f.change → on_shards H X ≡ Q → is_refining f.kind ≡ true → (k : Key)
-    → dist_part r W f inner H X k ≡ bucket_places f.kind k (domain r W f.change Q)
-part_is r W f inner H X Q allowed e refining k =
-    carried_holds r W f.kind inner H (dist_domain r W f H X) k refining (every_on_shards H (domain r W f.change (on_shards H X))) ∙ ap (bucket_places f.kind k) (domain_is r W f.change H X Q allowed e)
+pub part_is : (r : Request) (W : World) (path : Path) (f : Facet) (inner : Nodes) (H : List ℕ) (X Q : List Place) → IsAllowed W H f.change → on_shards H X ≡ Q → is_refining f.kind ≡ true → (k : Key)
+    → dist_part r W path f inner H X k ≡ bucket_places f.kind k (domain r W path f.change Q)
+part_is r W path f inner H X Q allowed e refining k =
+    carried_holds r W f.kind inner H (in_path path f (dist_domain r W path f H X)) k refining (every_on_shards H (domain r W path f.change (on_shards H X))) ∙ ap (bucket_places f.kind k) (domain_is r W path f.change H X Q allowed e)
+
+-- the facets of a bucket
+abbrev pub facets_on : Request → World → Nodes → ℕ → ℕ → List ℕ → Path → List Place → Facets
+facets_on r W nodes n m H path X = dist_facets (over_places r W) nodes n m H (at_path path X)
+
+-- the buckets of a facet in it
+abbrev buckets_on : Request → World → Facet → Nodes → List ℕ → Path → List Place → Facets → Facets
+buckets_on r W f inner H path X more = dist_buckets (over_places r W) f inner (λ K P. dist_facets (over_places r W) inner 0 0 K P) H (in_path path f (dist_domain r W path f H X)) more
 
 -- the facets of a bucket whose part on its shards is its path's places
-pub facets_exact : (r : Request) (W : World) (nodes : Nodes) (n m : ℕ) (H : List ℕ) (X : List Place) (path : Path) → AreAllowed W H nodes → on_shards H X ≡ path_places r W path
-    → AreFacetsOf r W nodes path (dist_facets (over_places r W) nodes n m H X)
-facets_exact r W no_nodes n m H X path allowed e = refl
-facets_exact r W (statistic name s rest) n m H X path allowed e =
-    (_, ap (λ Q. statistic_part (length Q == 0) name (shown (value_over s Q)) (dist_facets (over_places r W) rest (suc n) (suc m) H X)) e, facets_exact r W rest (suc n) (suc m) H X path allowed e)
-facets_exact r W (facet f inner rest) n m H X path allowed e =
-    let Y = dist_domain r W f H X in
-    let K = λ (k : Key). carried (over_places r W) f.kind inner H Y k in
-    let P = λ (k : Key). bucket_places f.kind k Y in
-    let is = part_is r W f inner H X (path_places r W path) (first_allowed W H f inner rest allowed) e in (
-      dist_buckets (over_places r W) f inner (λ K P. dist_facets (over_places r W) inner 0 0 K P) H Y (dist_facets (over_places r W) rest (suc n) m H X),
-      dist_facets (over_places r W) rest (suc n) m H X,
-      ap (λ Q. facet_part (length Q == 0) f (dist_buckets (over_places r W) f inner (λ K P. dist_facets (over_places r W) inner 0 0 K P) H Y (dist_facets (over_places r W) rest (suc n) m H X)) (dist_facets (over_places r W) rest (suc n) m H X)) e,
-      facet_exact r W path f.name f.change f.kind (λ k inside. AreFacetsOf r W inner (into path f k) inside) (λ k. length (on_shards (K k) (P k))) (λ k. dist_facets (over_places r W) inner 0 0 (K k) (P k))
-          (printed_keys (over_places r W) f.kind inner H Y) (dist_facets (over_places r W) rest (suc n) m H X) (every_printed_key r W f.kind inner H Y)
+pub facets_exact : (r : Request) (W : World) (nodes : Nodes) (n m : ℕ) (H : List ℕ) (path : Path) (X : List Place) → AreAllowed W H nodes → on_shards H X ≡ path_places r W path
+    → AreFacetsOf r W nodes path (facets_on r W nodes n m H path X)
+facets_exact r W no_nodes n m H path X allowed e = refl
+facets_exact r W (statistic name s rest) n m H path X allowed e =
+    (_, ap (λ Q. statistic_part (length Q == 0) name (shown (value_over s Q)) (facets_on r W rest (suc n) (suc m) H path X)) e, facets_exact r W rest (suc n) (suc m) H path X allowed e)
+facets_exact r W (facet f inner rest) n m H path X allowed e =
+    let Y = in_path path f (dist_domain r W path f H X) in
+    let K = λ (k : Key). dist_shards r W path f inner H X k in
+    let P = λ (k : Key). bucket_places f.kind k (dist_domain r W path f H X) in
+    let is = part_is r W path f inner H X (path_places r W path) (first_allowed W H f inner rest allowed) e in (
+      buckets_on r W f inner H path X (facets_on r W rest (suc n) m H path X),
+      facets_on r W rest (suc n) m H path X,
+      ap (λ Q. facet_part (length Q == 0) f (buckets_on r W f inner H path X (facets_on r W rest (suc n) m H path X)) (facets_on r W rest (suc n) m H path X)) e,
+      facet_exact r W path f.name f.change f.kind (λ k inside. AreFacetsOf r W inner (into path f k) inside) (λ k. length (on_shards (K k) (P k))) (λ k. facets_on r W inner 0 0 (K k) (into path f k) (P k))
+          (printed_keys (over_places r W) f.kind inner H Y) (facets_on r W rest (suc n) m H path X) (every_printed_key r W f.kind inner H Y)
           (λ k refined. let refining = (and_parts (is_refined path) (is_refining f.kind) refined).1 in
-          (ap length (is refining k), facets_exact r W inner 0 0 (K k) (P k) (into path f k) (inner_allowed W H (K k) f inner rest allowed) (is refining k))),
-      facets_exact r W rest (suc n) m H X path (rest_allowed W H f inner rest allowed) e,
+          (ap length (is refining k), facets_exact r W inner 0 0 (K k) (into path f k) (P k) (inner_allowed (over_places r W) W H f inner rest Y k refining allowed) (is refining k))),
+      facets_exact r W rest (suc n) m H path X (rest_allowed W H f inner rest allowed) e,
     )
 
 -- the root's bucket, over all shards
@@ -102,5 +118,5 @@ pub root_is : (r : Request) (W : World) → on_shards (numbers_below (length W))
 root_is r W = on_shards_every (numbers_below (length W)) (root_domain r W) (every_filter (is_on (numbers_below (length W))) (λ p. meets_base r [] p.document) (places W) (every_place_on W))
 
 pub refined_paths : AreRefinedPathsExact
-refined_paths r W outermost =
-    (refl, (ap length (root_is r W), facets_exact r W r.nodes 0 0 (numbers_below (length W)) (root_domain r W) at_root (inr (outermost, refl)) (root_is r W)))
+refined_paths r W =
+    (refl, (ap length (root_is r W), facets_exact r W r.nodes 0 0 (numbers_below (length W)) at_root (root_domain r W) (inr refl) (root_is r W)))

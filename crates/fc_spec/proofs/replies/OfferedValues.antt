@@ -45,7 +45,7 @@ module _ (stats : Val → Stats) where
   made v = record { val = v; stats = stats v }
 
   -- the values of some of them are some of the values
-  vals_of_some : (q : Entry → Bool) (vs : List Val) → map (λ e. e.val) (filter q (map made vs)) ≡ filter (λ v. q (made v)) vs
+  pub vals_of_some : (q : Entry → Bool) (vs : List Val) → map (λ e. e.val) (filter q (map made vs)) ≡ filter (λ v. q (made v)) vs
   vals_of_some q [] = refl
   vals_of_some q (v ∷ vs) = go (q (made v)) (vals_of_some q vs)
     where

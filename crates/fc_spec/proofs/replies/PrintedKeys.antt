@@ -9,14 +9,15 @@ use Rattle.fc_spec.specs.documents.Val.{Val, val_cmp, has_val, insert_val, disti
 use Rattle.fc_spec.specs.documents.Document.{values_of}
 use Rattle.fc_spec.specs.words.Lists.{numbers_below, is_empty}
 use Rattle.fc_spec.specs.documents.World.{World, Place, on_shards}
-use Rattle.fc_spec.specs.requests.Request.{Terms, Range, Kind, terms, range, query, Sort, Nodes, Request}
+use Rattle.fc_spec.specs.requests.Request.{Stat, Terms, Range, Kind, terms, range, query, Sort, Nodes, Request}
 use Rattle.fc_spec.specs.requests.Gaps.{gap_count}
 use Rattle.fc_spec.specs.requests.Buckets.{Key, value, missing, gap, before, between, after, has_prefix, is_key_of, is_range_key}
-use Rattle.fc_spec.specs.requests.Statistics.{pair_values}
+use Rattle.fc_spec.specs.requests.Statistics.{pair_values, stats_over}
 use Rattle.fc_spec.specs.requests.Ranks.{Entry, rank, page}
-use Rattle.fc_spec.specs.replies.Printed.{asked, range_keys}
-use Rattle.fc_spec.specs.replies.Values.{value_places, values_in}
-use Rattle.fc_spec.specs.replies.Reading.{Reading, offered, over_places}
+use Rattle.fc_spec.specs.replies.Printed.{asked, range_keys, terms_keys}
+use Rattle.fc_spec.specs.replies.Values.{value_places, values_in, entries_in}
+use Rattle.fc_spec.specs.replies.Exact.{exact_keys}
+use Rattle.fc_spec.specs.replies.Reading.{Reading, PathDomain, offered, over_places}
 use Rattle.fc_spec.specs.replies.Chosen.{candidates, offering, entry_on, chosen, known, chosen_entries}
 use Rattle.fc_spec.specs.replies.Distributed.{printed_keys}
 use Rattle.fc_spec.proofs.words.Members.{Every, every_from_members, every_filter, every_append, every_flat_map, every_map, filter_member, passing_member}
@@ -37,7 +38,7 @@ every_distinct p [] e = tt
 every_distinct p (v ∷ vs) e = every_insert_val p v (distinct vs) e.0 (every_distinct p vs e.1)
 
 -- the values found begin with the prefix
-prefixed_values_in : (t : Terms) (Y : List Place) → Every (has_prefix t.prefix) (values_in t Y)
+pub prefixed_values_in : (t : Terms) (Y : List Place) → Every (has_prefix t.prefix) (values_in t Y)
 prefixed_values_in t Y = every_from_members (has_prefix t.prefix) (values_in t Y) (λ v m.
     let found = (filter_member (λ w. not (is_empty (value_places t w Y))) (distinct (pair_values t.field Y)) v m).1 in
     let place = passing_member (holds_value t v) Y (sym (not-is_empty-filter (holds_value t v) Y) ∙ found) in
@@ -63,7 +64,7 @@ module _ {B D : Type 0} (R : Reading B D) (t : Terms) (inner : Nodes) (H : List 
   prefixed_chosen_entries = every_map (λ e. has_prefix t.prefix e.val) (λ v. entry_on R t inner H Y (known R t inner H Y v) v) (chosen R t inner H Y) prefixed_chosen
 
 -- a page has entries of the list alone
-every_page : (p : Entry → Bool) (s : Sort) (offset : ℕ) (limit : Option ℕ) (V : List Entry) → Every p V → Every p (page s offset limit V)
+pub every_page : (p : Entry → Bool) (s : Sort) (offset : ℕ) (limit : Option ℕ) (V : List Entry) → Every p V → Every p (page s offset limit V)
 every_page p s offset limit V e = every_flat_map p (λ k. filter (λ w. rank s V w == k) V) _ (λ k. every_filter p (λ w. rank s V w == k) V e)
 
 pub every_asked : (p : Key → Bool) (b : Bool) (key : Key) → p key ≡ b → Every p (asked b key)
@@ -85,22 +86,31 @@ abbrev pub OfferPrefixed : {B D : Type 0} → Reading B D → Kind → Nodes →
 OfferPrefixed R (terms t) inner Y = (i : ℕ) → Every (has_prefix t.prefix) (R.offered_by t inner Y i)
 OfferPrefixed R _ inner Y = Unit {0}
 
--- the printed keys are the facet's
-pub every_printed_key_of : {B D : Type 0} (R : Reading B D) (kind : Kind) (inner : Nodes) (H : List ℕ) (Y : D) → OfferPrefixed R kind inner Y → Every (is_key_of kind) (printed_keys R kind inner H Y)
-every_printed_key_of R (terms t) inner H Y offers =
-    let entries = chosen_entries R t inner H Y in
+-- what is printed of entries whose values begin with the prefix
+every_terms_key : (t : Terms) (entries : List Entry) → Every (λ e. has_prefix t.prefix e.val) entries → Every (is_key_of (terms t)) (terms_keys t entries)
+every_terms_key t entries prefixed =
     every_append (is_key_of (terms t)) (map (λ e. value e.val) (page t.sort t.offset t.limit (filter (λ e. nat_le t.mincount e.stats.count) entries))) (asked t.missing missing)
     (every_map (is_key_of (terms t)) (λ e. value e.val) (page t.sort t.offset t.limit (filter (λ e. nat_le t.mincount e.stats.count) entries))
     (every_page (λ e. has_prefix t.prefix e.val) t.sort t.offset t.limit (filter (λ e. nat_le t.mincount e.stats.count) entries)
-    (every_filter (λ e. has_prefix t.prefix e.val) (λ e. nat_le t.mincount e.stats.count) entries (prefixed_chosen_entries R t inner H Y offers))))
+    (every_filter (λ e. has_prefix t.prefix e.val) (λ e. nat_le t.mincount e.stats.count) entries prefixed)))
     (every_asked (is_key_of (terms t)) t.missing missing refl)
+
+-- the keys that a single index prints are the facet's
+pub every_exact_key : (kind : Kind) (ss : List Stat) (Y : List Place) → Every (is_key_of kind) (exact_keys kind ss Y)
+every_exact_key (terms t) ss Y = every_terms_key t (entries_in t ss Y) (every_map (λ e. has_prefix t.prefix e.val) (λ v. record { val = v; stats = stats_over ss (value_places t v Y) }) (values_in t Y) (prefixed_values_in t Y))
+every_exact_key (range g) ss Y = every_range_key g
+every_exact_key (query q) ss Y = (refl, tt)
+
+-- the printed keys are the facet's
+pub every_printed_key_of : {B D : Type 0} (R : Reading B D) (kind : Kind) (inner : Nodes) (H : List ℕ) (Y : D) → OfferPrefixed R kind inner Y → Every (is_key_of kind) (printed_keys R kind inner H Y)
+every_printed_key_of R (terms t) inner H Y offers = every_terms_key t (chosen_entries R t inner H Y) (prefixed_chosen_entries R t inner H Y offers)
 every_printed_key_of R (range g) inner H Y offers = every_range_key g
 every_printed_key_of R (query q) inner H Y offers = (refl, tt)
 
-prefixed_over_places : (r : Request) (W : World) (kind : Kind) (inner : Nodes) (Y : List Place) → OfferPrefixed (over_places r W) kind inner Y
-prefixed_over_places r W (terms t) inner Y = prefixed_offered t inner Y
+prefixed_over_places : (r : Request) (W : World) (kind : Kind) (inner : Nodes) (Y : PathDomain) → OfferPrefixed (over_places r W) kind inner Y
+prefixed_over_places r W (terms t) inner Y = prefixed_offered t inner Y.places
 prefixed_over_places r W (range g) inner Y = tt
 prefixed_over_places r W (query q) inner Y = tt
 
-pub every_printed_key : (r : Request) (W : World) (kind : Kind) (inner : Nodes) (H : List ℕ) (Y : List Place) → Every (is_key_of kind) (printed_keys (over_places r W) kind inner H Y)
+pub every_printed_key : (r : Request) (W : World) (kind : Kind) (inner : Nodes) (H : List ℕ) (Y : PathDomain) → Every (is_key_of kind) (printed_keys (over_places r W) kind inner H Y)
 every_printed_key r W kind inner H Y = every_printed_key_of (over_places r W) kind inner H Y (prefixed_over_places r W kind inner Y)

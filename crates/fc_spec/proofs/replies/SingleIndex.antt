@@ -35,4 +35,4 @@ exact_over_single r (A ∷ rest) = first_joined r A rest
 
 -- without limits the distributed reply is that of the single index
 pub single_without_limits : IsSingleWithoutLimits
-single_without_limits r W unlimited outermost = exact_without_limits r W unlimited outermost ∙ exact_over_single r W
+single_without_limits r W unlimited = exact_without_limits r W unlimited ∙ exact_over_single r W

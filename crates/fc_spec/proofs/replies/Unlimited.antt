@@ -4,12 +4,15 @@ use Rattle.std.specs.List.{list_any, flat_map, enumerate_from}
 use Rattle.std.proofs.lemmas.Bool.{eqb-true, eq-eqb, false≢true}
 use Rattle.fc_spec.specs.documents.Val.{Val, has_val, same_val, distinct}
 use Rattle.fc_spec.specs.documents.World.{World, Place, on_shards}
-use Rattle.fc_spec.specs.requests.Request.{Stat, Terms, Sort, Nodes, Request, stats_of}
+use Rattle.fc_spec.specs.requests.Buckets.{value}
+use Rattle.fc_spec.specs.requests.Request.{Stat, Terms, terms, Sort, Nodes, Request, stats_of}
 use Rattle.fc_spec.specs.requests.Statistics.{value_over, stats_over}
 use Rattle.fc_spec.specs.requests.Ranks.{Entry, below_rank, rank_bound}
 use Rattle.fc_spec.specs.replies.Values.{value_places, values_in, entries_in}
-use Rattle.fc_spec.specs.replies.Reading.{stats_on, offered, over_places}
+use Rattle.fc_spec.specs.requests.Shape.{asks_again, counts_all}
+use Rattle.fc_spec.specs.replies.Reading.{PathBucket, PathDomain, stats_on, offered, over_places}
 use Rattle.fc_spec.specs.replies.Chosen.{candidates, offering, entry_on, chosen, known, chosen_entries}
+use Rattle.fc_spec.proofs.replies.PathBuckets.{in_key}
 use Rattle.fc_spec.proofs.words.Members.{Member, Every, every_from_members, every_member, every_filter, filter_member, member_of_filter, passing_member, any_by_member, same_tests, list_any-flat_map}
 use Rattle.fc_spec.proofs.words.Counting.{filter-all}
 use Rattle.fc_spec.proofs.documents.Shards.{is_on, on_shards_every}
@@ -39,28 +42,31 @@ offers_held t inner Y i v p none m h e =
     ∙ any_by_member (holds_value t v) (on_shards (i ∷ []) Y) p (member_of_filter (is_on (i ∷ [])) Y p m (ap (λ b. b || false) (eq-eqb i p.shard e))) h
 
 -- the shards that offer a value hold all its places
-pub offering_holds : (r : Request) (W : World) (t : Terms) (inner : Nodes) (H : List ℕ) (Y : List Place) (v : Val) → t.limit ≡ None → Every (is_on H) Y
-    → Every (is_on (offering (over_places r W) t inner H Y v)) (value_places t v Y)
-offering_holds r W t inner H Y v none on = every_from_members (is_on (offering (over_places r W) t inner H Y v)) (value_places t v Y) (λ p m.
-    let held = filter_member (holds_value t v) Y p m in
-    let shard = passing_member (λ i. i == p.shard) H (every_member (is_on H) Y p on held.0) in
+pub offering_holds : (r : Request) (W : World) (t : Terms) (inner : Nodes) (H : List ℕ) (Y : PathDomain) (v : Val) → t.limit ≡ None → Every (is_on H) Y.places
+    → Every (is_on (offering (over_places r W) t inner H Y v)) (value_places t v Y.places)
+offering_holds r W t inner H Y v none on = every_from_members (is_on (offering (over_places r W) t inner H Y v)) (value_places t v Y.places) (λ p m.
+    let held = filter_member (holds_value t v) Y.places p m in
+    let shard = passing_member (λ i. i == p.shard) H (every_member (is_on H) Y.places p on held.0) in
     any_by_member (λ i. i == p.shard) (offering (over_places r W) t inner H Y v) shard.0
-    (member_of_filter (λ i. has_val v (offered t inner Y i)) H shard.0 shard.1 (offers_held t inner Y shard.0 v p none held.0 held.1 (eqb-true shard.0 p.shard shard.2))) shard.2)
+    (member_of_filter (λ i. has_val v (offered t inner Y.places i)) H shard.0 shard.1 (offers_held t inner Y.places shard.0 v p none held.0 held.1 (eqb-true shard.0 p.shard shard.2))) shard.2)
 
 -- the known shards of a value hold all its places
-pub known_holds : (r : Request) (W : World) (t : Terms) (inner : Nodes) (H : List ℕ) (Y : List Place) (v : Val) → (t.refine ≡ true) ⊎ (t.limit ≡ None) → Every (is_on H) Y
-    → on_shards (known (over_places r W) t inner H Y v) (value_places t v Y) ≡ value_places t v Y
-known_holds r W t inner H Y v why on = on_shards_every (known (over_places r W) t inner H Y v) (value_places t v Y) (go why t.refine refl)
+pub known_holds : (r : Request) (W : World) (t : Terms) (inner : Nodes) (H : List ℕ) (Y : PathDomain) (v : Val) → (t.refine ≡ true) ⊎ (t.limit ≡ None) → Every (is_on H) Y.places
+    → on_shards (known (over_places r W) t inner H Y v) (value_places t v Y.places) ≡ value_places t v Y.places
+known_holds r W t inner H Y v why on = on_shards_every (known (over_places r W) t inner H Y v) (value_places t v Y.places) (go why (counts_all t inner) refl)
   where
-    go : (t.refine ≡ true) ⊎ (t.limit ≡ None) → (b : Bool) → t.refine ≡ b → Every (is_on (cond b H (offering (over_places r W) t inner H Y v))) (value_places t v Y)
-    go why true e = every_filter (is_on H) (holds_value t v) Y on
-    go (inl refines) false e = absurd (false≢true (sym e ∙ refines))
+    go : (t.refine ≡ true) ⊎ (t.limit ≡ None) → (b : Bool) → counts_all t inner ≡ b → Every (is_on (cond b H (offering (over_places r W) t inner H Y v))) (value_places t v Y.places)
+    go why true e = every_filter (is_on H) (holds_value t v) Y.places on
+    go (inl refines) false e = absurd (false≢true (sym e ∙ ap (λ b. b || asks_again t inner) refines))
     go (inr none) false e = offering_holds r W t inner H Y v none on
 
 -- the candidates are the values found on all the shards together
-pub candidates_all : (r : Request) (W : World) (t : Terms) (inner : Nodes) (H : List ℕ) (Y : List Place) → t.limit ≡ None → Every (is_on H) Y → candidates (over_places r W) t inner H Y ≡ values_in t Y
-candidates_all r W t inner H Y none on = same_ascending (distinct (flat_map offers H)) (values_in t Y) (distinct_ascends (flat_map offers H)) (ascending-values_in t Y) same
+pub candidates_all : (r : Request) (W : World) (t : Terms) (inner : Nodes) (H : List ℕ) (D : PathDomain) → t.limit ≡ None → Every (is_on H) D.places → candidates (over_places r W) t inner H D ≡ values_in t D.places
+candidates_all r W t inner H D none on = same_ascending (distinct (flat_map offers H)) (values_in t Y) (distinct_ascends (flat_map offers H)) (ascending-values_in t Y) same
   where
+    Y : List Place
+    Y = D.places
+
     offers : ℕ → List Val
     offers i = offered t inner Y i
 
@@ -81,7 +87,7 @@ candidates_all r W t inner H Y none on = same_ascending (distinct (flat_map offe
         has_val-distinct v (flat_map offers H) ∙ list_any-flat_map (same_val v) offers H ∙ same_tests _ _ (forth v) (back v) ∙ sym (has_val-values_in t v Y)
 
 -- every candidate is chosen
-pub chosen_all : (r : Request) (W : World) (t : Terms) (inner : Nodes) (H : List ℕ) (Y : List Place) → t.limit ≡ None → Every (is_on H) Y → chosen (over_places r W) t inner H Y ≡ values_in t Y
+pub chosen_all : (r : Request) (W : World) (t : Terms) (inner : Nodes) (H : List ℕ) (Y : PathDomain) → t.limit ≡ None → Every (is_on H) Y.places → chosen (over_places r W) t inner H Y ≡ values_in t Y.places
 chosen_all r W t inner H Y none on =
     ap (λ bound. map (λ e. e.val) (below_rank t.sort bound (map made (candidates (over_places r W) t inner H Y)))) (no_bound t.refine)
     ∙ ap (map (λ e. e.val)) (below_no_rank t.sort (map made (candidates (over_places r W) t inner H Y))) ∙ map-val made (λ v. refl) (candidates (over_places r W) t inner H Y)
@@ -100,15 +106,15 @@ map-enumerate f n [] = refl
 map-enumerate f n (x ∷ xs) = ap (λ ys. f x ∷ ys) (map-enumerate f (n + 1) xs)
 
 -- the statistics of a bucket's part, where that part is P
-pub stats_on_part : (r : Request) (W : World) (ss : List Stat) (H : List ℕ) (X P : List Place) → on_shards H X ≡ P → stats_on (over_places r W) ss H X ≡ stats_over ss P
+pub stats_on_part : (r : Request) (W : World) (ss : List Stat) (H : List ℕ) (X : PathBucket) (P : List Place) → on_shards H X.places ≡ P → stats_on (over_places r W) ss H X ≡ stats_over ss P
 stats_on_part r W ss H X P e = ap (λ Q. record { count = length Q; values = map (λ s. value_over s.1 Q) (enumerate_from 0 ss) }) e ∙ ap (λ vs. record { count = length P; values = vs }) (map-enumerate (λ s. value_over s P) 0 ss)
 
 -- so the chosen values with their statistics are those of all the places
-pub chosen_entries_all : (r : Request) (W : World) (t : Terms) (inner : Nodes) (H : List ℕ) (Y : List Place) → t.limit ≡ None → Every (is_on H) Y
-    → chosen_entries (over_places r W) t inner H Y ≡ entries_in t (stats_of inner) Y
+pub chosen_entries_all : (r : Request) (W : World) (t : Terms) (inner : Nodes) (H : List ℕ) (Y : PathDomain) → t.limit ≡ None → Every (is_on H) Y.places
+    → chosen_entries (over_places r W) t inner H Y ≡ entries_in t (stats_of inner) Y.places
 chosen_entries_all r W t inner H Y none on =
     ap (map made) (chosen_all r W t inner H Y none on)
-    ∙ (λ i. map (λ v. record { val = v; stats = stats_on_part r W (stats_of inner) (known (over_places r W) t inner H Y v) (value_places t v Y) (value_places t v Y) (known_holds r W t inner H Y v (inr none) on) i }) (values_in t Y))
+    ∙ (λ i. map (λ v. record { val = v; stats = stats_on_part r W (stats_of inner) (known (over_places r W) t inner H Y v) (in_key Y (terms t) (value v)) (value_places t v Y.places) (known_holds r W t inner H Y v (inr none) on) i }) (values_in t Y.places))
   where
     made : Val → Entry
     made v = entry_on (over_places r W) t inner H Y (known (over_places r W) t inner H Y v) v

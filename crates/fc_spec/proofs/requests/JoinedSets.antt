@@ -10,9 +10,10 @@ use Rattle.fc_spec.specs.documents.Sets.{zip_with, passing, passing_of, AreSets,
 use Rattle.fc_spec.specs.queries.Matching.{matches}
 use Rattle.fc_spec.specs.requests.Request.{BlockStep, stay, parents, children, DomainChange}
 use Rattle.fc_spec.specs.requests.Base.{meets_base}
+use Rattle.fc_spec.specs.requests.Paths.{meets_rebuilt}
 use Rattle.fc_spec.specs.requests.Buckets.{in_bucket}
 use Rattle.fc_spec.specs.requests.DomainSets.{by_blocks, to_parent, to_children, moved_set, filtered_set}
-use Rattle.fc_spec.specs.laws.Blockwise.{BasesJoin, ChangesJoin, BucketsJoin, DocumentsJoin}
+use Rattle.fc_spec.specs.laws.Blockwise.{BasesJoin, RebuiltJoin, ChangesJoin, BucketsJoin, DocumentsJoin}
 use Rattle.fc_spec.proofs.documents.BlockTotals.{documents_in-append}
 use Rattle.fc_spec.proofs.documents.PlacedDocuments.{documents_at-shard}
 use Rattle.fc_spec.proofs.words.WhereTrue.{items_where_true-map}
@@ -28,6 +29,9 @@ passing_of-joined t V sets e = ap (zip_with ◌&&◌ (joined sets)) (passing-joi
 
 pub bases_join : BasesJoin
 bases_join r tags V = passing-joined (meets_base r tags) V
+
+pub rebuilt_join : RebuiltJoin
+rebuilt_join r path tags V = passing-joined (meets_rebuilt r path tags) V
 
 pub buckets_join : BucketsJoin
 buckets_join kind key V sets e = passing_of-joined (in_bucket kind key) V sets e

@@ -7,8 +7,8 @@ use Rattle.fc_spec.specs.queries.Query.{Query}
 use Rattle.fc_spec.specs.queries.Matching.{matches}
 use Rattle.fc_spec.specs.documents.World.{World, Place, places, on_shards, same_block}
 use Rattle.fc_spec.specs.requests.Request.{Request, BlockStep, stay, parents, children, DomainChange, Kind}
-use Rattle.fc_spec.specs.requests.Base.{base}
-use Rattle.fc_spec.specs.requests.Domain.{domain, moved, filtered, children_of, parents_of, is_parent_of}
+use Rattle.fc_spec.specs.requests.Domain.{moved, filtered, children_of, parents_of, is_parent_of}
+use Rattle.fc_spec.specs.requests.Paths.{Path, rebuilt, domain}
 use Rattle.fc_spec.specs.requests.Buckets.{Key, in_bucket, bucket_places}
 use Rattle.fc_spec.proofs.words.Members.{Every, same_tests, passing_member, any_by_member, filter_member, member_of_filter, filter_every, every_own_filter}
 use Rattle.fc_spec.proofs.documents.Shards.{is_on, on_same_shard, parent_shard, same_block_shard, domain_on_shards}
@@ -62,13 +62,13 @@ moved_local W (parents q) H S = parents_local W q H S
 moved_local W (children q) H S = children_local W q H S
 
 -- the part of the domain on the shards H is that of the domain made from the bucket's part there
-pub domain_local : (r : Request) (W : World) (change : DomainChange) (H : List ℕ) (S : List Place) → on_shards H (domain r W change (on_shards H S)) ≡ on_shards H (domain r W change S)
-domain_local r W change H S = go (is_empty change.exclude)
+pub domain_local : (r : Request) (W : World) (path : Path) (change : DomainChange) (H : List ℕ) (S : List Place) → on_shards H (domain r W path change (on_shards H S)) ≡ on_shards H (domain r W path change S)
+domain_local r W path change H S = go (is_empty change.exclude)
   where
     test : Place → Bool
     test p = list_all (λ q. matches q p.document) change.filters
 
-    go : (b : Bool) → on_shards H (filtered change.filters (moved W change.block (cond b (on_shards H S) (base r W change.exclude)))) ≡ on_shards H (filtered change.filters (moved W change.block (cond b S (base r W change.exclude))))
+    go : (b : Bool) → on_shards H (filtered change.filters (moved W change.block (cond b (on_shards H S) (rebuilt r W path change.exclude)))) ≡ on_shards H (filtered change.filters (moved W change.block (cond b S (rebuilt r W path change.exclude))))
     go true = filter-filter (is_on H) test (moved W change.block (on_shards H S)) ∙ ap (filter test) (moved_local W change.block H S) ∙ sym (filter-filter (is_on H) test (moved W change.block S))
     go false = refl
 
@@ -81,9 +81,9 @@ nowhere [] e = refl
 nowhere (x ∷ xs) e = absurd (false≢true e.0)
 
 -- without exclusion nothing comes of nothing
-pub domain_of_nothing : (r : Request) (W : World) (change : DomainChange) (H : List ℕ) (S : List Place) → is_empty change.exclude ≡ true → on_shards H S ≡ [] → on_shards H (domain r W change S) ≡ []
-domain_of_nothing r W change H S none e =
-    sym (domain_local r W change H S) ∙ ap (λ Q. on_shards H (domain r W change Q)) e ∙ ap (on_shards H) (nowhere (domain r W change []) (domain_on_shards r W change [] [] none tt))
+pub domain_of_nothing : (r : Request) (W : World) (path : Path) (change : DomainChange) (H : List ℕ) (S : List Place) → is_empty change.exclude ≡ true → on_shards H S ≡ [] → on_shards H (domain r W path change S) ≡ []
+domain_of_nothing r W path change H S none e =
+    sym (domain_local r W path change H S) ∙ ap (λ Q. on_shards H (domain r W path change Q)) e ∙ ap (on_shards H) (nowhere (domain r W path change []) (domain_on_shards r W path change [] [] none tt))
 
 -- the part on one of the shards is that of the part on all of them
 pub part_of_part : (H : List ℕ) (K : List ℕ) (S : List Place) → ((p : Place) → is_on K p ≡ true → is_on H p ≡ true) → on_shards K (on_shards H S) ≡ on_shards K S

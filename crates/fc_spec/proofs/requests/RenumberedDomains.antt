@@ -8,7 +8,8 @@ use Rattle.fc_spec.specs.queries.Matching.{matches}
 use Rattle.fc_spec.specs.documents.World.{World, Place, places, same_block}
 use Rattle.fc_spec.specs.requests.Request.{Request, BlockStep, stay, parents, children, DomainChange}
 use Rattle.fc_spec.specs.requests.Base.{base, meets_base}
-use Rattle.fc_spec.specs.requests.Domain.{domain, moved, filtered, children_of, parents_of, is_parent_of}
+use Rattle.fc_spec.specs.requests.Paths.{Path, meets_rebuilt, rebuilt, domain}
+use Rattle.fc_spec.specs.requests.Domain.{moved, filtered, children_of, parents_of, is_parent_of}
 use Rattle.fc_spec.proofs.words.Members.{Every, every_filter}
 use Rattle.fc_spec.proofs.words.MappedLists.{list_any-map}
 use Rattle.fc_spec.proofs.documents.Renumbered.{Renumbering, renumbered, filter_places, filter_renumbered}
@@ -16,6 +17,10 @@ use Rattle.fc_spec.proofs.documents.Renumbered.{Renumbering, renumbered, filter_
 -- the base, whatever is excluded
 pub base_renumbered : {W V : World} (R : Renumbering W V) (r : Request) (tags : List Text) → base r V tags ≡ map (renumbered R.numbers) (base r W tags)
 base_renumbered R r tags = filter_places R (λ p. meets_base r tags p.document) (λ p. meets_base r tags p.document) (λ x h. refl)
+
+-- so it is as it is rebuilt along a path
+rebuilt_renumbered : {W V : World} (R : Renumbering W V) (r : Request) (path : Path) (tags : List Text) → rebuilt r V path tags ≡ map (renumbered R.numbers) (rebuilt r W path tags)
+rebuilt_renumbered R r path tags = filter_places R (λ p. meets_rebuilt r path tags p.document) (λ p. meets_rebuilt r path tags p.document) (λ x h. refl)
 
 -- the children of renumbered places
 children_renumbered : {W V : World} (R : Renumbering W V) (q : Query) (Y : List Place) → Every R.known Y
@@ -46,25 +51,25 @@ moved_known {W} R (parents q) Y known = every_filter R.known _ (places W) R.all_
 moved_known {W} R (children q) Y known = every_filter R.known _ (places W) R.all_known
 
 -- a change begins among all places: at the domain around it, or at the base without what is excluded
-start_known : {W V : World} (R : Renumbering W V) (r : Request) (tags : List Text) (X : List Place) (b : Bool) → Every R.known X → Every R.known (cond b X (base r W tags))
-start_known R r tags X true known = known
-start_known {W} R r tags X false known = every_filter R.known _ (places W) R.all_known
+start_known : {W V : World} (R : Renumbering W V) (r : Request) (path : Path) (tags : List Text) (X : List Place) (b : Bool) → Every R.known X → Every R.known (cond b X (rebuilt r W path tags))
+start_known R r path tags X true known = known
+start_known {W} R r path tags X false known = every_filter R.known _ (places W) R.all_known
 
 -- where it begins for renumbered places
-start_renumbered : {W V : World} (R : Renumbering W V) (r : Request) (tags : List Text) (X : List Place) (b : Bool)
-    → cond b (map (renumbered R.numbers) X) (base r V tags) ≡ map (renumbered R.numbers) (cond b X (base r W tags))
-start_renumbered R r tags X true = refl
-start_renumbered R r tags X false = base_renumbered R r tags
+start_renumbered : {W V : World} (R : Renumbering W V) (r : Request) (path : Path) (tags : List Text) (X : List Place) (b : Bool)
+    → cond b (map (renumbered R.numbers) X) (rebuilt r V path tags) ≡ map (renumbered R.numbers) (cond b X (rebuilt r W path tags))
+start_renumbered R r path tags X true = refl
+start_renumbered R r path tags X false = rebuilt_renumbered R r path tags
 
 -- the change of a domain of renumbered places
-pub domain_renumbered : {W V : World} (R : Renumbering W V) (r : Request) (change : DomainChange) (X : List Place) → Every R.known X
-    → domain r V change (map (renumbered R.numbers) X) ≡ map (renumbered R.numbers) (domain r W change X)
-domain_renumbered {W} {V} R r change X known =
-    ap (λ Y. filtered change.filters (moved V change.block Y)) (start_renumbered R r change.exclude X (is_empty change.exclude))
-    ∙ ap (filtered change.filters) (moved_renumbered R change.block (cond (is_empty change.exclude) X (base r W change.exclude)) (start_known R r change.exclude X (is_empty change.exclude) known))
+pub domain_renumbered : {W V : World} (R : Renumbering W V) (r : Request) (path : Path) (change : DomainChange) (X : List Place) → Every R.known X
+    → domain r V path change (map (renumbered R.numbers) X) ≡ map (renumbered R.numbers) (domain r W path change X)
+domain_renumbered {W} {V} R r path change X known =
+    ap (λ Y. filtered change.filters (moved V change.block Y)) (start_renumbered R r path change.exclude X (is_empty change.exclude))
+    ∙ ap (filtered change.filters) (moved_renumbered R change.block (cond (is_empty change.exclude) X (rebuilt r W path change.exclude)) (start_known R r path change.exclude X (is_empty change.exclude) known))
     ∙ filter_renumbered R.numbers (λ p. list_all (λ q. matches q p.document) change.filters) _ (λ p. refl)
 
 -- it stays among all places
-pub domain_known : {W V : World} (R : Renumbering W V) (r : Request) (change : DomainChange) (X : List Place) → Every R.known X → Every R.known (domain r W change X)
-domain_known {W} R r change X known =
-    every_filter R.known _ _ (moved_known R change.block _ (start_known R r change.exclude X (is_empty change.exclude) known))
+pub domain_known : {W V : World} (R : Renumbering W V) (r : Request) (path : Path) (change : DomainChange) (X : List Place) → Every R.known X → Every R.known (domain r W path change X)
+domain_known {W} R r path change X known =
+    every_filter R.known _ _ (moved_known R change.block _ (start_known R r path change.exclude X (is_empty change.exclude) known))

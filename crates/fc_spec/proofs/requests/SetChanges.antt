@@ -5,19 +5,19 @@ use Rattle.std.proofs.lemmas.Bool.{false≢true, and_parts, eqb-true, eq-eqb, ne
 use Rattle.std.proofs.lemmas.List.{map-append, length-map, length-drop, length-replicate}
 use Rattle.std.proofs.lemmas.Simd.{map-map}
 use Rattle.fc_spec.specs.words.Lists.{is_empty, joined}
-use Rattle.fc_spec.specs.documents.Val.{Text}
 use Rattle.fc_spec.specs.documents.Document.{Document, Block}
 use Rattle.fc_spec.specs.documents.World.{World, Place, places, places_from, shard_places, block_places, same_block}
 use Rattle.fc_spec.specs.documents.Totals.{documents_of, documents_in, document_total}
 use Rattle.fc_spec.specs.documents.Sets.{zip_with, passing, passing_of, AreSets, places_at, each_set, each_two}
 use Rattle.fc_spec.specs.queries.Query.{Query}
 use Rattle.fc_spec.specs.queries.Matching.{matches}
-use Rattle.fc_spec.specs.requests.Request.{BlockStep, stay, parents, children, DomainChange, Request}
+use Rattle.fc_spec.specs.requests.Request.{BlockStep, stay, parents, children, DomainChange}
 use Rattle.fc_spec.specs.requests.Base.{base, meets_base}
 use Rattle.fc_spec.specs.requests.Domain.{moved, filtered, is_parent_of}
 use Rattle.fc_spec.specs.requests.Buckets.{in_bucket}
-use Rattle.fc_spec.specs.requests.DomainSets.{by_blocks, to_parent, to_children, moved_set, filtered_set, base_set, changed_set, bucket_set}
-use Rattle.fc_spec.specs.laws.Blockwise.{BasesAreBlockwise, ChangesAreBlockwise, BucketsAreBlockwise, KeepLengths, AreSetsAgain}
+use Rattle.fc_spec.specs.requests.DomainSets.{by_blocks, to_parent, to_children, moved_set, filtered_set, changed_set, bucket_set}
+use Rattle.fc_spec.specs.requests.Paths.{meets_rebuilt}
+use Rattle.fc_spec.specs.laws.Blockwise.{BasesAreBlockwise, RebuiltAreBlockwise, ChangesAreBlockwise, BucketsAreBlockwise, KeepLengths, AreSetsAgain}
 use Rattle.fc_spec.proofs.words.Members.{Every, every_append}
 use Rattle.fc_spec.proofs.words.WhereTrue.{filter_where_true, filter-items_where_true, length-zip_with, zip_with-append}
 use Rattle.fc_spec.proofs.documents.PlacedDocuments.{documents_at-shard}
@@ -129,8 +129,15 @@ filter_blockwise t V sets e =
     ∙ ap (λ v. items_where_true (zip_with ◌&&◌ (joined sets) v) (places V)) (world_documents t 0 V)
     ∙ ap (λ v. items_where_true v (places V)) (zip_joined t V sets e)
 
+-- the places whose document passes
+documents_blockwise : (t : Document → Bool) (V : World) → filter (λ p. t p.document) (places V) ≡ places_at V (map (passing t) V)
+documents_blockwise t V = filter_where_true (λ p. t p.document) (places V) ∙ ap (λ v. items_where_true v (places V)) (world_documents t 0 V)
+
 pub bases_are_blockwise : BasesAreBlockwise
-bases_are_blockwise r tags V = filter_where_true (λ p. meets_base r tags p.document) (places V) ∙ ap (λ v. items_where_true v (places V)) (world_documents (meets_base r tags) 0 V)
+bases_are_blockwise r tags V = documents_blockwise (meets_base r tags) V
+
+pub rebuilt_are_blockwise : RebuiltAreBlockwise
+rebuilt_are_blockwise r path tags V = documents_blockwise (meets_rebuilt r path tags) V
 
 pub buckets_are_blockwise : BucketsAreBlockwise
 buckets_are_blockwise kind key V sets e = filter_blockwise (in_bucket kind key) V sets e
@@ -224,20 +231,22 @@ two_are_sets change (b ∷ V) (s ∷ bases) [] h e = absurd (cc)
 two_are_sets change (b ∷ V) (s ∷ bases) (t ∷ sets) h e =
     λ i. changed_keeps change b s t (first_is_set b V s bases h) (first_is_set b V t sets e) i ∷ two_are_sets change V bases sets (rest_are_sets b V s bases h) (rest_are_sets b V t sets e) i
 
-base_are_sets : (r : Request) (tags : List Text) (V : World) → AreSets V (map (base_set r tags) V)
-base_are_sets r tags [] = refl
-base_are_sets r tags (b ∷ V) = λ i. length-passing (meets_base r tags) b i ∷ base_are_sets r tags V i
+passing_are_sets : (t : Document → Bool) (V : World) → AreSets V (map (passing t) V)
+passing_are_sets t [] = refl
+passing_are_sets t (b ∷ V) = λ i. length-passing t b i ∷ passing_are_sets t V i
 
 pub keep_lengths : KeepLengths
 keep_lengths = record {
   base = λ r tags blocks. length-passing (meets_base r tags) blocks;
+  rebuilt = λ r path tags blocks. length-passing (meets_rebuilt r path tags) blocks;
   change = changed_keeps;
   bucket = λ kind key. passing_keeps (in_bucket kind key);
 }
 
 pub are_sets_again : AreSetsAgain
 are_sets_again = record {
-  bases = base_are_sets;
+  bases = λ r tags. passing_are_sets (meets_base r tags);
+  rebuilt = λ r path tags. passing_are_sets (meets_rebuilt r path tags);
   changes = two_are_sets;
   buckets = λ kind key. each_are_sets (bucket_set kind key) (passing_keeps (in_bucket kind key));
 }

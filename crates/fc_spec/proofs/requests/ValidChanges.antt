@@ -34,20 +34,20 @@ text_query_valid s d = whatever (IsValidQuery s) (text_in d) (query_in s) (query
 
 -- ---- tags
 
--- they are tags, and only an outermost facet has any
-record AreExcluded (outermost : Bool) (items : List Text) : Type 0 where
+-- they are tags, and there are none where a facet around has a block step
+record AreExcluded (unmoved : Bool) (items : List Text) : Type 0 where
   tags : AreTags items
-  inside : outermost ≡ false → items ≡ []
+  inside : unmoved ≡ false → items ≡ []
 
-no_tags : (outermost : Bool) → AreExcluded outermost []
-no_tags outermost = record { tags = All-nil _; inside = λ e. refl }
+no_tags : (unmoved : Bool) → AreExcluded unmoved []
+no_tags unmoved = record { tags = All-nil _; inside = λ e. refl }
 
-excluded_valid : (outermost : Bool) (d : Data) → IfOk (excluded outermost d) (AreExcluded outermost)
-excluded_valid outermost d =
-    let P = AreExcluded outermost in
+excluded_valid : (unmoved : Bool) (d : Data) → IfOk (excluded unmoved d) (AreExcluded unmoved)
+excluded_valid unmoved d =
+    let P = AreExcluded unmoved in
     whatever P (tag_items d) _ (λ tags. going_on P (λ u. list_all is_tag tags ≡ true) (unless (list_all is_tag tags) bad_parameter) _ (passed (list_all is_tag tags) bad_parameter)
-    (λ u e. going_on P (λ w. (outermost || is_empty tags) ≡ true) (unless (outermost || is_empty tags) nested_exclude) _ (passed (outermost || is_empty tags) nested_exclude)
-    (λ w f. record { tags = AllPass-from_list_all is_tag tags e; inside = λ n. nothing_is_empty tags (or_right outermost (is_empty tags) f n) })))
+    (λ u e. going_on P (λ w. (unmoved || is_empty tags) ≡ true) (unless (unmoved || is_empty tags) nested_exclude) _ (passed (unmoved || is_empty tags) nested_exclude)
+    (λ w f. record { tags = AllPass-from_list_all is_tag tags e; inside = λ n. nothing_is_empty tags (or_right unmoved (is_empty tags) f n) })))
 
 -- ---- block members and filters
 
@@ -62,26 +62,26 @@ domain_filters_valid s d = whatever (All (IsValidQuery s)) (texts_in d) _ (λ ts
 
 -- ---- changes
 
-change_of_valid : (s : Schema) (outermost : Bool) (ms : Members) → IfOk (change_of s outermost ms) (IsValidChange s outermost)
-change_of_valid s outermost ms =
-    let P = IsValidChange s outermost in
+change_of_valid : (s : Schema) (unmoved : Bool) (ms : Members) → IfOk (change_of s unmoved ms) (IsValidChange s unmoved)
+change_of_valid s unmoved ms =
+    let P = IsValidChange s unmoved in
     let tags_at = get_member (codes "excludeTags") ms in
     let parents_at = get_member (codes "blockParent") ms in
     let children_at = get_member (codes "blockChildren") ms in
     let filters_at = get_member (codes "filter") ms in
     whatever P (check_names (codes "excludeTags" ∷ codes "blockParent" ∷ codes "blockChildren" ∷ codes "filter" ∷ []) ms) _
-    (λ u. going_on P (AreExcluded outermost) (said_or (excluded outermost) [] tags_at) _ (if_there (AreExcluded outermost) (excluded outermost) [] tags_at (no_tags outermost) (excluded_valid outermost))
+    (λ u. going_on P (AreExcluded unmoved) (said_or (excluded unmoved) [] tags_at) _ (if_there (AreExcluded unmoved) (excluded unmoved) [] tags_at (no_tags unmoved) (excluded_valid unmoved))
     (λ tags h. going_on P (IsValidStep s) (block_step s parents_at children_at) _ (step_valid s parents_at children_at)
     (λ step k. going_on P (All (IsValidQuery s)) (said_or (domain_filters s) [] filters_at) _ (if_there (All (IsValidQuery s)) (domain_filters s) [] filters_at (All-nil (IsValidQuery s)) (domain_filters_valid s))
-    (λ filters l. record { tags = h.tags; outermost = h.inside; step = k; filters = l }))))
+    (λ filters l. record { tags = h.tags; around = h.inside; step = k; filters = l }))))
 
-nothing_changes : (s : Schema) (outermost : Bool) → IsValidChange s outermost no_change
-nothing_changes s outermost = record { tags = All-nil _; outermost = λ e. refl; step = tt; filters = All-nil (IsValidQuery s) }
+nothing_changes : (s : Schema) (unmoved : Bool) → IsValidChange s unmoved no_change
+nothing_changes s unmoved = record { tags = All-nil _; around = λ e. refl; step = tt; filters = All-nil (IsValidQuery s) }
 
-pub change_in_valid : (s : Schema) (outermost : Bool) (ms : Members) → IfOk (change_in s outermost ms) (IsValidChange s outermost)
-change_in_valid s outermost ms =
-    if_there (IsValidChange s outermost) (λ d. ok_or (as_object d) bad_parameter >>= change_of s outermost) no_change (get_member (codes "domain") ms) (nothing_changes s outermost)
-    (λ d. whatever (IsValidChange s outermost) (ok_or (as_object d) bad_parameter) (change_of s outermost) (change_of_valid s outermost))
+pub change_in_valid : (s : Schema) (unmoved : Bool) (ms : Members) → IfOk (change_in s unmoved ms) (IsValidChange s unmoved)
+change_in_valid s unmoved ms =
+    if_there (IsValidChange s unmoved) (λ d. ok_or (as_object d) bad_parameter >>= change_of s unmoved) no_change (get_member (codes "domain") ms) (nothing_changes s unmoved)
+    (λ d. whatever (IsValidChange s unmoved) (ok_or (as_object d) bad_parameter) (change_of s unmoved) (change_of_valid s unmoved))
 
 -- ---- filters of a request
 

@@ -1,43 +1,20 @@
--- Valid nodes exclude tags on outermost facets only, and their terms facets, answers and rounds are no deeper than they are.
-use Rattle.std.proofs.Common.{◌≡◌, refl, ap, ℕ, zero, suc, ◌+◌, ◌≤◌, max, List, [], ◌∷◌, Bool, true, false, ◌&&◌, Option, None, Some, arith}
+-- The terms facets, answers and rounds of valid nodes are no deeper than they are.
+use Rattle.std.proofs.Common.{ℕ, zero, suc, ◌+◌, ◌≤◌, max, List, [], ◌∷◌, Option, None, Some, arith}
 use Rattle.std.specs.List.{AllByRecursion}
-use Rattle.fc_spec.specs.words.Lists.{is_empty}
-use Rattle.fc_spec.specs.documents.Schema.{Schema}
 use Rattle.fc_spec.specs.documents.World.{World, Place, on_shards}
 use Rattle.fc_spec.specs.requests.Request.{Kind, terms, range, query, Facet, Nodes, no_nodes, statistic, facet, Request, stats_of}
 use Rattle.fc_spec.specs.requests.Buckets.{Key, whole, bucket_places}
-use Rattle.fc_spec.specs.requests.Paths.{at_root}
+use Rattle.fc_spec.specs.requests.Paths.{Path, at_root, into}
 use Rattle.fc_spec.specs.requests.Statistics.{Stats, stats_over}
-use Rattle.fc_spec.specs.requests.ValidRequests.{AreValidNodes, node_depth}
-use Rattle.fc_spec.specs.requests.Shape.{no_exclusions, outermost_exclusions}
+use Rattle.fc_spec.specs.requests.ValidRequests.{node_depth}
 use Rattle.fc_spec.specs.messages.Lacks.{own_depth, terms_depth}
 use Rattle.fc_spec.specs.messages.Message.{Partials, no_partials, Rows, Way, Want, way_of, Ask, first, more}
-use Rattle.fc_spec.specs.messages.Target.{Target, leads_nowhere, leads_to, target_nodes, target_places, target_in, target_from, target_of, facet_at, nodes_in}
+use Rattle.fc_spec.specs.messages.Target.{Target, leads_nowhere, leads_to, target_nodes, target_path, target_places, target_in, target_from, target_of, facet_at, nodes_in}
 use Rattle.fc_spec.specs.messages.Answer.{answer_rows, answer, partials_of, answer_keys, answer_domain, answer_bucket, answer_wants}
 use Rattle.fc_spec.specs.messages.Nesting.{nesting, rows_nesting}
 use Rattle.fc_spec.specs.messages.Rounds.{SentMessage, search_rounds}
-use Rattle.fc_spec.specs.laws.RequestLaws.{ValidExcludeOutermost, ValidHaveFewDepths, ValidHaveFewRounds, ValidAnswersNestLittle}
+use Rattle.fc_spec.specs.laws.RequestLaws.{ValidHaveFewDepths, ValidHaveFewRounds, ValidAnswersNestLittle}
 use Rattle.fc_spec.proofs.messages.SearchEnds.{rounds_are_few}
-
--- ---- exclusions
-
-both : (a b : Bool) → a ≡ true → b ≡ true → (a && b) ≡ true
-both true b e h = h
-both false b e h = absurd cc
-
-nothing_excluded : (s : Schema) (nodes : Nodes) → AreValidNodes s false nodes → no_exclusions nodes ≡ true
-nothing_excluded s no_nodes h = refl
-nothing_excluded s (statistic name st rest) h = nothing_excluded s rest h.1
-nothing_excluded s (facet f inner rest) h =
-    both (is_empty f.change.exclude && no_exclusions inner) (no_exclusions rest) (both (is_empty f.change.exclude) (no_exclusions inner) (ap is_empty (((h.0).change).outermost refl)) (nothing_excluded s inner h.1)) (nothing_excluded s rest h.2)
-
-excluded_outermost : (s : Schema) (outermost : Bool) (nodes : Nodes) → AreValidNodes s outermost nodes → outermost_exclusions nodes ≡ true
-excluded_outermost s outermost no_nodes h = refl
-excluded_outermost s outermost (statistic name st rest) h = excluded_outermost s outermost rest h.1
-excluded_outermost s outermost (facet f inner rest) h = both (no_exclusions inner) (outermost_exclusions rest) (nothing_excluded s inner h.1) (excluded_outermost s outermost rest h.2)
-
-pub valid_exclude_outermost : ValidExcludeOutermost
-valid_exclude_outermost s r h = excluded_outermost s true r.nodes h.nodes
 
 -- ---- rounds
 
@@ -72,14 +49,14 @@ partials_nest stats rows n h (k ∷ ks) = let here = h k in let more = partials_
 both_within : (a b m n : ℕ) → a ≤ m → b ≤ n → max a b ≤ max m n
 both_within a b m n h k = omega arith
 
-rows_nest : (r : Request) (W : World) (i : ℕ) (nodes : Nodes) (X : List Place) → rows_nesting (answer_rows r W i nodes X) ≤ node_depth nodes
-rows_nest r W i no_nodes X = omega arith
-rows_nest r W i (statistic name st rest) X = let h = rows_nest r W i rest X in omega arith
-rows_nest r W i (facet f inner rest) X =
-    let Y = answer_domain r W i f X in
+rows_nest : (r : Request) (W : World) (i : ℕ) (path : Path) (nodes : Nodes) (X : List Place) → rows_nesting (answer_rows r W i path nodes X) ≤ node_depth nodes
+rows_nest r W i path no_nodes X = omega arith
+rows_nest r W i path (statistic name st rest) X = let h = rows_nest r W i path rest X in omega arith
+rows_nest r W i path (facet f inner rest) X =
+    let Y = answer_domain r W i path f X in
     both_within _ _ _ _
-    (partials_nest (λ k. stats_over (stats_of inner) (bucket_places f.kind k Y)) (λ k. answer_rows r W i inner (bucket_places f.kind k Y)) (node_depth inner) (λ k. rows_nest r W i inner (bucket_places f.kind k Y)) (answer_keys f.kind inner Y i))
-    (rows_nest r W i rest X)
+    (partials_nest (λ k. stats_over (stats_of inner) (bucket_places f.kind k Y)) (λ k. answer_rows r W i (into path f k) inner (bucket_places f.kind k Y)) (node_depth inner) (λ k. rows_nest r W i (into path f k) inner (bucket_places f.kind k Y)) (answer_keys f.kind inner Y i))
+    (rows_nest r W i path rest X)
 
 -- the nodes nested in one of them are no deeper
 deeper : (n : ℕ) (nodes : Nodes) → node_depth (nodes_in (facet_at n nodes)) ≤ node_depth nodes
@@ -107,7 +84,7 @@ bucket_nests : (r : Request) (W : World) (i : ℕ) (way : Way) (key : Key) (rest
 bucket_nests r W i way key rest shallow h =
     let nodes = target_nodes (target_of r.nodes way) in
     let X = on_shards (i ∷ []) (target_places r W (target_of r.nodes way)) in
-    let here : rows_nesting (answer_rows r W i nodes X) ≤ node_depth nodes = rows_nest r W i nodes X in
+    let here : rows_nesting (answer_rows r W i (target_path (target_of r.nodes way)) nodes X) ≤ node_depth nodes = rows_nest r W i (target_path (target_of r.nodes way)) nodes X in
     let inside : node_depth nodes ≤ node_depth r.nodes = ways_lead_in way (leads_to at_root r.nodes) in
     omega arith
 

@@ -52,7 +52,7 @@ total_within s ds field valid fit = elim (cases_lt field (length s.fields)) [
 ]
 
 -- fewer documents with fewer values are within the same limits
-few_within : (limits : Limits) (ds es : List Document) → length es ≤ length ds → value_count es ≤ value_count ds → are_few limits ds ≡ true → are_few limits es ≡ true
+pub few_within : (limits : Limits) (ds es : List Document) → length es ≤ length ds → value_count es ≤ value_count ds → are_few limits ds ≡ true → are_few limits es ≡ true
 few_within limits ds es fewer less few =
     let parts = and_parts (nat_le (length ds) limits.documents) (nat_le (value_count ds) limits.values) few in
     let documents = leb-true (length ds) limits.documents parts.0 in

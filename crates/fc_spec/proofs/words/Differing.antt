@@ -57,7 +57,7 @@ differ_sorted cmp (x ∷ xs) s = (λ y m. each_member (λ z. cmp x z ≡ Less) x
 abbrev pub Other : ℕ → ℕ → Type 0
 Other i j = i ≡ j → ⊥
 
-from_start_on : (n from j : ℕ) → Member j (range_with_len from n) → from ≤ j
+pub from_start_on : (n from j : ℕ) → Member j (range_with_len from n) → from ≤ j
 from_start_on zero from j m = absurd m
 from_start_on (suc n) from j (inl e) = omega arith
 from_start_on (suc n) from j (inr m) = let le = from_start_on n (from + 1) j m in omega arith
@@ -65,6 +65,11 @@ from_start_on (suc n) from j (inr m) = let le = from_start_on n (from + 1) j m i
 pub differ_range : (n from : ℕ) → Differ Other (range_with_len from n)
 differ_range zero from = tt
 differ_range (suc n) from = (λ j m e. let le = from_start_on n (from + 1) j m in absurd (omega arith), differ_range n (from + 1))
+
+-- they rise
+pub rising_range : (n from : ℕ) → Differ (λ i j. i < j) (range_with_len from n)
+rising_range zero from = tt
+rising_range (suc n) from = (λ j m. let le = from_start_on n (from + 1) j m in omega arith, rising_range n (from + 1))
 
 -- the same at indices
 member_at : {X : Type 0} (xs : List X) (j : ℕ) (d : X) → j < length xs → Member (get_or xs j d) xs

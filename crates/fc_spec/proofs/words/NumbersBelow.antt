@@ -1,5 +1,6 @@
 -- What holds of each number below a bound, and lists with one member for each.
-use Rattle.std.proofs.Common.{◌≡◌, ℕ, zero, suc, ◌+◌, ◌<◌, map, slice_index, sym, ◌∙◌, subst, zero-add, inl, inr, arith}
+use Rattle.std.proofs.lemmas.Bool.{cases_eq}
+use Rattle.std.proofs.Common.{◌≡◌, ℕ, zero, suc, ◌+◌, ◌<◌, ◌≤◌, map, slice_index, sym, ◌∙◌, subst, zero-add, inl, inr, arith}
 use Rattle.std.specs.List.{range_with_len}
 use Rattle.std.specs.Prelude.{All}
 use Rattle.std.proofs.lemmas.List.Elements.{All-get_or, All-from_get_or}
@@ -27,3 +28,11 @@ member_range (suc n) from i (inr m) = let less = member_range n (from + 1) i m i
 -- a member is below the bound
 pub member_below : (n i : ℕ) → Member i (numbers_below n) → i < n
 member_below n i m = let less = member_range n 0 i m in omega arith
+
+range_member : (n from i : ℕ) → from ≤ i → i < from + n → Member i (range_with_len from n)
+range_member zero from i low high = absurd (omega arith)
+range_member (suc n) from i low high = elim (cases_eq from i) [ inl e ↦ inl (sym e) | inr e ↦ inr (range_member n (from + 1) i (omega arith) (omega arith)) ]
+
+-- and a number below it a member
+pub below_member : (n i : ℕ) → i < n → Member i (numbers_below n)
+below_member n i h = range_member n 0 i (omega arith) (omega arith)

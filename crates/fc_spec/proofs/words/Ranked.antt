@@ -25,7 +25,7 @@ module _ {X : Type 0} (before : X → X → Bool) (one_way : (a b : X) → befor
   ascends_tail x xs h i j d l m = h (suc i) (suc j) d (omega arith) (omega arith)
 
   -- no member stands ahead of itself
-  not_before_itself : (x : X) → before x x ≡ false
+  pub not_before_itself : (x : X) → before x x ≡ false
   not_before_itself x = false_from_ne_true (before x x) (λ h. both_ways (before x x) (one_way x x h) h)
 
   -- none stands ahead of the first member

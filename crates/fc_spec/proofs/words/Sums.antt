@@ -48,14 +48,18 @@ sum_by-cons_option : {Y : Type 0} (f : Y → ℕ) (o : Option Y) (ys : List Y) �
 sum_by-cons_option f None ys = omega arith
 sum_by-cons_option f (Some y) ys = sum_by-cons f y ys
 
--- lists that take of each member no more than there is have together no more than all
-pub sum_by-shared : {X Y J : Type 0} (f : Y → ℕ) (pick : J → X → Option Y) (all : X → Option Y) (js : List J)
-    → ((x : X) → sum_by (λ j. of_option f (pick j x)) js ≤ of_option f (all x)) → (xs : List X) → sum_by (λ j. sum_by f (filter_map (pick j) xs)) js ≤ sum_by f (filter_map all xs)
-sum_by-shared f pick all js share [] = let none = sum_by-none (λ j. 0) js (λ j. refl) in omega arith
-sum_by-shared f pick all js share (x ∷ xs) =
+-- lists that take of each member no more than there is have together no more than all; members may be measured as another thing there
+pub sum_by-shared_as : {X Y Z J : Type 0} (f : Y → ℕ) (g : Z → ℕ) (pick : J → X → Option Y) (all : X → Option Z) (js : List J)
+    → ((x : X) → sum_by (λ j. of_option f (pick j x)) js ≤ of_option g (all x)) → (xs : List X) → sum_by (λ j. sum_by f (filter_map (pick j) xs)) js ≤ sum_by g (filter_map all xs)
+sum_by-shared_as f g pick all js share [] = let none = sum_by-none (λ j. 0) js (λ j. refl) in omega arith
+sum_by-shared_as f g pick all js share (x ∷ xs) =
     let split : sum_by (λ j. sum_by f (filter_map (pick j) (x ∷ xs))) js ≡ sum_by (λ j. of_option f (pick j x)) js + sum_by (λ j. sum_by f (filter_map (pick j) xs)) js =
     (λ i. sum_by (λ j. sum_by-cons_option f (pick j x) (filter_map (pick j) xs) i) js) ∙ sum_by-plus (λ j. of_option f (pick j x)) (λ j. sum_by f (filter_map (pick j) xs)) js in
-    omega (arith, split, sum_by-cons_option f (all x) (filter_map all xs), share x, sum_by-shared f pick all js share xs)
+    omega (arith, split, sum_by-cons_option g (all x) (filter_map all xs), share x, sum_by-shared_as f g pick all js share xs)
+
+pub sum_by-shared : {X Y J : Type 0} (f : Y → ℕ) (pick : J → X → Option Y) (all : X → Option Y) (js : List J)
+    → ((x : X) → sum_by (λ j. of_option f (pick j x)) js ≤ of_option f (all x)) → (xs : List X) → sum_by (λ j. sum_by f (filter_map (pick j) xs)) js ≤ sum_by f (filter_map all xs)
+sum_by-shared f pick all js share xs = sum_by-shared_as f f pick all js share xs
 
 -- the part with a number
 abbrev pub part : {Y : Type 0} → ℕ → Option Y → ℕ → Option Y

@@ -1,7 +1,7 @@
--- Documents, blocks and batches. Guide: Indexing Nested Child Documents.
+-- Documents, blocks, batches and operations. Guide: Indexing Nested Child Documents; Indexing with Update Handlers.
 use Rattle.std.specs.Prelude.{ℕ, List, []}
 use Rattle.std.specs.List.{slice_index_or}
-use Rattle.fc_spec.specs.documents.Val.{Val}
+use Rattle.fc_spec.specs.documents.Val.{Text, Val}
 
 -- for each field's number its values, different and in index order
 abbrev pub Document : Type 0
@@ -19,3 +19,8 @@ pub record Block : Type 0 where
 -- what one commit adds to a shard
 abbrev pub Batch : Type 0
 Batch = List Block
+
+-- what a line does to a shard: it adds a block, or deletes the blocks of an id
+pub data Op : Type 0 where
+  adding : Block → Op
+  deleting : Text → Op

@@ -11,11 +11,15 @@ use Rattle.fc_spec.specs.requests.Request.{Request, DomainChange, Kind}
 use Rattle.fc_spec.specs.requests.Base.{base}
 use Rattle.fc_spec.specs.requests.Domain.{changed}
 use Rattle.fc_spec.specs.requests.Buckets.{Key, bucket_places}
-use Rattle.fc_spec.specs.requests.DomainSets.{base_set, changed_set, bucket_set}
+use Rattle.fc_spec.specs.requests.DomainSets.{base_set, rebuilt_set, changed_set, bucket_set}
+use Rattle.fc_spec.specs.requests.Paths.{Path, rebuilt}
 
 -- over a world: a set for each list of blocks, made from that list and its own sets
 abbrev pub BasesAreBlockwise : Type 0
 BasesAreBlockwise = (r : Request) (tags : List Text) (V : World) → base r V tags ≡ places_at V (map (base_set r tags) V)
+
+abbrev pub RebuiltAreBlockwise : Type 0
+RebuiltAreBlockwise = (r : Request) (path : Path) (tags : List Text) (V : World) → rebuilt r V path tags ≡ places_at V (map (rebuilt_set r path tags) V)
 
 abbrev pub ChangesAreBlockwise : Type 0
 ChangesAreBlockwise = (change : DomainChange) (V : World) (bases sets : List (List Bool)) → AreSets V bases → AreSets V sets
@@ -28,18 +32,23 @@ BucketsAreBlockwise = (kind : Kind) (key : Key) (V : World) (sets : List (List B
 -- what is made of sets are sets again
 pub record KeepLengths : Type 0 where
   pub base : (r : Request) (tags : List Text) (blocks : List Block) → length (base_set r tags blocks) ≡ document_total blocks
+  pub rebuilt : (r : Request) (path : Path) (tags : List Text) (blocks : List Block) → length (rebuilt_set r path tags blocks) ≡ document_total blocks
   pub change : (change : DomainChange) (blocks : List Block) (base set : List Bool) → length base ≡ document_total blocks → length set ≡ document_total blocks
       → length (changed_set change blocks base set) ≡ document_total blocks
   pub bucket : (kind : Kind) (key : Key) (blocks : List Block) (set : List Bool) → length set ≡ document_total blocks → length (bucket_set kind key blocks set) ≡ document_total blocks
 
 pub record AreSetsAgain : Type 0 where
   pub bases : (r : Request) (tags : List Text) (V : World) → AreSets V (map (base_set r tags) V)
+  pub rebuilt : (r : Request) (path : Path) (tags : List Text) (V : World) → AreSets V (map (rebuilt_set r path tags) V)
   pub changes : (change : DomainChange) (V : World) (bases sets : List (List Bool)) → AreSets V bases → AreSets V sets → AreSets V (each_two (changed_set change) V bases sets)
   pub buckets : (kind : Kind) (key : Key) (V : World) (sets : List (List Bool)) → AreSets V sets → AreSets V (each_set (bucket_set kind key) V sets)
 
 -- of lists of blocks that are joined: the sets of the lists, one behind the other
 abbrev pub BasesJoin : Type 0
 BasesJoin = (r : Request) (tags : List Text) (V : World) → base_set r tags (joined V) ≡ joined (map (base_set r tags) V)
+
+abbrev pub RebuiltJoin : Type 0
+RebuiltJoin = (r : Request) (path : Path) (tags : List Text) (V : World) → rebuilt_set r path tags (joined V) ≡ joined (map (rebuilt_set r path tags) V)
 
 abbrev pub ChangesJoin : Type 0
 ChangesJoin = (change : DomainChange) (V : World) (bases sets : List (List Bool)) → AreSets V bases → AreSets V sets
@@ -62,6 +71,10 @@ IsOnShard s blocks set X = on_shards (s ∷ []) X ≡ places_on s blocks set
 abbrev pub BasesOfShards : Type 0
 BasesOfShards = (r : Request) (tags : List Text) (W : World) (s : ℕ) (blocks : List Block) → slice_get W s ≡ Some blocks
     → IsOnShard s blocks (base_set r tags blocks) (base r W tags)
+
+abbrev pub RebuiltOfShards : Type 0
+RebuiltOfShards = (r : Request) (path : Path) (tags : List Text) (W : World) (s : ℕ) (blocks : List Block) → slice_get W s ≡ Some blocks
+    → IsOnShard s blocks (rebuilt_set r path tags blocks) (rebuilt r W path tags)
 
 abbrev pub ChangesOfShards : Type 0
 ChangesOfShards = (change : DomainChange) (W : World) (s : ℕ) (blocks : List Block) → slice_get W s ≡ Some blocks

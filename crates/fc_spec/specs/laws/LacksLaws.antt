@@ -4,7 +4,7 @@ use Rattle.std.specs.List.{AllByRecursion}
 use Rattle.fc_spec.specs.requests.Request.{Terms, Kind, terms, Facet, Nodes, Request}
 use Rattle.fc_spec.specs.requests.Buckets.{Key, value, is_key_of}
 use Rattle.fc_spec.specs.documents.World.{World}
-use Rattle.fc_spec.specs.requests.Shape.{asks_again, outermost_exclusions}
+use Rattle.fc_spec.specs.requests.Shape.{asks_again}
 use Rattle.fc_spec.specs.messages.Message.{Partials, Way, way_of, Ask, first, more}
 use Rattle.fc_spec.specs.messages.MessageShape.{rows_fit, is_shaped_within}
 use Rattle.fc_spec.specs.messages.Target.{facet_at, nodes_in, target_of, target_nodes}
@@ -24,13 +24,13 @@ names_keys nodes [] = true
 names_keys nodes (step ∷ way) = has_key (facet_at step.node nodes) step.key && names_keys (nodes_in (facet_at step.node nodes)) way
 
 -- the key is a value, and the facet a terms facet that asks again
-abbrev pub asks_for : Kind → Key → Bool
-asks_for (terms t) (value v) = asks_again t
-asks_for _ _ = false
+abbrev pub asks_for : Kind → Nodes → Key → Bool
+asks_for (terms t) inner (value v) = asks_again t inner
+asks_for _ inner _ = false
 
 abbrev pub is_asked_again : Option (Facet × Nodes) → Key → Bool
 is_asked_again None key = false
-is_asked_again (Some f) key = asks_for (f.0).kind key
+is_asked_again (Some f) key = asks_for (f.0).kind f.1 key
 
 -- a told bucket has the nodes where its way leads, and rows that fit them, with that bound on the values that a terms facet lists
 pub record IsFitting (most : Terms → Option ℕ) (r : Request) (t : Told) : Type 0 where
@@ -141,4 +141,4 @@ RoundsTellOnce = (r : Request) (n : ℕ) (A B : List Told) (e i : ℕ) (m : Part
 
 -- so no shard does in a search, in which shards answer round after round
 abbrev pub SearchesTellOnce : Type 0
-SearchesTellOnce = (r : Request) (W : World) → IsTrue (outermost_exclusions r.nodes) → TellOnce (told_in r.nodes (search_rounds r W))
+SearchesTellOnce = (r : Request) (W : World) → TellOnce (told_in r.nodes (search_rounds r W))

@@ -3,7 +3,6 @@ use Rattle.std.specs.Prelude.{◌≡◌, ℕ, ◌<◌, List, [], length, IsTrue,
 use Rattle.std.specs.List.{AllByRecursion}
 use Rattle.fc_spec.specs.documents.World.{World}
 use Rattle.fc_spec.specs.requests.Request.{Request}
-use Rattle.fc_spec.specs.requests.Shape.{outermost_exclusions}
 use Rattle.fc_spec.specs.replies.Distributed.{distributed}
 use Rattle.fc_spec.specs.messages.Answer.{answer}
 use Rattle.fc_spec.specs.messages.Held.{Told, held}
@@ -25,5 +24,5 @@ LacksNothing r n A = (e : ℕ) → lacks r n A e ≡ []
 
 -- messages that are answers, in any order and any number, that tell of every shard's root and lack nothing, merge into the distributed reply
 abbrev pub MergesIntoReply : Type 0
-MergesIntoReply = (r : Request) (W : World) (sent : List SentMessage) → IsTrue (outermost_exclusions r.nodes) → AllByRecursion (IsAnswer r W) sent
+MergesIntoReply = (r : Request) (W : World) (sent : List SentMessage) → AllByRecursion (IsAnswer r W) sent
     → HasRoots (length W) (told_in r.nodes sent) → LacksNothing r (length W) (told_in r.nodes sent) → merged r (length W) (told_in r.nodes sent) ≡ distributed r W

@@ -8,7 +8,6 @@ use Rattle.fc_spec.specs.requests.Statistics.{value_over, shown}
 use Rattle.fc_spec.specs.replies.Reply.{Spot, listed, spot_of, val_of, Bucket, bucket, Facets, no_facets, one, many, Row, no_parts, part}
 use Rattle.fc_spec.specs.replies.Printed.{statistic_part, facet_part}
 use Rattle.fc_spec.specs.requests.Paths.{Path, at_root, into, path_places, is_refined}
-use Rattle.fc_spec.specs.requests.Shape.{outermost_exclusions}
 use Rattle.fc_spec.specs.replies.Distributed.{distributed}
 
 -- the bucket has the count of the path's places, and facets of which Inside holds
@@ -45,5 +44,4 @@ AreFacetsOf r W (facet f inner rest) path facets =
 
 -- the reply is the bucket of the root, and each bucket in it at a refined path is the bucket of that path
 abbrev pub AreRefinedPathsExact : Type 0
-AreRefinedPathsExact = (r : Request) (W : World) → IsTrue (outermost_exclusions r.nodes)
-    → (val_in (distributed r W) ≡ None) × IsBucketOf r W at_root (AreFacetsOf r W r.nodes at_root) (distributed r W)
+AreRefinedPathsExact = (r : Request) (W : World) → (val_in (distributed r W) ≡ None) × IsBucketOf r W at_root (AreFacetsOf r W r.nodes at_root) (distributed r W)

@@ -1,5 +1,5 @@
--- What is read is valid; and what holds of valid requests: where they exclude, how deep their terms facets and the messages for them nest.
-use Rattle.std.specs.Prelude.{◌≡◌, ℕ, List, ◌≤◌, IsTrue, true, Ok, All}
+-- What is read is valid; and what holds of valid requests: how deep their terms facets and the messages for them nest.
+use Rattle.std.specs.Prelude.{◌≡◌, ℕ, List, ◌≤◌, true, Ok, All}
 use Rattle.serde_json.specs.Data.{Data}
 use Rattle.std.specs.List.{AllByRecursion}
 use Rattle.fc_spec.specs.documents.Schema.{Schema}
@@ -12,7 +12,6 @@ use Rattle.fc_spec.specs.scripts.Script.{Line, add, commit, sync, asks, Script}
 use Rattle.fc_spec.specs.scripts.ScriptTotals.{Limits}
 use Rattle.fc_spec.specs.scripts.ScriptReading.{script_of}
 use Rattle.fc_spec.specs.requests.RequestReading.{request_of}
-use Rattle.fc_spec.specs.requests.Shape.{outermost_exclusions}
 use Rattle.fc_spec.specs.messages.Lacks.{terms_depth}
 use Rattle.fc_spec.specs.messages.Rounds.{search_rounds}
 use Rattle.fc_spec.specs.messages.Message.{Ask}
@@ -37,10 +36,6 @@ AsksValid s sync = Unit {0}
 -- so are the requests of every script that bytes spell
 abbrev pub ScriptsAskValid : Type 0
 ScriptsAskValid = (limits : Limits) (bytes : List ℕ) (S : Script Data) → script_of limits bytes ≡ Ok S → All (AsksValid S.schema) S.lines
-
--- exclusions stand on outermost facets only
-abbrev pub ValidExcludeOutermost : Type 0
-ValidExcludeOutermost = (s : Schema) (r : Request) → IsValidRequest s r → IsTrue (outermost_exclusions r.nodes)
 
 -- at most eight terms facets stand around each other
 abbrev pub ValidHaveFewDepths : Type 0

@@ -2,13 +2,13 @@
 use Rattle.std.specs.Prelude.{◌≡◌, IsTrue}
 use Rattle.fc_spec.specs.documents.World.{World, single}
 use Rattle.fc_spec.specs.requests.Request.{Request}
-use Rattle.fc_spec.specs.requests.Shape.{no_limits, outermost_exclusions}
+use Rattle.fc_spec.specs.requests.Shape.{no_limits}
 use Rattle.fc_spec.specs.replies.Exact.{exact}
 use Rattle.fc_spec.specs.replies.Distributed.{distributed}
 
 -- it is the exact reply over the same world
 abbrev pub IsExactWithoutLimits : Type 0
-IsExactWithoutLimits = (r : Request) (W : World) → IsTrue (no_limits r.nodes) → IsTrue (outermost_exclusions r.nodes) → distributed r W ≡ exact r W
+IsExactWithoutLimits = (r : Request) (W : World) → IsTrue (no_limits r.nodes) → distributed r W ≡ exact r W
 
 -- the exact reply does not depend on how the blocks are cut into shards
 abbrev pub IsExactOverSingle : Type 0
@@ -16,4 +16,4 @@ IsExactOverSingle = (r : Request) (W : World) → exact r W ≡ exact r (single 
 
 -- so it is that of the single index with all the blocks
 abbrev pub IsSingleWithoutLimits : Type 0
-IsSingleWithoutLimits = (r : Request) (W : World) → IsTrue (no_limits r.nodes) → IsTrue (outermost_exclusions r.nodes) → distributed r W ≡ exact r (single W)
+IsSingleWithoutLimits = (r : Request) (W : World) → IsTrue (no_limits r.nodes) → distributed r W ≡ exact r (single W)

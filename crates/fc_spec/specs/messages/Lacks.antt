@@ -31,7 +31,7 @@ wanted_values R t inner n H Y way = flat_map (λ v. each_of H (want_of way n (va
 
 -- what is wanted at a facet, of terms facets with e terms facets between: at depth 0 a terms facet's own chosen values, and nothing where it does not ask again; else what is wanted under its buckets
 abbrev pub wanted_at : {B D : Type 0} → Reading B D → Kind → Nodes → (e n : ℕ) → List ℕ → D → Way → (under : ℕ → List Lack) → List Lack
-wanted_at R (terms t) inner zero n H Y way under = if asks_again t then wanted_values R t inner n H Y way else []
+wanted_at R (terms t) inner zero n H Y way under = if asks_again t inner then wanted_values R t inner n H Y way else []
 wanted_at R (terms t) inner (suc e) n H Y way under = under e
 wanted_at R _ inner e n H Y way under = under e
 

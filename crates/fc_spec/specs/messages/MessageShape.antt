@@ -2,7 +2,8 @@
 use Rattle.std.specs.Prelude.{ℕ, List, [], ◌∷◌, length, Bool, true, false, not, ◌&&◌, ◌||◌, nat_le, Option, None, Some}
 use Rattle.std.specs.Ordering.{is_lt}
 use Rattle.fc_spec.specs.requests.Request.{Stat, StatKind, min, max, Terms, Kind, terms, range, query, Nodes, no_nodes, statistic, facet, Request, stats_of}
-use Rattle.fc_spec.specs.requests.Buckets.{Key, whole, is_key_of, is_whole}
+use Rattle.fc_spec.specs.requests.Buckets.{Key, value, whole, is_key_of, is_whole}
+use Rattle.fc_spec.specs.requests.Shape.{holds_exclusion}
 use Rattle.fc_spec.specs.messages.KeyOrder.{key_cmp, same_key}
 use Rattle.fc_spec.specs.requests.Statistics.{StatValue, number, extreme, Stats}
 use Rattle.fc_spec.specs.requests.Ranks.{offered_bound}
@@ -27,9 +28,14 @@ values_fit [] (v ∷ vs) = false
 values_fit (s ∷ ss) [] = false
 values_fit (s ∷ ss) (v ∷ vs) = value_fits s v && values_fit ss vs
 
--- every bucket but the whole has a place
-abbrev pub count_fits : Key → Stats → Bool
-count_fits k s = is_whole k || nat_le 1 s.count
+-- the key is a value
+abbrev pub is_value : Key → Bool
+is_value (value v) = true
+is_value _ = false
+
+-- every bucket has a place but the whole, and those of other keys than a value in a facet that holds an exclusion
+abbrev pub count_fits : (holds : Bool) → Key → Stats → Bool
+count_fits holds k s = is_whole k || (holds && not (is_value k)) || nat_le 1 s.count
 
 -- the key stands behind the one before it, where there is one
 abbrev pub key_ascends : Option Key → Key → Bool
@@ -46,14 +52,14 @@ abbrev pub is_at_most_bound : Option ℕ → ℕ → Bool
 is_at_most_bound None n = true
 is_at_most_bound (Some bound) n = nat_le n bound
 
--- one bucket of a facet, what is nested in it aside: its key is one of the facet's and stands behind the one before it; it has a place, and the facet's statistics
-abbrev pub bucket_fits : Kind → List Stat → Option Key → Key → Stats → Bool
-bucket_fits kind ss last k stats = key_ascends last k && is_key_of kind k && count_fits k stats && values_fit ss stats.values
+-- one bucket of a facet with these nodes nested in it, what is nested in the bucket aside: its key is one of the facet's and stands behind the one before it; it has a place where it needs one, and the facet's statistics
+abbrev pub bucket_fits : Kind → Nodes → Option Key → Key → Stats → Bool
+bucket_fits kind inner last k stats = key_ascends last k && is_key_of kind k && count_fits (holds_exclusion inner) k stats && values_fit (stats_of inner) stats.values
 
 -- each bucket of a list, however many there are
-abbrev pub buckets_fit : Kind → List Stat → Partials → Option Key → Bool
-buckets_fit kind ss no_partials last = true
-buckets_fit kind ss (partial k stats rows rest) last = bucket_fits kind ss last k stats && buckets_fit kind ss rest (Some k)
+abbrev pub buckets_fit : Kind → Nodes → Partials → Option Key → Bool
+buckets_fit kind inner no_partials last = true
+buckets_fit kind inner (partial k stats rows rest) last = bucket_fits kind inner last k stats && buckets_fit kind inner rest (Some k)
 
 -- with the most values that a terms facet may list, where there is a bound
 module _ (most : Terms → Option ℕ) where
@@ -68,7 +74,7 @@ module _ (most : Terms → Option ℕ) where
     pub rows_fit : Rows → Nodes → Bool
     rows_fit no_rows no_nodes = true
     rows_fit rows (statistic name s nodes) = rows_fit rows nodes
-    rows_fit (row ps rest) (facet f inner nodes) = is_complete f.kind ps && buckets_fit f.kind (stats_of inner) ps None && insides_fit ps inner && rows_fit rest nodes
+    rows_fit (row ps rest) (facet f inner nodes) = is_complete f.kind ps && buckets_fit f.kind inner ps None && insides_fit ps inner && rows_fit rest nodes
     rows_fit _ _ = false
 
     -- what is nested in each of the buckets of a facet with these nodes

@@ -24,11 +24,17 @@ pub data Target : Type 0 where
   leads_nowhere : Target
   leads_to : Path → Nodes → Target
 
--- the nodes nested there, and its places over all shards
+-- the nodes nested there
 abbrev pub target_nodes : Target → Nodes
 target_nodes leads_nowhere = no_nodes
 target_nodes (leads_to path nodes) = nodes
 
+-- its path; that of the root where it leads nowhere
+abbrev pub target_path : Target → Path
+target_path leads_nowhere = at_root
+target_path (leads_to path nodes) = path
+
+-- its places over all shards
 abbrev pub target_places : Request → World → Target → List Place
 target_places r W leads_nowhere = []
 target_places r W (leads_to path nodes) = path_places r W path

@@ -5,6 +5,7 @@ use Rattle.fc_spec.specs.documents.Val.{Val, has_val, distinct}
 use Rattle.fc_spec.specs.requests.Request.{Terms, terms, Nodes, stats_of}
 use Rattle.fc_spec.specs.requests.Buckets.{value}
 use Rattle.fc_spec.specs.requests.Ranks.{Entry, below_rank, rank_bound}
+use Rattle.fc_spec.specs.requests.Shape.{counts_all}
 use Rattle.fc_spec.specs.replies.Reading.{Reading, stats_on}
 
 -- below which rank a candidate is chosen: with refine and a limit
@@ -33,9 +34,9 @@ module _ {B D : Type 0} (R : Reading B D) (t : Terms) (inner : Nodes) (H : List 
   abbrev pub chosen : List Val
   chosen = map (λ e. e.val) (below_rank t.sort (chosen_bound t) candidate_entries)
 
-  -- the shards over which a chosen value is counted: with refine all of H, else those that offer it
+  -- the shards over which a chosen value is counted: all of H where the facet refines or asks again, else those that offer it
   abbrev pub known : Val → List ℕ
-  known v = if t.refine then H else offering v
+  known v = if counts_all t inner then H else offering v
 
   -- the chosen values, each over its known shards
   abbrev pub chosen_entries : List Entry

@@ -8,7 +8,8 @@ use Rattle.fc_spec.specs.requests.Buckets.{Key, value, whole}
 use Rattle.fc_spec.specs.requests.Statistics.{shown}
 use Rattle.fc_spec.specs.replies.Reply.{Bucket, bucket, Facets, no_facets, with_buckets}
 use Rattle.fc_spec.specs.replies.Printed.{range_keys, terms_keys, statistic_part, facet_part}
-use Rattle.fc_spec.specs.replies.Reading.{Reading, over_places}
+use Rattle.fc_spec.specs.requests.Paths.{at_root}
+use Rattle.fc_spec.specs.replies.Reading.{Reading, PathBucket, over_places}
 use Rattle.fc_spec.specs.replies.Chosen.{known, chosen_entries}
 
 -- the keys of the buckets that a node prints over its domain on the shards H
@@ -40,6 +41,10 @@ dist_facets R (facet f inner rest) n m H X =
 abbrev pub reply_over : {B D : Type 0} → Reading B D → Nodes → List ℕ → B → Bucket
 reply_over R nodes H X = bucket None (R.count_on H X) (dist_facets R nodes 0 0 H X)
 
+-- the bucket of the root, over all shards
+abbrev pub root_bucket : Request → World → PathBucket
+root_bucket r W = record { path = at_root; places = root_domain r W }
+
 -- the distributed reply: over places, from the root domain, with all shards
 abbrev pub distributed : Request → World → Bucket
-distributed r W = reply_over (over_places r W) r.nodes (numbers_below (length W)) (root_domain r W)
+distributed r W = reply_over (over_places r W) r.nodes (numbers_below (length W)) (root_bucket r W)

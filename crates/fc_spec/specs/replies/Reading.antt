@@ -4,7 +4,7 @@ use Rattle.std.specs.List.{enumerate_from}
 use Rattle.fc_spec.specs.documents.Val.{Val}
 use Rattle.fc_spec.specs.documents.World.{World, Place, on_shards}
 use Rattle.fc_spec.specs.requests.Request.{Stat, Terms, Kind, Facet, Nodes, Request, stats_of}
-use Rattle.fc_spec.specs.requests.Domain.{domain}
+use Rattle.fc_spec.specs.requests.Paths.{Path, into, domain}
 use Rattle.fc_spec.specs.requests.Buckets.{Key, bucket_places}
 use Rattle.fc_spec.specs.requests.Statistics.{StatValue, Stats, value_over}
 use Rattle.fc_spec.specs.requests.Ranks.{below_rank, offered_bound}
@@ -31,12 +31,23 @@ stats_on R ss H X = record { count = R.count_on H X; values = map (λ s. R.stati
 abbrev pub offered : Terms → Nodes → List Place → ℕ → List Val
 offered t inner Y i = map (λ e. e.val) (below_rank t.sort (offered_bound t) (entries_in t (stats_of inner) (on_shards (i ∷ []) Y)))
 
--- a bucket, and a domain, is a set of places
-abbrev pub over_places : Request → World → Reading (List Place) (List Place)
+-- a bucket of a reading over places: the path that leads to it, and its places
+pub record PathBucket : Type 0 where
+  pub path : Path
+  pub places : List Place
+
+-- the domain of a facet in such a bucket
+pub record PathDomain : Type 0 where
+  pub path : Path
+  pub facet : Facet
+  pub places : List Place
+
+-- a bucket of a domain is asked for by the kind of the domain's own facet
+abbrev pub over_places : Request → World → Reading PathBucket PathDomain
 over_places r W = record {
-  domain_on = λ n f H X. on_shards H (domain r W f.change (on_shards H X));
-  bucket_at = λ kind Y key. bucket_places kind key Y;
-  count_on = λ H X. length (on_shards H X);
-  statistic_on = λ m s H X. value_over s (on_shards H X);
-  offered_by = offered;
+  domain_on = λ n f H X. record { path = X.path; facet = f; places = on_shards H (domain r W X.path f.change (on_shards H X.places)) };
+  bucket_at = λ kind Y key. record { path = into Y.path Y.facet key; places = bucket_places kind key Y.places };
+  count_on = λ H X. length (on_shards H X.places);
+  statistic_on = λ m s H X. value_over s (on_shards H X.places);
+  offered_by = λ t inner Y i. offered t inner Y.places i;
 }

@@ -1,12 +1,11 @@
--- The domain of a node. Guide: JSON Faceting Domain Changes.
+-- What a domain change makes of a bucket's places. Guide: JSON Faceting Domain Changes.
 use Rattle.std.specs.Prelude.{List, Bool, not, ◌&&◌, if◌then◌else◌}
 use Rattle.std.specs.List.{filter, list_any, list_all}
 use Rattle.fc_spec.specs.words.Lists.{is_empty}
 use Rattle.fc_spec.specs.queries.Query.{Query}
 use Rattle.fc_spec.specs.queries.Matching.{matches}
 use Rattle.fc_spec.specs.documents.World.{World, Place, places, same_block}
-use Rattle.fc_spec.specs.requests.Request.{Request, BlockStep, stay, parents, children, DomainChange}
-use Rattle.fc_spec.specs.requests.Base.{base}
+use Rattle.fc_spec.specs.requests.Request.{BlockStep, stay, parents, children, DomainChange}
 
 -- y is the parent of p's block, and p a child in it
 abbrev pub is_parent_of : Place → Place → Bool
@@ -33,7 +32,3 @@ filtered filters Z = filter (λ p. list_all (λ q. matches q p.document) filters
 -- what the change makes of X: where it excludes tags the base B stands in the place of X; then the block step, then the change's own filters
 abbrev pub changed : World → (base : List Place) → DomainChange → List Place → List Place
 changed W B change X = filtered change.filters (moved W change.block (if is_empty change.exclude then X else B))
-
--- the domain of a facet in the bucket X: an exclusion begins with the base without the excluded tags
-abbrev pub domain : Request → World → DomainChange → List Place → List Place
-domain r W change X = changed W (base r W change.exclude) change X

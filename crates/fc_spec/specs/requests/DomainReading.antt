@@ -33,12 +33,12 @@ abbrev pub tag_items : Data → Result (List Text) QFault
 tag_items (string t) = Ok (if is_empty t then [] else slice_split (λ b. b == 44) t)
 tag_items d = texts_in d
 
--- the tags that are left out; only a facet of the first depth names any
-abbrev pub excluded : (outermost : Bool) → Data → Result (List Text) QFault
-excluded outermost d = do
+-- the tags that are left out; a facet names none where one around it has a block step
+abbrev pub excluded : (unmoved : Bool) → Data → Result (List Text) QFault
+excluded unmoved d = do
   tags ← tag_items d
   _ ← unless (list_all is_tag tags) bad_parameter
-  _ ← unless (outermost || is_empty tags) nested_exclude
+  _ ← unless (unmoved || is_empty tags) nested_exclude
   Ok tags
 
 -- at most one of the two block members
@@ -58,10 +58,10 @@ domain_filters s d = do
   ts ← texts_in d
   each (query_in s) ts
 
-abbrev pub change_of : Schema → (outermost : Bool) → Members → Result DomainChange QFault
-change_of s outermost ms = do
+abbrev pub change_of : Schema → (unmoved : Bool) → Members → Result DomainChange QFault
+change_of s unmoved ms = do
   _ ← check_names (codes "excludeTags" ∷ codes "blockParent" ∷ codes "blockChildren" ∷ codes "filter" ∷ []) ms
-  tags ← optional (codes "excludeTags") (excluded outermost) [] ms
+  tags ← optional (codes "excludeTags") (excluded unmoved) [] ms
   step ← block_step s (get_member (codes "blockParent") ms) (get_member (codes "blockChildren") ms)
   filters ← optional (codes "filter") (domain_filters s) [] ms
   Ok (record { exclude = tags; block = step; filters = filters })
@@ -71,5 +71,5 @@ abbrev pub no_change : DomainChange
 no_change = record { exclude = []; block = stay; filters = [] }
 
 -- the change of a facet's members
-abbrev pub change_in : Schema → (outermost : Bool) → Members → Result DomainChange QFault
-change_in s outermost ms = optional (codes "domain") (λ d. ok_or (as_object d) bad_parameter >>= change_of s outermost) no_change ms
+abbrev pub change_in : Schema → (unmoved : Bool) → Members → Result DomainChange QFault
+change_in s unmoved ms = optional (codes "domain") (λ d. ok_or (as_object d) bad_parameter >>= change_of s unmoved) no_change ms

@@ -11,6 +11,7 @@ use Rattle.fc_spec.specs.queries.Matching.{matches}
 use Rattle.fc_spec.specs.requests.Request.{Request, BlockStep, stay, parents, children, DomainChange, Kind}
 use Rattle.fc_spec.specs.requests.Base.{meets_base}
 use Rattle.fc_spec.specs.requests.Buckets.{Key, in_bucket}
+use Rattle.fc_spec.specs.requests.Paths.{Path, meets_rebuilt}
 
 -- what is made of each block's part of a set, one block behind the other
 abbrev pub by_blocks : (Block → List Bool → List Bool) → List Block → List Bool → List Bool
@@ -42,6 +43,10 @@ changed_set change blocks base set = filtered_set change.filters blocks (moved_s
 -- the base without the filters with one of the tags
 abbrev pub base_set : Request → List Text → List Block → List Bool
 base_set r tags blocks = passing (meets_base r tags) blocks
+
+-- the base that is rebuilt along a path
+abbrev pub rebuilt_set : Request → Path → List Text → List Block → List Bool
+rebuilt_set r path tags blocks = passing (meets_rebuilt r path tags) blocks
 
 -- those of a set that are in a bucket
 abbrev pub bucket_set : Kind → Key → List Block → List Bool → List Bool

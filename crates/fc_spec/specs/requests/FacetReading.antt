@@ -6,7 +6,7 @@ use Rattle.fc_spec.specs.documents.Val.{Text, same_text}
 use Rattle.fc_spec.specs.words.Lists.{is_empty}
 use Rattle.fc_spec.specs.documents.Schema.{Schema, field_named, holds_texts}
 use Rattle.fc_spec.specs.documents.IntegerTexts.{is_long}
-use Rattle.fc_spec.specs.requests.Request.{Terms, Range, Kind, query}
+use Rattle.fc_spec.specs.requests.Request.{Terms, its_buckets, Range, Kind, query}
 use Rattle.fc_spec.specs.requests.Gaps.{gap_count, last_end}
 use Rattle.fc_spec.specs.requests.RequestFault.{QFault, unknown_field, bad_parameter, wrong_field_type, too_large}
 use Rattle.fc_spec.specs.requests.RequestWalk.{required, optional, integer_in, whole_in, truth_in, text_in}
@@ -67,8 +67,10 @@ terms_parts s ms = do
     missing = missing;
     prefix = prefix;
     refine = refine;
+    exact = false;
     overrequest = over_number (limit_from limit) overrequest;
     overrefine = over_number (limit_from limit) overrefine;
+    show = its_buckets;
   })
 
 -- ---- range

@@ -31,7 +31,13 @@ pub record Sort : Type 0 where
   pub by : SortKey
   pub descending : Bool
 
--- a terms facet. Guide: JSON Facet API, "Terms Facet". No limit: all; then both over-numbers are 0
+-- what is printed of a terms facet: its buckets; the number of them alone; the number of them beside the buckets of the facet before it
+pub data Show : Type 0 where
+  its_buckets : Show
+  its_number : Show
+  number_beside : Show
+
+-- a terms facet. Guide: JSON Facet API, "Terms Facet". No limit: all; then both over-numbers are 0. exact and show are false and its buckets in every request that is read: no definition of a reply looks at them yet
 pub record Terms : Type 0 where
   pub field : ℕ
   pub offset : ℕ
@@ -41,8 +47,10 @@ pub record Terms : Type 0 where
   pub missing : Bool
   pub prefix : Option Text
   pub refine : Bool
+  pub exact : Bool
   pub overrequest : ℕ
   pub overrefine : ℕ
+  pub show : Show
 
 -- a range facet over integers: end is at least start, gap at least 1. Guide: JSON Facet API, "Range Facet"
 pub record Range : Type 0 where

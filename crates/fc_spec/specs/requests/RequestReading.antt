@@ -1,5 +1,5 @@
 -- What request a JSON value is, or the first fault of a walk over it, with the names of the facets around it. Guide: JSON Request API; JSON Facet API.
-use Rattle.std.specs.Prelude.{ℕ, zero, suc, ◌+◌, List, [], ◌∷◌, codes, Bool, true, false, not, ◌||◌, ◌==◌, nat_lt, Option, None, Some, option_map, unwrap_or, ok_or, Result, Ok, Err, if◌then◌else◌}
+use Rattle.std.specs.Prelude.{ℕ, zero, suc, ◌+◌, List, [], ◌∷◌, codes, Bool, true, false, not, ◌||◌, ◌&&◌, ◌==◌, nat_lt, Option, None, Some, option_map, unwrap_or, ok_or, Result, Ok, Err, if◌then◌else◌}
 use Rattle.std.specs.Option.{option_and_then}
 use Rattle.serde_json.specs.Data.{Data, string, array, Members, no_members, member}
 use Rattle.serde_json.specs.Find.{as_object, as_str, get_member}
@@ -14,6 +14,7 @@ use Rattle.fc_spec.specs.requests.RequestFault.{QFault, not_an_object, bad_comma
 use Rattle.fc_spec.specs.requests.RequestWalk.{query_fault, outside, inside, check_names, required, optional, text_in, each_item}
 use Rattle.fc_spec.specs.requests.StatisticReading.{statistic_of}
 use Rattle.fc_spec.specs.requests.DomainReading.{change_in, text_query}
+use Rattle.fc_spec.specs.requests.Shape.{stays}
 use Rattle.fc_spec.specs.requests.SortReading.{sort_in}
 use Rattle.fc_spec.specs.requests.FacetReading.{terms_parts, range_parts, query_part}
 use Rattle.fc_spec.specs.words.Walks.{◌>>=◌, unless, with_fault}
@@ -67,26 +68,26 @@ abbrev pub facet_read : DomainChange → Kind → Walked Nodes → Walked Node
 facet_read change kind inner = record { read = of_facet change kind inner.read; nodes = inner.nodes }
 
 -- the parameters of each type in their order; a terms facet's sort comes last, behind the statistics that it may name
-abbrev pub terms_read : Schema → (outermost : Bool) → Reader → ℕ → Members → Result (Walked Node) RequestFault
-terms_read s outermost deeper n ms = do
+abbrev pub terms_read : Schema → (unmoved : Bool) → (Bool → Reader) → ℕ → Members → Result (Walked Node) RequestFault
+terms_read s unmoved deeper n ms = do
   parts ← own (terms_parts s ms)
-  change ← own (change_in s outermost ms)
-  inner ← inner_read deeper n (get_member (codes "facet") ms)
+  change ← own (change_in s unmoved ms)
+  inner ← inner_read (deeper (unmoved && stays change)) n (get_member (codes "facet") ms)
   sort ← own (sort_in inner.read ms)
   Ok (facet_read change (terms (record parts { sort = sort })) inner)
 
-abbrev pub range_read : Schema → (outermost : Bool) → Reader → ℕ → Members → Result (Walked Node) RequestFault
-range_read s outermost deeper n ms = do
+abbrev pub range_read : Schema → (unmoved : Bool) → (Bool → Reader) → ℕ → Members → Result (Walked Node) RequestFault
+range_read s unmoved deeper n ms = do
   g ← own (range_parts s ms)
-  change ← own (change_in s outermost ms)
-  inner ← inner_read deeper n (get_member (codes "facet") ms)
+  change ← own (change_in s unmoved ms)
+  inner ← inner_read (deeper (unmoved && stays change)) n (get_member (codes "facet") ms)
   Ok (facet_read change (range g) inner)
 
-abbrev pub query_read : Schema → (outermost : Bool) → Reader → ℕ → Members → Result (Walked Node) RequestFault
-query_read s outermost deeper n ms = do
+abbrev pub query_read : Schema → (unmoved : Bool) → (Bool → Reader) → ℕ → Members → Result (Walked Node) RequestFault
+query_read s unmoved deeper n ms = do
   q ← own (query_part s ms)
-  change ← own (change_in s outermost ms)
-  inner ← inner_read deeper n (get_member (codes "facet") ms)
+  change ← own (change_in s unmoved ms)
+  inner ← inner_read (deeper (unmoved && stays change)) n (get_member (codes "facet") ms)
   Ok (facet_read change q inner)
 
 abbrev pub statistic_read : Schema → ℕ → Text → Result (Walked Node) RequestFault
@@ -121,36 +122,36 @@ parameters range_type =
 parameters query_type = codes "type" ∷ codes "q" ∷ codes "domain" ∷ codes "facet" ∷ []
 parameters func_type = codes "type" ∷ codes "func" ∷ []
 
-abbrev pub typed_read : FacetType → Schema → (outermost : Bool) → Reader → ℕ → Members → Result (Walked Node) RequestFault
-typed_read terms_type s outermost deeper n ms = terms_read s outermost deeper n ms
-typed_read range_type s outermost deeper n ms = range_read s outermost deeper n ms
-typed_read query_type s outermost deeper n ms = query_read s outermost deeper n ms
-typed_read func_type s outermost deeper n ms = func_read s n ms
+abbrev pub typed_read : FacetType → Schema → (unmoved : Bool) → (Bool → Reader) → ℕ → Members → Result (Walked Node) RequestFault
+typed_read terms_type s unmoved deeper n ms = terms_read s unmoved deeper n ms
+typed_read range_type s unmoved deeper n ms = range_read s unmoved deeper n ms
+typed_read query_type s unmoved deeper n ms = query_read s unmoved deeper n ms
+typed_read func_type s unmoved deeper n ms = func_read s n ms
 
 -- the type that a command names
 abbrev pub type_of : Members → Result FacetType QFault
 type_of ms = required (codes "type") (λ d. ok_or (option_and_then type_named (as_str d)) unknown_type) ms
 
 -- a command: a text is a statistic, an object names its type
-abbrev pub command_read : Schema → (outermost : Bool) → Reader → ℕ → Data → Result (Walked Node) RequestFault
-command_read s outermost deeper n (string t) = statistic_read s n t
-command_read s outermost deeper n d = do
+abbrev pub command_read : Schema → (unmoved : Bool) → (Bool → Reader) → ℕ → Data → Result (Walked Node) RequestFault
+command_read s unmoved deeper n (string t) = statistic_read s n t
+command_read s unmoved deeper n d = do
   ms ← own (ok_or (as_object d) bad_command)
   kind ← own (type_of ms)
   _ ← own (check_names (parameters kind) ms)
-  typed_read kind s outermost deeper n ms
+  typed_read kind s unmoved deeper n ms
 
 -- a node behind n nodes of the walk: at most 64 are read, siblings and nested ones together
-abbrev pub node_read : Schema → (outermost : Bool) → Reader → ℕ → Text → Data → Result (Walked Node) RequestFault
-node_read s outermost deeper n name d = do
+abbrev pub node_read : Schema → (unmoved : Bool) → (Bool → Reader) → ℕ → Text → Data → Result (Walked Node) RequestFault
+node_read s unmoved deeper n name d = do
   _ ← own (unless (nat_lt n 64) too_large)
   _ ← own (unless (not (is_reserved name)) reserved_name)
-  command_read s outermost deeper (n + 1) d
+  command_read s unmoved deeper (n + 1) d
 
--- nodes with so many depths left; with none left each node is too deep
-abbrev pub nodes_within : ℕ → Schema → (outermost : Bool) → Reader
-nodes_within zero s outermost n ms = members_read (λ m name d. own (Err too_large)) n ms
-nodes_within (suc left) s outermost n ms = members_read (node_read s outermost (nodes_within left s false)) n ms
+-- nodes with so many depths left, under facets without a block step or under one; with none left each node is too deep
+abbrev pub nodes_within : ℕ → Schema → (unmoved : Bool) → Reader
+nodes_within zero s unmoved n ms = members_read (λ m name d. own (Err too_large)) n ms
+nodes_within (suc left) s unmoved n ms = members_read (node_read s unmoved (nodes_within left s)) n ms
 
 -- ---- the request
 

@@ -1,7 +1,7 @@
--- Where a request has limits, refinement and exclusions.
-use Rattle.std.specs.Prelude.{Bool, true, not, ◌&&◌, ◌||◌, is_some}
+-- Where a request has limits, refinement, block steps and exclusions, and which of its facets ask again.
+use Rattle.std.specs.Prelude.{Bool, true, false, not, ◌&&◌, ◌||◌, is_some, if◌then◌else◌}
 use Rattle.fc_spec.specs.words.Lists.{is_empty}
-use Rattle.fc_spec.specs.requests.Request.{Terms, Kind, terms, Nodes, no_nodes, statistic, facet}
+use Rattle.fc_spec.specs.requests.Request.{BlockStep, stay, DomainChange, Terms, Kind, terms, Nodes, no_nodes, statistic, facet}
 
 -- the terms facet has a limit
 abbrev pub has_limit : Terms → Bool
@@ -17,15 +17,19 @@ abbrev pub is_refining : Kind → Bool
 is_refining (terms t) = t.refine || has_no_limit (terms t)
 is_refining _ = true
 
--- the terms facet has refine and a limit
-abbrev pub asks_again : Terms → Bool
-asks_again t = t.refine && has_limit t
-
 -- no terms facet among the nodes, at any depth, has a limit
 abbrev pub no_limits : Nodes → Bool
 no_limits no_nodes = true
 no_limits (statistic name s rest) = no_limits rest
 no_limits (facet f inner rest) = has_no_limit f.kind && no_limits inner && no_limits rest
+
+-- the change has no block step
+abbrev pub is_stay : BlockStep → Bool
+is_stay stay = true
+is_stay _ = false
+
+abbrev pub stays : DomainChange → Bool
+stays change = is_stay change.block
 
 -- no facet among the nodes, at any depth, excludes a tag
 abbrev pub no_exclusions : Nodes → Bool
@@ -33,8 +37,14 @@ no_exclusions no_nodes = true
 no_exclusions (statistic name s rest) = no_exclusions rest
 no_exclusions (facet f inner rest) = is_empty f.change.exclude && no_exclusions inner && no_exclusions rest
 
--- exclusions stand on outermost facets only
-abbrev pub outermost_exclusions : Nodes → Bool
-outermost_exclusions no_nodes = true
-outermost_exclusions (statistic name s rest) = outermost_exclusions rest
-outermost_exclusions (facet f inner rest) = no_exclusions inner && outermost_exclusions rest
+-- a facet with these nodes nested in it holds an exclusion
+abbrev pub holds_exclusion : Nodes → Bool
+holds_exclusion inner = not (no_exclusions inner)
+
+-- a terms facet with these nodes nested in it has refine and a limit, or has no limit and holds an exclusion
+abbrev pub asks_again : Terms → Nodes → Bool
+asks_again t inner = if has_limit t then t.refine else holds_exclusion inner
+
+-- its chosen values are counted on all shards: it refines or asks again
+abbrev pub counts_all : Terms → Nodes → Bool
+counts_all t inner = t.refine || asks_again t inner

@@ -1,5 +1,5 @@
 -- Requests that are valid for a schema.
-use Rattle.std.specs.Prelude.{◌≡◌, ◌<◌, ◌≤◌, ◌≤ℤ◌, ◌<ℤ◌, ℕ, suc, pos, max, List, [], ◌∷◌, length, Bool, true, false, not, IsTrue, None, IfSome, All}
+use Rattle.std.specs.Prelude.{◌≡◌, ◌<◌, ◌≤◌, ◌≤ℤ◌, ◌<ℤ◌, ℕ, suc, pos, max, List, [], ◌∷◌, length, Bool, true, false, not, ◌&&◌, IsTrue, None, IfSome, All}
 use Rattle.std.specs.List.Sorted.{IsStrictlySortedBy}
 use Rattle.fc_spec.specs.documents.Val.{Text, text_cmp}
 use Rattle.fc_spec.specs.documents.Schema.{Schema, holds_texts}
@@ -9,6 +9,7 @@ use Rattle.fc_spec.specs.queries.FilterReading.{is_tag}
 use Rattle.fc_spec.specs.requests.Request.{Filter, BlockStep, stay, parents, children, DomainChange, SortKey, by_count, by_index, by_statistic, Terms, Range, Stat, Kind, terms, range, query, Facet, Nodes, no_nodes, statistic, facet, Request, stats_of}
 use Rattle.fc_spec.specs.requests.Gaps.{gap_count, last_end}
 use Rattle.fc_spec.specs.requests.StatisticReading.{takes_texts, has_type}
+use Rattle.fc_spec.specs.requests.Shape.{stays}
 
 abbrev pub AreTags : List Text → Type 0
 AreTags tags = All (λ t. IsTrue (is_tag t)) tags
@@ -23,10 +24,10 @@ IsValidStep s stay = Unit {0}
 IsValidStep s (parents q) = IsValidQuery s q
 IsValidStep s (children q) = IsValidQuery s q
 
--- only an outermost facet excludes tags
-pub record IsValidChange (s : Schema) (is_outermost : Bool) (c : DomainChange) : Type 0 where
+-- it excludes no tags where a facet around has a block step
+pub record IsValidChange (s : Schema) (unmoved : Bool) (c : DomainChange) : Type 0 where
   pub tags : AreTags c.exclude
-  pub outermost : is_outermost ≡ false → c.exclude ≡ []
+  pub around : unmoved ≡ false → c.exclude ≡ []
   pub step : IsValidStep s c.block
   pub filters : All (IsValidQuery s) c.filters
 
@@ -82,15 +83,15 @@ node_names (statistic name st rest) = name ∷ node_names rest
 node_names (facet f inner rest) = f.name ∷ node_names rest
 
 -- a facet is valid but for the nodes nested in it
-pub record IsValidFacet (s : Schema) (is_outermost : Bool) (f : Facet) (inner : Nodes) : Type 0 where
-  pub change : IsValidChange s is_outermost f.change
+pub record IsValidFacet (s : Schema) (unmoved : Bool) (f : Facet) (inner : Nodes) : Type 0 where
+  pub change : IsValidChange s unmoved f.change
   pub kind : IsValidKind s inner f.kind
 
--- each node is valid by itself
-abbrev pub AreValidNodes : Schema → (outermost : Bool) → Nodes → Type 0
-AreValidNodes s outermost no_nodes = Unit {0}
-AreValidNodes s outermost (statistic name st rest) = IsValidStatistic s st × AreValidNodes s outermost rest
-AreValidNodes s outermost (facet f inner rest) = IsValidFacet s outermost f inner × AreValidNodes s false inner × AreValidNodes s outermost rest
+-- each node is valid by itself, and by whether a facet around it has a block step
+abbrev pub AreValidNodes : Schema → (unmoved : Bool) → Nodes → Type 0
+AreValidNodes s unmoved no_nodes = Unit {0}
+AreValidNodes s unmoved (statistic name st rest) = IsValidStatistic s st × AreValidNodes s unmoved rest
+AreValidNodes s unmoved (facet f inner rest) = IsValidFacet s unmoved f inner × AreValidNodes s (unmoved && stays f.change) inner × AreValidNodes s unmoved rest
 
 -- inside each facet the names differ and stand in the order of their bytes
 abbrev pub AreOrderedInside : Nodes → Type 0

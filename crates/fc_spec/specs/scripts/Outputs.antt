@@ -9,7 +9,7 @@ use Rattle.fc_spec.specs.requests.RequestFault.{RequestFault}
 use Rattle.fc_spec.specs.scripts.Script.{Script, commits_up_to, commits_before, world}
 use Rattle.fc_spec.specs.scripts.Phases.{Search, searches}
 use Rattle.fc_spec.specs.replies.Reply.{Bucket}
-use Rattle.fc_spec.specs.replies.Distributed.{distributed}
+use Rattle.fc_spec.specs.replies.Replied.{replied}
 use Rattle.fc_spec.specs.scripts.Lines.{reply_line, error_line}
 
 -- the number of a shard is legal: at least its commits in earlier phases and each number that an earlier reply of the session showed, at most its commits up to the end of the phase
@@ -52,6 +52,6 @@ AreLinesOf reply S seen (q ∷ qs) t = IsLineThen reply S seen q.phase q.session
 abbrev pub IsOutputBy : Replies → Script (Result Request RequestFault) → Text → Type 0
 IsOutputBy reply S t = AreLinesOf reply S [] (searches S.lines) t
 
--- the text is an output of the script: with the distributed replies
+-- the text is an output of the script: with what searches print
 abbrev pub IsOutput : Script (Result Request RequestFault) → Text → Type 0
-IsOutput S t = IsOutputBy distributed S t
+IsOutput S t = IsOutputBy replied S t
