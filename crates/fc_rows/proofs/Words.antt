@@ -7,7 +7,7 @@ use Rattle.fc_spec.specs.documents.Val.{Text, Val, text, long}
 use Rattle.fc_spec.specs.documents.Document.{Document, Block}
 use Rattle.fc_spec.specs.queries.Query.{Query, all, is}
 use Rattle.fc_spec.specs.documents.World.{World}
-use Rattle.fc_spec.specs.requests.Request.{Filter, stay, DomainChange, Sort, by_count, by_index, by_statistic, Terms, Range, StatKind, Stat, Kind, Facet, Nodes, Request}
+use Rattle.fc_spec.specs.requests.Request.{Filter, stay, DomainChange, Sort, by_count, by_index, by_statistic, its_buckets, Terms, Range, StatKind, Stat, Kind, Facet, Nodes, Request}
 use Rattle.fc_spec.specs.replies.Exact.{exact}
 use Rattle.fc_spec.specs.replies.Distributed.{distributed}
 use Rattle.fc_spec.specs.replies.Json.{facets_text}
@@ -61,8 +61,10 @@ terms_on field = record {
   missing = false;
   prefix = None;
   refine = false;
+  exact = false;
   overrequest = 5;
   overrefine = 5;
+  show = its_buckets;
 }
 
 -- one with a limit below ten, and one without a limit

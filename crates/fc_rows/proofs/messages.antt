@@ -13,3 +13,8 @@ pub mod ShapedParts
 pub mod MessageParts
 pub mod SeveralWants
 pub mod RefiningInside
+pub mod ExclusionRounds
+pub mod EmptyMissing
+pub mod EmptyGaps
+pub mod RefinedExclusion
+pub mod EmptyAround

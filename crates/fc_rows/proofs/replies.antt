@@ -24,3 +24,7 @@ pub mod SecondStatistic
 pub mod RangeInside
 pub mod Tags
 pub mod StepOrder
+pub mod NestedExclusion
+pub mod TwoExclusions
+pub mod FilterAround
+pub mod StepInside

@@ -1,5 +1,5 @@
 -- Words for small messages, and for what rounds are compared by.
-use Rattle.std.specs.Prelude.{ℕ, List, [], map, nat_le, Bool, codes}
+use Rattle.std.specs.Prelude.{◌≡◌, ℕ, List, [], map, nat_le, Bool, codes}
 use Rattle.std.specs.List.{filter, list_all}
 use Prim.Native.String.{String}
 use Rattle.fc_spec.specs.documents.Val.{Text, text}
@@ -15,6 +15,7 @@ use Rattle.fc_spec.specs.messages.MessageShape.{is_shaped}
 use Rattle.fc_spec.specs.messages.Merged.{merged}
 use Rattle.fc_spec.specs.messages.Rounds.{SentMessage, told_in, next_lacks, search_rounds}
 use Rattle.fc_spec.specs.replies.Json.{facets_text}
+use Rattle.fc_rows.proofs.Words.{BothSay}
 
 -- the key of a text
 abbrev pub key_of : String → Key
@@ -28,9 +29,13 @@ counted n = record { count = n; values = [] }
 abbrev pub leaf : Key → ℕ → Partials → Partials
 leaf key n rest = partial key (counted n) no_rows rest
 
+-- one with the buckets of one facet nested in it
+abbrev pub branch : Key → ℕ → (inside rest : Partials) → Partials
+branch key n inside rest = partial key (counted n) (row inside no_rows) rest
+
 -- a message of one bucket with one node
 abbrev pub around : Key → ℕ → Partials → Partials
-around key n inside = partial key (counted n) (row inside no_rows) no_partials
+around key n inside = branch key n inside no_partials
 
 -- a bucket that is asked for
 abbrev pub want : Way → ℕ → Key → Want
@@ -54,6 +59,10 @@ up_to_round n r W = filter (λ s. nat_le s.round n) (search_rounds r W)
 -- what two shards' messages merge into
 abbrev pub merged_text : Request → List SentMessage → Text
 merged_text r sent = facets_text (merged r 2 (told_in r.nodes sent))
+
+-- the distributed and the exact reply, and what the messages merge into, all have this text
+abbrev pub AllSay : Request → World → Text → Type 0
+AllSay r W t = BothSay r W t × (merged_text r (search_rounds r W) ≡ t)
 
 -- each message has the shape for its ask
 abbrev pub all_shaped : Request → List SentMessage → Bool

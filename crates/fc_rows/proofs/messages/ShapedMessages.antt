@@ -1,14 +1,14 @@
 -- Which messages have the shape that their ask demands: all answers, and none with a key out of order, a value too many, an empty bucket or a statistic too few.
-use Rattle.std.specs.Prelude.{◌≡◌, pos, List, [], ◌∷◌, Bool, true, false, Some, None, refl, codes}
+use Rattle.std.specs.Prelude.{◌≡◌, ℕ, pos, List, [], ◌∷◌, Bool, true, false, Some, None, refl, codes}
 use Rattle.fc_spec.specs.documents.Val.{long}
 use Rattle.fc_spec.specs.queries.Query.{all}
-use Rattle.fc_spec.specs.requests.Request.{sum, min, Terms, terms, query, no_nodes, statistic, facet, Request}
-use Rattle.fc_spec.specs.requests.Buckets.{value, missing, gap, before, between, after, whole}
+use Rattle.fc_spec.specs.requests.Request.{sum, min, Terms, Kind, terms, range, query, no_nodes, statistic, facet, Request}
+use Rattle.fc_spec.specs.requests.Buckets.{Key, value, missing, gap, before, between, after, whole}
 use Rattle.fc_spec.specs.requests.Statistics.{StatValue, number, extreme}
 use Rattle.fc_spec.specs.messages.Message.{Partials, no_partials, partial, Rows, no_rows, row, Ask, first, more}
 use Rattle.fc_spec.specs.messages.MessageShape.{is_shaped}
 use Rattle.fc_spec.specs.messages.Rounds.{search_rounds}
-use Rattle.fc_rows.proofs.Words.{unlimited_on, stat, named, asking}
+use Rattle.fc_rows.proofs.Words.{unlimited_on, range_on, stat, no_change, named, changed, asking}
 use Rattle.fc_rows.proofs.messages.MessageWords.{key_of, counted, leaf, around, want, all_shaped}
 use Rattle.fc_rows.proofs.replies.ShortCount as short_count
 use Rattle.fc_rows.proofs.replies.NestedRefining as nested_refining
@@ -232,3 +232,22 @@ want_too_many = refl
 -- read with the wanted node: nothing is nested in it
 pub want_with_list : wants_shaped (partial (key_of "a") (counted 1) (row no_partials no_rows) (leaf (key_of "c") 3 no_partials)) ≡ false
 want_with_list = refl
+
+-- ---- facets that hold an exclusion
+
+-- a facet in which another one excludes a tag
+abbrev pub holding : Kind → Request
+holding kind = asking (facet (named "c" kind) (facet (changed "x" (record no_change { exclude = codes "T" ∷ [] }) (terms (unlimited_on 1))) no_nodes no_nodes) no_nodes)
+
+-- one bucket of it, with nothing inside
+abbrev pub holding_shaped : Kind → Key → ℕ → Bool
+holding_shaped kind key n = is_shaped (holding kind) first (around whole 0 (partial key (counted n) (row no_partials no_rows) no_partials))
+
+pub gap_of_nothing : holding_shaped (range (range_on 1 (pos 0) (pos 8) (pos 4))) (gap 0) 0 ≡ true
+gap_of_nothing = refl
+
+pub missing_of_nothing : holding_shaped (terms (record (unlimited_on 1) { missing = true })) missing 0 ≡ true
+missing_of_nothing = refl
+
+pub value_of_nothing : holding_shaped (terms (unlimited_on 1)) (key_of "a") 0 ≡ false
+value_of_nothing = refl

@@ -1,6 +1,6 @@
 -- The parts of a message's shape: the buckets of a facet without what is nested in them, however many; what is nested in each of them; another bound on the number of values.
 use Rattle.std.specs.Prelude.{◌≡◌, ℕ, pos, [], ◌∷◌, Bool, true, false, Option, None, Some, refl, codes}
-use Rattle.fc_spec.specs.requests.Request.{sum, Terms, terms, no_nodes, facet, Request}
+use Rattle.fc_spec.specs.requests.Request.{sum, Terms, terms, no_nodes, statistic, facet, Request}
 use Rattle.fc_spec.specs.requests.Buckets.{missing, whole}
 use Rattle.fc_spec.specs.requests.Statistics.{number}
 use Rattle.fc_spec.specs.messages.Message.{Partials, no_partials, partial, Rows, no_rows, row, first}
@@ -15,7 +15,7 @@ abbrev pub one_value : Terms
 one_value = short_count.first_alone
 
 abbrev pub listed : Terms → Partials → Bool
-listed t ps = buckets_fit (terms t) (stat sum 2 ∷ []) ps None
+listed t ps = buckets_fit (terms t) (statistic (codes "s") (stat sum 2) no_nodes) ps None
 
 pub two_of_one : listed one_value (summed (key_of "a") no_rows (summed (key_of "b") no_rows no_partials)) ≡ true
 two_of_one = refl

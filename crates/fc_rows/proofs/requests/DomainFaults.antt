@@ -37,7 +37,7 @@ pub keys_first :
 unfolding walked
 keys_first = (refl, refl)
 
--- tags that are none before tags inside, and those before two block members
+-- tags that are none before tags under a block step, and those before two block members
 pub tags_before_depth :
     InnerFails "{'excludeTags':'A B'}" bad_parameter
     × InnerFails "{'excludeTags':'A','blockParent':'*:*','blockChildren':'*:*'}" nested_exclude

@@ -163,9 +163,11 @@ pub reserved_names :
 unfolding walked
 reserved_names = (refl, refl, refl, refl)
 
--- only an outermost facet excludes tags
+-- no facet under a block step excludes tags
 pub exclusions_inside :
     InnerFails "{'excludeTags':'A'}" nested_exclude
     × InnerFails "{'excludeTags':['A','B']}" nested_exclude
+    × Fails "{'facet':{'x':{'type':'query','q':'*:*','domain':{'blockParent':'*:*'},'facet':{'y':{'type':'query','q':'*:*','facet':{'z':{'type':'terms','field':'cat','domain':{'excludeTags':'A'}}}}}}}}" ("x" ∷ "y" ∷ "z" ∷ []) nested_exclude
+    × Fails "{'facet':{'x':{'type':'query','q':'*:*','facet':{'y':{'type':'query','q':'*:*','domain':{'excludeTags':'A','blockParent':'*:*'},'facet':{'z':{'type':'terms','field':'cat','domain':{'excludeTags':'A'}}}}}}}}" ("x" ∷ "y" ∷ "z" ∷ []) nested_exclude
 unfolding walked
-exclusions_inside = (refl, refl)
+exclusions_inside = (refl, refl, refl, refl)

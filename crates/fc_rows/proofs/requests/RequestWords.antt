@@ -70,9 +70,13 @@ domain_with t = codes "{'type':'query','q':'*:*','domain':" ++ codes t ++ codes 
 abbrev pub DomainFails : String → QFault → Type 0
 DomainFails t fault = FailsAt (commanding (domain_with t)) ("x" ∷ []) fault
 
--- the facet `y` inside `x` with this domain change
+-- the facet `y` with this domain change, inside `x` with that one
+abbrev pub inner_with : (outer inner : String) → Text
+inner_with outer inner = commanding (codes "{'type':'query','q':'*:*','domain':" ++ codes outer ++ codes ",'facet':{'y':" ++ domain_with inner ++ codes "}}")
+
+-- inside `x` with a block step
 abbrev pub InnerFails : String → QFault → Type 0
-InnerFails t fault = FailsAt (commanding (codes "{'type':'query','q':'*:*','facet':{'y':" ++ domain_with t ++ codes "}}")) ("x" ∷ "y" ∷ []) fault
+InnerFails t fault = FailsAt (inner_with "{'blockChildren':'*:*'}" t) ("x" ∷ "y" ∷ []) fault
 
 -- the JSON of a text
 abbrev pub json_in : String → Option Data

@@ -4,7 +4,7 @@ use Prim.Native.String.{String}
 use Rattle.fc_spec.specs.documents.Schema.{FieldType, string, strings, plong, Field}
 use Rattle.fc_spec.specs.queries.Query.{has}
 use Rattle.fc_spec.specs.requests.Request.{Request}
-use Rattle.fc_spec.specs.requests.RequestFault.{QFault, mixed_operators, unknown_field, unknown_sort, wrong_field_type, reserved_name}
+use Rattle.fc_spec.specs.requests.RequestFault.{QFault, mixed_operators, unknown_field, unknown_sort, wrong_field_type, reserved_name, nested_exclude}
 use Rattle.fc_spec.specs.requests.RequestReading.{request_of}
 use Rattle.fc_rows.proofs.requests.RequestWords.{json_in, walked}
 use Rattle.fc_rows.proofs.Words.{terms_on, limited_on}
@@ -22,6 +22,8 @@ use Rattle.fc_rows.proofs.replies.MissingBucket as missing_bucket
 use Rattle.fc_rows.proofs.replies.WideSum as wide_sum
 use Rattle.fc_rows.proofs.replies.RootCounts as root_counts
 use Rattle.fc_rows.proofs.replies.Exclusions as exclusions
+use Rattle.fc_rows.proofs.replies.NestedExclusion as nested_exclusion
+use Rattle.fc_rows.proofs.replies.StepInside as step_inside
 use Rattle.fc_rows.proofs.documents.ByteOrder as byte_order
 use Rattle.fc_rows.proofs.replies.Demo as demo
 
@@ -141,3 +143,20 @@ pub faults :
     × FailsFor colored "{'query':'color:a AND size:1 OR size:2'}" [] mixed_operators
 unfolding walked
 faults = (refl, refl, refl, refl, refl)
+
+-- ---- exclusions inside
+abbrev brands_and_colors : List Field
+brands_and_colors = field "brand" string ∷ field "color" string ∷ []
+
+pub colors_of_brands :
+    Says brands_and_colors "{'filter':'{!tag=C}color:red','facet':{'brands':{'type':'terms','field':'brand','limit':-1,'facet':{'colors':{'type':'terms','field':'color','domain':{'excludeTags':'C'}}}}}}" nested_exclusion.request
+    × FailsFor brands_and_colors "{'filter':'{!tag=C}color:red','facet':{'brands':{'type':'terms','field':'brand','limit':-1,'domain':{'blockChildren':'brand:acme'},'facet':{'colors':{'type':'terms','field':'color','domain':{'excludeTags':'C'}}}}}}" ("brands" ∷ "colors" ∷ []) nested_exclude
+unfolding walked
+colors_of_brands = (refl, refl)
+
+-- a step of the facet's own beside its exclusion is no step around it
+pub step_of_its_own : Says (field "brand" string ∷ field "color" string ∷ field "kind" string ∷ [])
+    "{'query':'kind:p','filter':'{!tag=T}brand:acme','facet':{'kinds':{'type':'terms','field':'kind','limit':-1,'facet':{'colors':{'type':'terms','field':'color','domain':{'excludeTags':'T','blockChildren':'kind:p'}}}}}}"
+    step_inside.request
+unfolding walked
+step_of_its_own = refl
