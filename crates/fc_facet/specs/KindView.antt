@@ -1,6 +1,7 @@
 -- What facets of each kind and domain changes stand for in the definitions.
-use Rattle.std.specs.Prelude.{map}
+use Rattle.std.specs.Prelude.{false, map}
 use Rattle.fc_spec.specs.requests.Request as definition
+use Rattle.fc_spec.specs.requests.Request.{its_buckets}
 use Rattle.fc_query.specs.QueryView.{query_view}
 use Rattle.fc_facet.specs.declared.domain.Domain.{Domain}
 use Rattle.fc_facet.specs.declared.domain.BlockStep.{BlockStep}
@@ -37,8 +38,10 @@ terms_view t = record {
   missing = t.missing;
   prefix = t.prefix;
   refine = t.refine;
+  exact = false;
   overrequest = t.overrequest;
   overrefine = t.overrefine;
+  show = its_buckets;
 }
 
 abbrev pub range_view : Range → definition.Range

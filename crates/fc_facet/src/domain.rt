@@ -1,4 +1,8 @@
 // Domain changes.
+ghost use Rattle.std.specs.Prelude.{◌≡◌};
+ghost use Rattle.fc_spec.specs.requests.Shape.{stays as stays_of};
+ghost use Rattle.fc_facet.specs.KindView.{domain_view};
+
 use fc_base::Name;
 use fc_query::Query;
 
@@ -6,8 +10,9 @@ use fc_query::Query;
 /// parents, then its own filters. (Guide: JSON Faceting Domain Changes)
 #[derive(Debug, Drop, PartialEq, Eq)]
 pub struct Domain {
-    /// Where there are any, the domain begins with the documents of the request's query and of the filters
-    /// without one of these tags.
+    /// Where there are any, the domain begins with the documents of the request's query and of the filters that have
+    /// none of these tags and none that a facet around excludes; inside facets, with those of them that match the
+    /// filters of each facet around and are in its bucket.
     pub exclude: Vec<Name>,
     pub block: BlockStep,
     /// What is kept must match each of these.
@@ -22,4 +27,13 @@ pub enum BlockStep {
     Parents(Query),
     /// To the children, from the parents that match.
     Children(Query),
+}
+
+impl Domain {
+    /// Whether it has no block step.
+    pub fn stays(&self) -> bool
+        ensures { result ≡ stays_of (domain_view self.now) }
+    {
+        matches!(self.block, BlockStep::Stay)
+    }
 }

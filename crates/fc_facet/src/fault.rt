@@ -51,7 +51,7 @@ pub enum QFault {
     /// A facet is named `count` or `val`.
     #[error("reserved-name")]
     ReservedName,
-    /// A facet that is not an outermost one excludes tags.
+    /// A facet inside one with a block step excludes tags.
     #[error("nested-exclude")]
     NestedExclude,
     /// There are more than 64 facets and statistics, or more than eight around each other, or a range has more than 10,000

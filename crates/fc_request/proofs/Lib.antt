@@ -1,4 +1,5 @@
 pub mod NamedSorts
+pub mod NestedDecide
 pub mod NodeAnswers
 pub mod NodeStatistics
 pub mod NodeWalk

@@ -1,5 +1,5 @@
 -- What is answered for a node, from what its steps answered.
-use Rattle.std.proofs.Common.{◌≡◌, ℕ, ◌+◌, ◌-◌, ◌∙◌, ap, sym, subst, List, [], ◌∷◌, ◌++◌, Bool, false, map, Option, Result, Ok, Err, MatchResult}
+use Rattle.std.proofs.Common.{◌≡◌, ℕ, ◌+◌, ◌-◌, ◌∙◌, ap, sym, subst, List, [], ◌∷◌, ◌++◌, Bool, map, Option, Result, Ok, Err, MatchResult}
 use Rattle.std.proofs.lemmas.List.{map-append}
 use Rattle.serde_json.specs.Data.{Data, Members, member}
 use Rattle.fc_spec.specs.documents.Val.{Text}
@@ -15,7 +15,7 @@ use Rattle.fc_request.specs.declared.fault.RequestFault as code_fault
 use Rattle.fc_request.specs.declared.node.Node as code_node
 use Rattle.fc_request.specs.FaultView.{request_fault_view}
 use Rattle.fc_request.specs.NodeView.{Part, node_view}
-use Rattle.fc_request.specs.Heads.{KindHead, Head, statistic_head, facet_head, node_head, kind_behind, facet_behind, walked, inner_nodes, resumed, node_within}
+use Rattle.fc_request.specs.Heads.{KindHead, Head, statistic_head, facet_head, node_head, kind_behind, facet_behind, walked, inner_nodes, under, resumed, node_within}
 use Rattle.fc_request.proofs.NodeWalk.{of_node, behind, behind-next}
 
 abbrev Refused : Type 0
@@ -26,15 +26,15 @@ pub refused : {A B V W : Type 0} (first : A → V) (view : B → W) (refusal : R
 refused first view Memory r next h = tt
 refused first view (Fault f) r next h = ap (λ r. r >>= next) h
 
-pub refused_node : {A B : Type 0} (first : A → Head) (view : B → Walked Node) (refusal : Refused) (left n : ℕ) (s : Schema) (outermost : Bool) (name : Text) (d : Data) → Answers first request_fault_view (Err refusal) (own (node_head left n s outermost name d)) → Answers view request_fault_view (Err refusal) (node_within left s outermost n name d)
-refused_node first view refusal left n s outermost name d h =
-    rw (of_node left n s outermost name d) (refused first view refusal (own (node_head left n s outermost name d)) (resumed (nodes_within (left - 1) s false) (n + 1)) h)
+pub refused_node : {A B : Type 0} (first : A → Head) (view : B → Walked Node) (refusal : Refused) (left n : ℕ) (s : Schema) (unmoved : Bool) (name : Text) (d : Data) → Answers first request_fault_view (Err refusal) (own (node_head left n s unmoved name d)) → Answers view request_fault_view (Err refusal) (node_within left s unmoved n name d)
+refused_node first view refusal left n s unmoved name d h =
+    rw (of_node left n s unmoved name d) (refused first view refusal (own (node_head left n s unmoved name d)) (resumed (under (nodes_within (left - 1) s) unmoved) (n + 1)) h)
 
 -- a statistic
-pub statistic_within : (left n : ℕ) (s : Schema) (outermost : Bool) (name : Text) (d : Data) (st : Stat) (p : Part) → own (node_head left n s outermost name d) ≡ Ok (statistic_head st) → p ≡ (name, of_statistic st) → node_within left s outermost n name d ≡ Ok (walked p.1 (n + 1))
-statistic_within left n s outermost name d st p h e =
-    of_node left n s outermost name d
-    ∙ ap (λ r. r >>= resumed (nodes_within (left - 1) s false) (n + 1)) h
+pub statistic_within : (left n : ℕ) (s : Schema) (unmoved : Bool) (name : Text) (d : Data) (st : Stat) (p : Part) → own (node_head left n s unmoved name d) ≡ Ok (statistic_head st) → p ≡ (name, of_statistic st) → node_within left s unmoved n name d ≡ Ok (walked p.1 (n + 1))
+statistic_within left n s unmoved name d st p h e =
+    of_node left n s unmoved name d
+    ∙ ap (λ r. r >>= resumed (under (nodes_within (left - 1) s) unmoved) (n + 1)) h
     ∙ ap (λ q. Ok (walked q.1 (n + 1))) (sym e)
 
 -- a facet over nodes that were read
@@ -64,14 +64,14 @@ with_nodes inner_view m name change kind whole deeper (Err (Fault f)) result cut
     subst (λ r. Answers (λ node. walked (node_view node).1 m) request_fault_view r whole) (sym with_them) (cut ∙ ap (rest kind change) inner)
 
 -- a facet, whose nested nodes were read or refused
-pub facet_within : {B : Type 0} (inner_view : B → Nodes) (left n m : ℕ) (s : Schema) (outermost : Bool) (name : Text) (d : Data) (change : DomainChange) (kind : KindHead) (members : Option Members) (nodes : Result B Refused) (result : Result code_node.Node Refused)
-    → own (node_head left n s outermost name d) ≡ Ok (facet_head change kind members)
-    → Answers (λ nodes. walked (inner_view nodes) m) request_fault_view nodes (inner_nodes (nodes_within (left - 1) s false) (n + 1) members)
+pub facet_within : {B : Type 0} (inner_view : B → Nodes) (left n m : ℕ) (s : Schema) (unmoved : Bool) (name : Text) (d : Data) (change : DomainChange) (kind : KindHead) (members : Option Members) (nodes : Result B Refused) (result : Result code_node.Node Refused)
+    → own (node_head left n s unmoved name d) ≡ Ok (facet_head change kind members)
+    → Answers (λ nodes. walked (inner_view nodes) m) request_fault_view nodes (inner_nodes (under (nodes_within (left - 1) s) unmoved change) (n + 1) members)
     → MatchResult nodes (λ nodes. Answers node_view request_fault_view result (own (facet_behind name change kind (inner_view nodes)))) (λ refusal. result ≡ Err refusal)
-    → Answers (λ node. walked (node_view node).1 m) request_fault_view result (node_within left s outermost n name d)
-facet_within inner_view left n m s outermost name d change kind members nodes result h inner with_them =
-    with_nodes inner_view m name change kind (node_within left s outermost n name d) (inner_nodes (nodes_within (left - 1) s false) (n + 1) members) nodes result
-    (of_node left n s outermost name d ∙ ap (λ r. r >>= resumed (nodes_within (left - 1) s false) (n + 1)) h)
+    → Answers (λ node. walked (node_view node).1 m) request_fault_view result (node_within left s unmoved n name d)
+facet_within inner_view left n m s unmoved name d change kind members nodes result h inner with_them =
+    with_nodes inner_view m name change kind (node_within left s unmoved n name d) (inner_nodes (under (nodes_within (left - 1) s) unmoved change) (n + 1) members) nodes result
+    (of_node left n s unmoved name d ∙ ap (λ r. r >>= resumed (under (nodes_within (left - 1) s) unmoved) (n + 1)) h)
     inner with_them
 
 -- one more node behind those that were read

@@ -1,5 +1,5 @@
 -- The walk of a node is its head and what is read behind it; nodes are read one behind another.
-use Rattle.std.proofs.Common.{◌≡◌, ℕ, zero, suc, ◌+◌, ◌-◌, ap, sym, refl, arith, List, [], ◌∷◌, ◌++◌, Bool, true, false, not, Option, None, Some, Result, Ok, Err, ok_or}
+use Rattle.std.proofs.Common.{◌≡◌, ℕ, zero, suc, ◌+◌, ◌-◌, ap, sym, refl, arith, List, [], ◌∷◌, ◌++◌, Bool, true, not, Option, None, Some, Result, Ok, Err, ok_or}
 use Rattle.std.specs.Prelude.{codes, nat_lt}
 use Rattle.std.proofs.lemmas.Bool.{lt-ltb}
 use Rattle.serde_json.specs.Data.{Data, null, boolean, number, string, array, object, Members, member}
@@ -16,7 +16,7 @@ use Rattle.fc_spec.specs.requests.FacetReading.{terms_parts, range_parts, query_
 use Rattle.fc_spec.specs.requests.RequestReading.{Node, Walked, Reader, members_read, with_node, is_reserved, inner_read, own, facet_read, terms_read, statistic_read, FacetType, terms_type, range_type, query_type, func_type, parameters, type_of, typed_read, command_read, nodes_within}
 use Rattle.fc_spec.specs.words.Walks.{◌>>=◌, unless}
 use Rattle.fc_request.specs.NodeView.{Part, linked}
-use Rattle.fc_request.specs.Heads.{whole, unsorted, Head, facet_head, some_object, facet_of, statistic_before, typed_head, object_head, command_head, node_head, walked, inner_nodes, resumed, node_within}
+use Rattle.fc_request.specs.Heads.{whole, unsorted, Head, facet_head, some_object, facet_of, statistic_before, typed_head, object_head, command_head, node_head, walked, inner_nodes, under, resumed, node_within}
 
 -- ---- steps
 
@@ -31,80 +31,81 @@ same_steps (Ok a) f g h = h a
 same_steps (Err e) f g h = refl
 
 -- the nested nodes, and what follows them
-inner_step : (deeper : Reader) (n : ℕ) (o : Option Data) (k : Walked Nodes → Result (Walked Node) RequestFault) (c : Option Members → Head) → ((i : Option Members) → resumed deeper n (c i) ≡ (inner_nodes deeper n i >>= k)) → (inner_read deeper n o >>= k) ≡ (own (said_or some_object None o >>= (λ i. Ok (c i))) >>= resumed deeper n)
-inner_step deeper n None k c h = sym (h None)
-inner_step deeper n (Some d) k c h = of_object (as_object d)
+inner_step : (reader : Reader) (deeper : DomainChange → Reader) (n : ℕ) (o : Option Data) (k : Walked Nodes → Result (Walked Node) RequestFault) (c : Option Members → Head) → ((i : Option Members) → resumed deeper n (c i) ≡ (inner_nodes reader n i >>= k))
+    → (inner_read reader n o >>= k) ≡ (own (said_or some_object None o >>= (λ i. Ok (c i))) >>= resumed deeper n)
+inner_step reader deeper n None k c h = sym (h None)
+inner_step reader deeper n (Some d) k c h = of_object (as_object d)
   where
-    of_object : (o : Option Members) → ((ok_or o (record { at = []; fault = not_an_object }) >>= deeper n) >>= k) ≡ (own ((ok_or o not_an_object >>= (λ ms. Ok (Some ms))) >>= (λ i. Ok (c i))) >>= resumed deeper n)
+    of_object : (o : Option Members) → ((ok_or o (record { at = []; fault = not_an_object }) >>= reader n) >>= k) ≡ (own ((ok_or o not_an_object >>= (λ ms. Ok (Some ms))) >>= (λ i. Ok (c i))) >>= resumed deeper n)
     of_object None = refl
     of_object (Some ms) = sym (h (Some ms))
 
 -- ---- by type
 
-of_kind : (s : Schema) (outermost : Bool) (deeper : Reader) (n : ℕ) (ms : Members) (k : Kind) → (do
-  change ← own (change_in s outermost ms)
-  inner ← inner_read deeper n (get_member (codes "facet") ms)
-  Ok (facet_read change k inner)) ≡ (own (facet_of s outermost (whole k) ms) >>= resumed deeper n)
-of_kind s outermost deeper n ms k =
-    step (resumed deeper n) (change_in s outermost ms) _ _ (λ change.
-    inner_step deeper n (get_member (codes "facet") ms) (λ inner. Ok (facet_read change k inner)) (λ i. facet_head change (whole k) i) (λ i. refl))
+of_kind : (s : Schema) (unmoved : Bool) (deeper : Bool → Reader) (n : ℕ) (ms : Members) (k : Kind) → (do
+  change ← own (change_in s unmoved ms)
+  inner ← inner_read (under deeper unmoved change) n (get_member (codes "facet") ms)
+  Ok (facet_read change k inner)) ≡ (own (facet_of s unmoved (whole k) ms) >>= resumed (under deeper unmoved) n)
+of_kind s unmoved deeper n ms k =
+    step (resumed (under deeper unmoved) n) (change_in s unmoved ms) _ _ (λ change.
+    inner_step (under deeper unmoved change) (under deeper unmoved) n (get_member (codes "facet") ms) (λ inner. Ok (facet_read change k inner)) (λ i. facet_head change (whole k) i) (λ i. refl))
 
-of_terms : (s : Schema) (outermost : Bool) (deeper : Reader) (n : ℕ) (ms : Members) → terms_read s outermost deeper n ms ≡ (own (typed_head terms_type s outermost ms) >>= resumed deeper n)
-of_terms s outermost deeper n ms =
-    step (resumed deeper n) (terms_parts s ms) _ _ (λ t.
-    step (resumed deeper n) (change_in s outermost ms) _ _ (λ change.
-    inner_step deeper n (get_member (codes "facet") ms)
+of_terms : (s : Schema) (unmoved : Bool) (deeper : Bool → Reader) (n : ℕ) (ms : Members) → terms_read s unmoved deeper n ms ≡ (own (typed_head terms_type s unmoved ms) >>= resumed (under deeper unmoved) n)
+of_terms s unmoved deeper n ms =
+    step (resumed (under deeper unmoved) n) (terms_parts s ms) _ _ (λ t.
+    step (resumed (under deeper unmoved) n) (change_in s unmoved ms) _ _ (λ change.
+    inner_step (under deeper unmoved change) (under deeper unmoved) n (get_member (codes "facet") ms)
     (λ inner. own (sort_in inner.read ms) >>= (λ sort. Ok (facet_read change (terms (record t { sort = sort })) inner)))
     (λ i. facet_head change (unsorted t (get_member (codes "sort") ms)) i)
-    (λ i. same_steps (inner_nodes deeper n i) _ _ (λ w. sorted change t w (sort_in w.read ms)))))
+    (λ i. same_steps (inner_nodes (under deeper unmoved change) n i) _ _ (λ w. sorted change t w (sort_in w.read ms)))))
   where
     sorted : (change : DomainChange) (t : Terms) (w : Walked Nodes) (r : Result Sort QFault) → (own (r >>= (λ sort. Ok (terms (record t { sort = sort })))) >>= (λ k. Ok (facet_read change k w))) ≡ (own r >>= (λ sort. Ok (facet_read change (terms (record t { sort = sort })) w)))
     sorted change t w (Ok sort) = refl
     sorted change t w (Err e) = refl
 
-of_statistic_text : (s : Schema) (deeper : Reader) (n : ℕ) (t : Text) → statistic_read s n t ≡ (own (statistic_before s t) >>= resumed deeper n)
+of_statistic_text : (s : Schema) (deeper : DomainChange → Reader) (n : ℕ) (t : Text) → statistic_read s n t ≡ (own (statistic_before s t) >>= resumed deeper n)
 of_statistic_text s deeper n t = step (resumed deeper n) (statistic_of s t) _ _ (λ st. refl)
 
-of_type : (kind : FacetType) (s : Schema) (outermost : Bool) (deeper : Reader) (n : ℕ) (ms : Members) → typed_read kind s outermost deeper n ms ≡ (own (typed_head kind s outermost ms) >>= resumed deeper n)
-of_type terms_type s outermost deeper n ms = of_terms s outermost deeper n ms
-of_type range_type s outermost deeper n ms = step (resumed deeper n) (range_parts s ms) _ _ (λ g. of_kind s outermost deeper n ms (range g))
-of_type query_type s outermost deeper n ms = step (resumed deeper n) (query_part s ms) _ _ (λ q. of_kind s outermost deeper n ms q)
-of_type func_type s outermost deeper n ms =
-    step (resumed deeper n) (required (codes "func") text_in ms) _ _ (λ t. of_statistic_text s deeper n t)
+of_type : (kind : FacetType) (s : Schema) (unmoved : Bool) (deeper : Bool → Reader) (n : ℕ) (ms : Members) → typed_read kind s unmoved deeper n ms ≡ (own (typed_head kind s unmoved ms) >>= resumed (under deeper unmoved) n)
+of_type terms_type s unmoved deeper n ms = of_terms s unmoved deeper n ms
+of_type range_type s unmoved deeper n ms = step (resumed (under deeper unmoved) n) (range_parts s ms) _ _ (λ g. of_kind s unmoved deeper n ms (range g))
+of_type query_type s unmoved deeper n ms = step (resumed (under deeper unmoved) n) (query_part s ms) _ _ (λ q. of_kind s unmoved deeper n ms q)
+of_type func_type s unmoved deeper n ms =
+    step (resumed (under deeper unmoved) n) (required (codes "func") text_in ms) _ _ (λ t. of_statistic_text s (under deeper unmoved) n t)
 
 -- ---- a node
 
-of_members : (s : Schema) (outermost : Bool) (deeper : Reader) (n : ℕ) (ms : Members) → (do
+of_members : (s : Schema) (unmoved : Bool) (deeper : Bool → Reader) (n : ℕ) (ms : Members) → (do
   kind ← own (type_of ms)
   _ ← own (check_names (parameters kind) ms)
-  typed_read kind s outermost deeper n ms) ≡ (own (object_head s outermost ms) >>= resumed deeper n)
-of_members s outermost deeper n ms =
-    step (resumed deeper n) (type_of ms) _ _ (λ kind.
-    step (resumed deeper n) (check_names (parameters kind) ms) _ _ (λ known. of_type kind s outermost deeper n ms))
+  typed_read kind s unmoved deeper n ms) ≡ (own (object_head s unmoved ms) >>= resumed (under deeper unmoved) n)
+of_members s unmoved deeper n ms =
+    step (resumed (under deeper unmoved) n) (type_of ms) _ _ (λ kind.
+    step (resumed (under deeper unmoved) n) (check_names (parameters kind) ms) _ _ (λ known. of_type kind s unmoved deeper n ms))
 
-of_command : (s : Schema) (outermost : Bool) (deeper : Reader) (n : ℕ) (d : Data) → command_read s outermost deeper n d ≡ (own (command_head s outermost d) >>= resumed deeper n)
-of_command s outermost deeper n (string t) = of_statistic_text s deeper n t
-of_command s outermost deeper n (object ms) = of_members s outermost deeper n ms
-of_command s outermost deeper n null = refl
-of_command s outermost deeper n (boolean b) = refl
-of_command s outermost deeper n (number x) = refl
-of_command s outermost deeper n (array ds) = refl
+of_command : (s : Schema) (unmoved : Bool) (deeper : Bool → Reader) (n : ℕ) (d : Data) → command_read s unmoved deeper n d ≡ (own (command_head s unmoved d) >>= resumed (under deeper unmoved) n)
+of_command s unmoved deeper n (string t) = of_statistic_text s (under deeper unmoved) n t
+of_command s unmoved deeper n (object ms) = of_members s unmoved deeper n ms
+of_command s unmoved deeper n null = refl
+of_command s unmoved deeper n (boolean b) = refl
+of_command s unmoved deeper n (number x) = refl
+of_command s unmoved deeper n (array ds) = refl
 
-pub of_node : (left n : ℕ) (s : Schema) (outermost : Bool) (name : Text) (d : Data) → node_within left s outermost n name d ≡ (own (node_head left n s outermost name d) >>= resumed (nodes_within (left - 1) s false) (n + 1))
-of_node zero n s outermost name d = refl
-of_node (suc left) n s outermost name d =
+pub of_node : (left n : ℕ) (s : Schema) (unmoved : Bool) (name : Text) (d : Data) → node_within left s unmoved n name d ≡ (own (node_head left n s unmoved name d) >>= resumed (under (nodes_within (left - 1) s) unmoved) (n + 1))
+of_node zero n s unmoved name d = refl
+of_node (suc left) n s unmoved name d =
     let deep : nat_lt 0 (suc left) ≡ true = lt-ltb 0 (suc left) (omega arith) in
     let less : suc left - 1 ≡ left = omega arith in
     rw (deep, less)
-    (step (resumed (nodes_within left s false) (n + 1)) (unless (nat_lt n 64) too_large) _ _ (λ few.
-    step (resumed (nodes_within left s false) (n + 1)) (unless (not (is_reserved name)) reserved_name) _ _ (λ free.
-    of_command s outermost (nodes_within left s false) (n + 1) d)))
+    (step (resumed (under (nodes_within left s) unmoved) (n + 1)) (unless (nat_lt n 64) too_large) _ _ (λ few.
+    step (resumed (under (nodes_within left s) unmoved) (n + 1)) (unless (not (is_reserved name)) reserved_name) _ _ (λ free.
+    of_command s unmoved (nodes_within left s) (n + 1) d)))
 
 -- ---- nodes, one behind another
 
-pub of_nodes : (left : ℕ) (s : Schema) (outermost : Bool) (n : ℕ) (ms : Members) → nodes_within left s outermost n ms ≡ members_read (node_within left s outermost) n ms
-of_nodes zero s outermost n ms = refl
-of_nodes (suc left) s outermost n ms = refl
+pub of_nodes : (left : ℕ) (s : Schema) (unmoved : Bool) (n : ℕ) (ms : Members) → nodes_within left s unmoved n ms ≡ members_read (node_within left s unmoved) n ms
+of_nodes zero s unmoved n ms = refl
+of_nodes (suc left) s unmoved n ms = refl
 
 -- these nodes, and then others
 abbrev pub linked_before : List Part → Nodes → Nodes

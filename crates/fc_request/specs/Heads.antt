@@ -1,5 +1,5 @@
 -- What a node says before the nodes nested in it are read, and what is read behind them: the walk of requests, cut at its recursion.
-use Rattle.std.specs.Prelude.{ℕ, zero, suc, List, [], ◌∷◌, codes, Bool, true, false, not, ◌&&◌, nat_lt, Option, None, Some, ok_or, Result, Ok, Err}
+use Rattle.std.specs.Prelude.{ℕ, zero, suc, List, [], ◌∷◌, codes, Bool, true, not, ◌&&◌, nat_lt, Option, None, Some, ok_or, Result, Ok, Err}
 use Rattle.serde_json.specs.Data.{Data, string, Members}
 use Rattle.serde_json.specs.Find.{as_object, get_member}
 use Rattle.fc_spec.specs.documents.Val.{Text}
@@ -13,6 +13,7 @@ use Rattle.fc_spec.specs.requests.DomainReading.{change_in, text_query}
 use Rattle.fc_spec.specs.requests.SortReading.{sort_of, default_sort}
 use Rattle.fc_spec.specs.requests.FacetReading.{terms_parts, range_parts, query_part}
 use Rattle.fc_spec.specs.requests.RequestReading.{Node, of_statistic, of_facet, Walked, Reader, is_reserved, own, facet_read, FacetType, terms_type, range_type, query_type, func_type, parameters, type_of, node_read, nodes_within, inner_read, filters_in, zero_in}
+use Rattle.fc_spec.specs.requests.Shape.{stays}
 use Rattle.fc_spec.specs.words.Walks.{◌>>=◌, unless}
 
 -- a kind that is whole, or a terms facet whose sort, as it is written, is read last
@@ -36,9 +37,9 @@ some_object d = do
 abbrev pub inner_members : Members → Result (Option Members) QFault
 inner_members ms = optional (codes "facet") some_object None ms
 
-abbrev pub facet_of : Schema → (outermost : Bool) → KindHead → Members → Result Head QFault
-facet_of s outermost kind ms = do
-  change ← change_in s outermost ms
+abbrev pub facet_of : Schema → (unmoved : Bool) → KindHead → Members → Result Head QFault
+facet_of s unmoved kind ms = do
+  change ← change_in s unmoved ms
   inner ← inner_members ms
   Ok (facet_head change kind inner)
 
@@ -52,36 +53,36 @@ func_head s ms = do
   t ← required (codes "func") text_in ms
   statistic_before s t
 
-abbrev pub typed_head : FacetType → Schema → (outermost : Bool) → Members → Result Head QFault
-typed_head terms_type s outermost ms = do
+abbrev pub typed_head : FacetType → Schema → (unmoved : Bool) → Members → Result Head QFault
+typed_head terms_type s unmoved ms = do
   t ← terms_parts s ms
-  facet_of s outermost (unsorted t (get_member (codes "sort") ms)) ms
-typed_head range_type s outermost ms = do
+  facet_of s unmoved (unsorted t (get_member (codes "sort") ms)) ms
+typed_head range_type s unmoved ms = do
   g ← range_parts s ms
-  facet_of s outermost (whole (range g)) ms
-typed_head query_type s outermost ms = do
+  facet_of s unmoved (whole (range g)) ms
+typed_head query_type s unmoved ms = do
   q ← query_part s ms
-  facet_of s outermost (whole q) ms
-typed_head func_type s outermost ms = func_head s ms
+  facet_of s unmoved (whole q) ms
+typed_head func_type s unmoved ms = func_head s ms
 
-abbrev pub object_head : Schema → (outermost : Bool) → Members → Result Head QFault
-object_head s outermost ms = do
+abbrev pub object_head : Schema → (unmoved : Bool) → Members → Result Head QFault
+object_head s unmoved ms = do
   kind ← type_of ms
   _ ← check_names (parameters kind) ms
-  typed_head kind s outermost ms
+  typed_head kind s unmoved ms
 
-abbrev pub command_head : Schema → (outermost : Bool) → Data → Result Head QFault
-command_head s outermost (string t) = statistic_before s t
-command_head s outermost d = do
+abbrev pub command_head : Schema → (unmoved : Bool) → Data → Result Head QFault
+command_head s unmoved (string t) = statistic_before s t
+command_head s unmoved d = do
   ms ← ok_or (as_object d) bad_command
-  object_head s outermost ms
+  object_head s unmoved ms
 
 -- with so many depths left, behind n nodes of the walk
-abbrev pub node_head : (left n : ℕ) → Schema → (outermost : Bool) → Text → Data → Result Head QFault
-node_head left n s outermost name d = do
+abbrev pub node_head : (left n : ℕ) → Schema → (unmoved : Bool) → Text → Data → Result Head QFault
+node_head left n s unmoved name d = do
   _ ← unless (nat_lt 0 left && nat_lt n 64) too_large
   _ ← unless (not (is_reserved name)) reserved_name
-  command_head s outermost d
+  command_head s unmoved d
 
 -- ---- behind them
 
@@ -104,17 +105,21 @@ abbrev pub inner_nodes : Reader → ℕ → Option Members → Result (Walked No
 inner_nodes deeper n None = Ok (walked no_nodes n)
 inner_nodes deeper n (Some ms) = deeper n ms
 
-abbrev pub resumed : Reader → ℕ → Head → Result (Walked Node) RequestFault
+-- what reads the nodes nested in a facet with this change, where it reads those under a block step, or under none
+abbrev pub under : (Bool → Reader) → (unmoved : Bool) → DomainChange → Reader
+under deeper unmoved change = deeper (unmoved && stays change)
+
+abbrev pub resumed : (DomainChange → Reader) → ℕ → Head → Result (Walked Node) RequestFault
 resumed deeper n (statistic_head st) = Ok (walked (of_statistic st) n)
 resumed deeper n (facet_head change kind inner) = do
-  w ← inner_nodes deeper n inner
+  w ← inner_nodes (deeper change) n inner
   k ← own (kind_behind kind w.read)
   Ok (facet_read change k w)
 
 -- a node with so many depths left
-abbrev pub node_within : ℕ → Schema → (outermost : Bool) → ℕ → Text → Data → Result (Walked Node) RequestFault
-node_within zero s outermost n name d = own (Err too_large)
-node_within (suc left) s outermost n name d = node_read s outermost (nodes_within left s false) n name d
+abbrev pub node_within : ℕ → Schema → (unmoved : Bool) → ℕ → Text → Data → Result (Walked Node) RequestFault
+node_within zero s unmoved n name d = own (Err too_large)
+node_within (suc left) s unmoved n name d = node_read s unmoved (nodes_within left s) n name d
 
 -- ---- the request
 

@@ -30,16 +30,16 @@ fn tag_items(alloc: Global, json: &Value) -> Result<Vec<&str>, Refusal<QFault>>
     }
 }
 
-// The tags that are left out; only an outermost facet names any.
-fn excluded(alloc: Global, json: &Value, outermost: bool) -> Result<Vec<Name>, Refusal<QFault>>
+// The tags that are left out; a facet names none where one around it has a block step.
+fn excluded(alloc: Global, json: &Value, unmoved: bool) -> Result<Vec<Name>, Refusal<QFault>>
     ensures { Answers (λ tags. tags.items) fault_view result
-        (reading.excluded outermost (view json.now)) }
+        (reading.excluded unmoved (view json.now)) }
 {
     let items = tag_items(alloc, json)?;
     if !are_tags(&items) {
         return Err(Refusal::Fault(QFault::BadParameter));
     }
-    if !outermost && !items.is_empty() {
+    if !unmoved && !items.is_empty() {
         return Err(Refusal::Fault(QFault::NestedExclude));
     }
     Ok(names_of(alloc, &items)?)
@@ -49,13 +49,13 @@ fn excluded(alloc: Global, json: &Value, outermost: bool) -> Result<Vec<Name>, R
 fn exclude_in(
     alloc: Global,
     json: Option<&Value>,
-    outermost: bool,
+    unmoved: bool,
 ) -> Result<Vec<Name>, Refusal<QFault>>
     ensures { Answers (λ tags. tags.items) fault_view result
-        (said_or (reading.excluded outermost) [] (option_map (λ json. view json.now) json.entry)) }
+        (said_or (reading.excluded unmoved) [] (option_map (λ json. view json.now) json.entry)) }
 {
     match json {
-        Some(json) => excluded(alloc, json, outermost),
+        Some(json) => excluded(alloc, json, unmoved),
         None => Ok(Vec::new(alloc)),
     }
 }
@@ -111,17 +111,17 @@ fn domain_filters(
 fn change_of(
     alloc: Global,
     schema: &Schema,
-    outermost: bool,
+    unmoved: bool,
     members: &Map<String, Value>,
 ) -> Result<Domain, Refusal<QFault>>
     ensures { Answers domain_view fault_view result
-        (reading.change_of schema.now outermost (members_view members.now.entries)) }
+        (reading.change_of schema.now unmoved (members_view members.now.entries)) }
 {
     check_names(
         members,
         &["excludeTags", "blockParent", "blockChildren", "filter"],
     )?;
-    let exclude = exclude_in(alloc, member(members, "excludeTags"), outermost)?;
+    let exclude = exclude_in(alloc, member(members, "excludeTags"), unmoved)?;
     let to_parents = member(members, "blockParent");
     let to_children = member(members, "blockChildren");
     let block = block_step(alloc, schema, to_parents, to_children)?;
@@ -144,21 +144,22 @@ pub fn no_change(alloc: Global) -> Domain
     }
 }
 
-/// The change that the member `domain` of a facet says, where it is there.
+/// The change that the member `domain` of a facet says, where it is there; `unmoved` where no facet around it has a block
+/// step.
 /// (Guide: JSON Faceting Domain Changes)
 pub fn change_in(
     alloc: Global,
     schema: &Schema,
-    outermost: bool,
+    unmoved: bool,
     members: &Map<String, Value>,
 ) -> Result<Domain, Refusal<QFault>>
     ensures { Answers domain_view fault_view result
-        (reading.change_in schema.now outermost (members_view members.now.entries)) }
+        (reading.change_in schema.now unmoved (members_view members.now.entries)) }
 {
     match member(members, "domain") {
         Some(json) => {
             let members = object_in(json, QFault::BadParameter)?;
-            change_of(alloc, schema, outermost, members)
+            change_of(alloc, schema, unmoved, members)
         }
         None => Ok(no_change(alloc)),
     }

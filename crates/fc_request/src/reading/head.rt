@@ -69,14 +69,14 @@ fn inner_members(
 fn facet_of<'v>(
     alloc: Global,
     schema: &Schema,
-    outermost: bool,
+    unmoved: bool,
     kind: KindHead<'v>,
     members: &'v Map<String, Value>,
 ) -> Result<Head<'v>, Refusal<QFault>>
     ensures { Answers head_view fault_view result
-        (heads.facet_of schema.now outermost (kind_head_view kind.entry) (members_view members.now.entries)) }
+        (heads.facet_of schema.now unmoved (kind_head_view kind.entry) (members_view members.now.entries)) }
 {
-    let domain = change_in(alloc, schema, outermost, members)?;
+    let domain = change_in(alloc, schema, unmoved, members)?;
     let inner = inner_members(members)?;
     Ok(Head::Facet(domain, kind, inner))
 }
@@ -164,26 +164,26 @@ fn check_parameters(kind: FacetType, members: &Map<String, Value>) -> Result<(),
 fn typed_head<'v>(
     alloc: Global,
     schema: &Schema,
-    outermost: bool,
+    unmoved: bool,
     kind: FacetType,
     members: &'v Map<String, Value>,
 ) -> Result<Head<'v>, Refusal<QFault>>
     ensures { Answers head_view fault_view result
-        (heads.typed_head (facet_type_view kind) schema.now outermost (members_view members.now.entries)) }
+        (heads.typed_head (facet_type_view kind) schema.now unmoved (members_view members.now.entries)) }
 {
     match kind {
         FacetType::Terms => {
             let terms = terms_in(alloc, schema, members)?;
             let kind = KindHead::Terms(terms, member(members, "sort"));
-            facet_of(alloc, schema, outermost, kind, members)
+            facet_of(alloc, schema, unmoved, kind, members)
         }
         FacetType::Range => {
             let range = range_in(alloc, schema, members)?;
-            facet_of(alloc, schema, outermost, KindHead::Range(range), members)
+            facet_of(alloc, schema, unmoved, KindHead::Range(range), members)
         }
         FacetType::Query => {
             let query = query_part(alloc, schema, members)?;
-            facet_of(alloc, schema, outermost, KindHead::Query(query), members)
+            facet_of(alloc, schema, unmoved, KindHead::Query(query), members)
         }
         FacetType::Func => func_head(schema, members),
     }
@@ -192,30 +192,30 @@ fn typed_head<'v>(
 fn object_head<'v>(
     alloc: Global,
     schema: &Schema,
-    outermost: bool,
+    unmoved: bool,
     members: &'v Map<String, Value>,
 ) -> Result<Head<'v>, Refusal<QFault>>
     ensures { Answers head_view fault_view result
-        (heads.object_head schema.now outermost (members_view members.now.entries)) }
+        (heads.object_head schema.now unmoved (members_view members.now.entries)) }
 {
     let kind = type_in(members)?;
     check_parameters(kind, members)?;
-    typed_head(alloc, schema, outermost, kind, members)
+    typed_head(alloc, schema, unmoved, kind, members)
 }
 
 // A command: a text is a statistic, an object names its type.
 fn command_head<'v>(
     alloc: Global,
     schema: &Schema,
-    outermost: bool,
+    unmoved: bool,
     json: &'v Value,
 ) -> Result<Head<'v>, Refusal<QFault>>
     ensures { Answers head_view fault_view result
-        (heads.command_head schema.now outermost (view json.now)) }
+        (heads.command_head schema.now unmoved (view json.now)) }
 {
     match json {
         Value::String(text) => statistic_head(schema, text.as_str()),
-        Value::Object(members) => object_head(alloc, schema, outermost, members),
+        Value::Object(members) => object_head(alloc, schema, unmoved, members),
         _ => Err(Refusal::Fault(QFault::BadCommand)),
     }
 }
@@ -226,12 +226,12 @@ pub(crate) fn node_head<'v>(
     schema: &Schema,
     left: u32,
     seen: u32,
-    outermost: bool,
+    unmoved: bool,
     name: &str,
     json: &'v Value,
 ) -> Result<Head<'v>, Refusal<QFault>>
     ensures answer { Answers head_view fault_view result
-        (heads.node_head left seen schema.now outermost name.now (view json.now)) }
+        (heads.node_head left seen schema.now unmoved name.now (view json.now)) }
     ensures left { OnOk result (0 < left) }
     ensures seen { OnOk result (seen < 64) }
 {
@@ -241,5 +241,5 @@ pub(crate) fn node_head<'v>(
     if is_reserved(name) {
         return Err(Refusal::Fault(QFault::ReservedName));
     }
-    command_head(alloc, schema, outermost, json)
+    command_head(alloc, schema, unmoved, json)
 }

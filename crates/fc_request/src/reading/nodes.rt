@@ -1,9 +1,10 @@
 // Nodes, one behind another, each with those nested in it.
-ghost use Rattle.std.specs.Prelude.{◌+◌, ◌≤◌, length, ◌≡◌, ◌<◌, [], false, IfOk, MatchResult, OnOk, option_map};
+ghost use Rattle.std.specs.Prelude.{◌+◌, ◌≤◌, length, ◌≡◌, ◌<◌, ◌&&◌, [], IfOk, MatchResult, OnOk, option_map};
 ghost use Rattle.std.specs.Result.{ForOk};
 ghost use Rattle.serde_json.specs.View.{view, members_view};
 ghost use Rattle.fc_spec.specs.requests.Request as definition;
 ghost use Rattle.fc_spec.specs.requests.Request.{stay};
+ghost use Rattle.fc_spec.specs.requests.Shape.{stays};
 ghost use Rattle.fc_spec.specs.requests.RequestWalk.{inside as inside_of, outside};
 ghost use Rattle.fc_spec.specs.requests.RequestReading as walk;
 ghost use Rattle.fc_base.specs.Answers.{Answers};
@@ -114,16 +115,16 @@ fn head_in<'v>(
     schema: &Schema,
     left: u32,
     seen: u32,
-    outermost: bool,
+    unmoved: bool,
     name: &str,
     json: &'v Value,
 ) -> Result<Head<'v>, Refusal<RequestFault>>
     ensures answer { Answers head_view request_fault_view result
-        (walk.own (heads.node_head left seen schema.now outermost name.now (view json.now))) }
+        (walk.own (heads.node_head left seen schema.now unmoved name.now (view json.now))) }
     ensures left { OnOk result (0 < left) }
     ensures seen { OnOk result (seen < 64) }
 {
-    match node_head(alloc, schema, left, seen, outermost, name, json) {
+    match node_head(alloc, schema, left, seen, unmoved, name, json) {
         Ok(head) => Ok(head),
         Err(Refusal::Memory) => Err(Refusal::Memory),
         Err(Refusal::Fault(fault)) => Err(Refusal::Fault(own(alloc, fault))),
@@ -169,6 +170,13 @@ fn facet_with(
     }
 }
 
+// Whether no facet around the nodes nested in one with this domain has a block step.
+fn is_unmoved_under(unmoved: bool, domain: &Domain) -> bool
+    ensures { result ≡ (unmoved && stays (domain_view domain.now)) }
+{
+    unmoved && domain.stays()
+}
+
 // A node with so many depths left, which counts itself and those nested in it.
 #[cycle(nodes)]
 fn read_node(
@@ -176,26 +184,27 @@ fn read_node(
     schema: &Schema,
     left: u32,
     seen: &mut u32,
-    outermost: bool,
+    unmoved: bool,
     name: &str,
     json: &Value,
 ) -> Result<Node, Refusal<RequestFault>>
     requires { seen.old ≤ 64 }
     ensures answer { Answers (λ node. heads.walked (node_view node).1 seen.new) request_fault_view result
-        (heads.node_within left schema.now outermost seen.old name.now (view json.now)) }
+        (heads.node_within left schema.now unmoved seen.old name.now (view json.now)) }
     ensures name { IfOk result (λ node. (node_view node).0 ≡ name.now) }
     ensures counted { OnOk result (seen.old < seen.new) }
     ensures rises { seen.old ≤ seen.new }
     ensures few { seen.new ≤ 64 }
 {
-    match head_in(alloc, schema, left, *seen, outermost, name, json) {
+    match head_in(alloc, schema, left, *seen, unmoved, name, json) {
         Ok(Head::Statistic(stat)) => {
             *seen += 1;
             Ok(statistic_node(alloc, name, stat)?)
         }
         Ok(Head::Facet(domain, kind, inner)) => {
             *seen += 1;
-            let nodes = inner_nodes(alloc, schema, left - 1, seen, inner);
+            let unmoved = is_unmoved_under(unmoved, &domain);
+            let nodes = inner_nodes(alloc, schema, left - 1, seen, unmoved, inner);
             facet_with(alloc, name, domain, kind, nodes)
         }
         Err(refusal) => Err(refusal),
@@ -209,18 +218,19 @@ fn inner_nodes(
     schema: &Schema,
     left: u32,
     seen: &mut u32,
+    unmoved: bool,
     members: Option<&Map<String, Value>>,
 ) -> Result<Vec<Node>, Refusal<RequestFault>>
     requires { seen.old ≤ 64 }
     ensures answer { Answers (λ nodes. heads.walked (nodes_view nodes.items) seen.new) request_fault_view result
-        (heads.inner_nodes (walk.nodes_within left schema.now false) seen.old
+        (heads.inner_nodes (walk.nodes_within left schema.now unmoved) seen.old
         (option_map (λ ms. members_view ms.now.entries) members.entry)) }
     ensures counted { IfOk result (λ nodes. length nodes.items + seen.old ≤ seen.new) }
     ensures rises { seen.old ≤ seen.new }
     ensures few { seen.new ≤ 64 }
 {
     match members {
-        Some(members) => read_nodes(alloc, schema, left, seen, false, members),
+        Some(members) => read_nodes(alloc, schema, left, seen, unmoved, members),
         None => Ok(Vec::new(alloc)),
     }
 }
@@ -233,12 +243,12 @@ pub(crate) fn read_nodes(
     schema: &Schema,
     left: u32,
     seen: &mut u32,
-    outermost: bool,
+    unmoved: bool,
     members: &Map<String, Value>,
 ) -> Result<Vec<Node>, Refusal<RequestFault>>
     requires { seen.old ≤ 64 }
     ensures answer { Answers (λ nodes. heads.walked (nodes_view nodes.items) seen.new) request_fault_view result
-        (walk.nodes_within left schema.now outermost seen.old (members_view members.now.entries)) }
+        (walk.nodes_within left schema.now unmoved seen.old (members_view members.now.entries)) }
     ensures counted { IfOk result (λ nodes. length nodes.items + seen.old ≤ seen.new) }
     ensures rises { seen.old ≤ seen.new }
     ensures few { seen.new ≤ 64 }
@@ -246,7 +256,7 @@ pub(crate) fn read_nodes(
     let mut nodes = Vec::new(alloc);
     for (name, json) in members {
         let name = name.as_str();
-        match read_node(alloc, schema, left, seen, outermost, name, json) {
+        match read_node(alloc, schema, left, seen, unmoved, name, json) {
             Ok(node) => nodes.push(node)?,
             Err(Refusal::Memory) => return Err(Refusal::Memory),
             Err(Refusal::Fault(fault)) => {
