@@ -1,5 +1,5 @@
 -- What a shard lists of a tally is what its answer lists.
-use Rattle.std.proofs.Common.{◌≡◌, List, [], ◌∷◌, ◌++◌, map, Bool, true, false, cond, ◌||◌, not, None, Some, unwrap_or, refl, sym, ◌∙◌, ap, subst}
+use Rattle.std.proofs.Common.{◌≡◌, List, [], ◌∷◌, ◌++◌, map, Bool, true, false, cond, ◌||◌, ◌&&◌, not, None, Some, unwrap_or, refl, sym, ◌∙◌, ap, subst}
 use Rattle.std.specs.List.{filter, list_any, AllByRecursion}
 use Rattle.std.specs.List.Sorted.{IsStrictlySortedBy}
 use Rattle.std.specs.Map.{keys_of}
@@ -11,16 +11,18 @@ use Rattle.std.proofs.lemmas.Option.{same_Some}
 use Rattle.fc_spec.specs.documents.Val.{Val}
 use Rattle.fc_spec.specs.documents.World.{Place}
 use Rattle.fc_spec.specs.words.Lists.{is_empty}
-use Rattle.fc_spec.specs.requests.Request.{Stat, Terms, Kind, terms, range, query, stats_of}
-use Rattle.fc_spec.specs.requests.Buckets.{Key, value, missing, whole, bucket_places}
+use Rattle.fc_spec.specs.requests.Request.{Stat, Terms, Kind, terms, range, query, Nodes, stats_of}
+use Rattle.fc_spec.specs.requests.Shape.{no_exclusions}
+use Rattle.fc_spec.specs.requests.Buckets.{Key, value, missing, whole, bucket_places, is_key_of}
 use Rattle.fc_spec.specs.requests.Ranks as ranks
 use Rattle.fc_spec.specs.requests.Ranks.{below_rank, offered_bound}
 use Rattle.fc_spec.specs.requests.Statistics.{Stats, stats_over}
-use Rattle.fc_spec.specs.replies.Printed.{asked}
+use Rattle.fc_spec.specs.replies.Printed.{asked, range_keys}
 use Rattle.fc_spec.specs.replies.Values.{value_places, values_in, entries_in}
 use Rattle.fc_spec.specs.messages.KeyOrder.{key_cmp, same_key}
 use Rattle.fc_spec.specs.messages.Answer.{not_empty}
-use Rattle.fc_spec.proofs.words.Members.{every_from_members}
+use Rattle.fc_spec.proofs.words.Members.{Every, every_from_members}
+use Rattle.fc_spec.proofs.replies.PrintedKeys.{every_asked, every_range_key}
 use Rattle.fc_spec.proofs.words.MappedLists.{filter-map}
 use Rattle.fc_spec.proofs.messages.Keys.{same_key_exact, same_key_itself}
 use Rattle.fc_spec.proofs.messages.PrintedKnown.{nothing_is_empty}
@@ -28,7 +30,7 @@ use Rattle.fc_partial.specs.KeyLaws.{key_cmp_total}
 use Rattle.fc_partial.specs.Tallied.{Entry}
 use Rattle.fc_partial.specs.Tallying.{entry_at}
 use Rattle.fc_refine.specs.Tops.{values_of_tally, others_of_tally, of_entry}
-use Rattle.fc_answers.specs.Listed.{AreOfBuckets, bucket_entry, TalliesList}
+use Rattle.fc_answers.specs.Listed.{AreOfBuckets, bucket_entry, entry_or_none, TalliesList}
 use Rattle.fc_answers.proofs.AscendingKeys.{terms_keys_in, range_keys_in, terms_keys_up, range_keys_in_up, terms_keys_are, range_keys_are, is_found}
 
 -- ---- entries in the order of their keys
@@ -146,6 +148,19 @@ module _ (t : Terms) (ss : List Stat) (Y : List Place) where
       filter-map made (λ v. true) keep (λ v. keep (made v)) (values_in t Y) (λ v h. refl) (every_from_members (λ v. true) (values_in t Y) (λ v m. refl)) in
       ap (map of_entry) cut ∙ as_entries (filter (λ v. keep (made v)) (values_in t Y)) ∙ sym (ap (λ es. map (bucket_entry (terms t) ss Y) (map value (map (λ e. e.val) es))) cut)
 
+-- an entry of a key of the facet, or that of no place, has the statistics of the key's bucket
+module _ (kind : Kind) (ss : List Stat) (Y : List Place) (es : List Entry) (of : AreOfBuckets kind ss Y es) where
+  filled_entry : (k : Key) → is_key_of kind k ≡ true → entry_or_none ss es k ≡ bucket_entry kind ss Y k
+  filled_entry k own = ap (λ s. (k, s)) (ap (λ o. unwrap_or o (stats_over ss [])) (of k ∙ ap (λ b. cond (b && not (is_empty (bucket_places kind k Y))) (Some (stats_over ss (bucket_places kind k Y))) None) own) ∙ go (is_empty (bucket_places kind k Y)) refl)
+    where
+      go : (b : Bool) → is_empty (bucket_places kind k Y) ≡ b → unwrap_or (cond (not b) (Some (stats_over ss (bucket_places kind k Y))) None) (stats_over ss []) ≡ stats_over ss (bucket_places kind k Y)
+      go true e = ap (stats_over ss) (sym (nothing_is_empty (bucket_places kind k Y) e))
+      go false e = refl
+
+  filled_entries : (ks : List Key) → Every (is_key_of kind) ks → map (entry_or_none ss es) ks ≡ map (bucket_entry kind ss Y) ks
+  filled_entries [] own = refl
+  filled_entries (k ∷ ks) own = λ i. filled_entry k own.0 i ∷ filled_entries ks own.1 i
+
 pub tallies_list : TalliesList
 tallies_list (terms t) inner Y es ascend of =
     let ss = stats_of inner in
@@ -155,13 +170,19 @@ tallies_list (terms t) inner Y es ascend of =
     buckets_of (terms t) ss Y es ascend of (terms_keys_in t Y) (terms_keys_up t Y) (terms_keys_are t Y) ∙ map-append entry (map value (values_in t Y)) (not_empty (terms t) Y (asked t.missing missing)) in
     let values = ap values_of_tally all ∙ values_back t ss Y (values_in t Y) in
     let others = ap others_of_tally all ∙ others_back t ss Y (values_in t Y) in
-    (λ i. map of_entry (below_rank t.sort bound (values i)) ++ others i)
-    ∙ ap (λ l. l ++ lacking t ss Y) (kept_entries t ss Y _)
-    ∙ sym (map-append entry (map value (map (λ e. e.val) (below_rank t.sort bound (entries_in t ss Y)))) (not_empty (terms t) Y (asked t.missing missing)))
-tallies_list (range g) inner Y es ascend of = buckets_of (range g) (stats_of inner) Y es ascend of (range_keys_in g Y) (range_keys_in_up g Y) (range_keys_are g Y)
-tallies_list (query q) inner Y es ascend of = ap (λ s. (whole, s) ∷ []) (ap (λ o. unwrap_or o (stats_over (stats_of inner) [])) (of whole) ∙ go (is_empty (bucket_places (query q) whole Y)) refl)
+    let offered = map value (map (λ e. e.val) (below_rank t.sort bound (entries_in t ss Y))) in
+    let top = ap (λ vs. map of_entry (below_rank t.sort bound vs)) values ∙ kept_entries t ss Y _ in
+    go t inner Y es offered (map of_entry (below_rank t.sort bound (values_of_tally es))) (others_of_tally es) top others (filled_entries (terms t) ss Y es of (asked t.missing missing) (every_asked (is_key_of (terms t)) t.missing missing refl)) (no_exclusions inner)
   where
-    go : (b : Bool) → is_empty (bucket_places (query q) whole Y) ≡ b
-        → unwrap_or (cond (not b) (Some (stats_over (stats_of inner) (bucket_places (query q) whole Y))) None) (stats_over (stats_of inner) []) ≡ stats_over (stats_of inner) (bucket_places (query q) whole Y)
-    go true e = ap (stats_over (stats_of inner)) (sym (nothing_is_empty (bucket_places (query q) whole Y) e))
-    go false e = refl
+    go : (t : Terms) (inner : Nodes) (Y : List Place) (es : List Entry) (offered : List Key) (top rest : List Entry) → top ≡ map (bucket_entry (terms t) (stats_of inner) Y) offered → rest ≡ lacking t (stats_of inner) Y
+        → map (entry_or_none (stats_of inner) es) (asked t.missing missing) ≡ map (bucket_entry (terms t) (stats_of inner) Y) (asked t.missing missing) → (none : Bool)
+        → cond (not none) (top ++ map (entry_or_none (stats_of inner) es) (asked t.missing missing)) (top ++ rest)
+        ≡ map (bucket_entry (terms t) (stats_of inner) Y) (offered ++ cond (not none) (asked t.missing missing) (not_empty (terms t) Y (asked t.missing missing)))
+    go t inner Y es offered top rest e f h true = (λ i. e i ++ f i) ∙ sym (map-append (bucket_entry (terms t) (stats_of inner) Y) offered (not_empty (terms t) Y (asked t.missing missing)))
+    go t inner Y es offered top rest e f h false = (λ i. e i ++ h i) ∙ sym (map-append (bucket_entry (terms t) (stats_of inner) Y) offered (asked t.missing missing))
+tallies_list (range g) inner Y es ascend of = go (no_exclusions inner)
+  where
+    go : (none : Bool) → cond (not none) (map (entry_or_none (stats_of inner) es) (range_keys g)) es ≡ map (bucket_entry (range g) (stats_of inner) Y) (cond (not none) (range_keys g) (not_empty (range g) Y (range_keys g)))
+    go true = buckets_of (range g) (stats_of inner) Y es ascend of (range_keys_in g Y) (range_keys_in_up g Y) (range_keys_are g Y)
+    go false = filled_entries (range g) (stats_of inner) Y es of (range_keys g) (every_range_key g)
+tallies_list (query q) inner Y es ascend of = ap (λ e. e ∷ []) (filled_entry (query q) (stats_of inner) Y es of whole refl)

@@ -1,5 +1,5 @@
 -- A shard's answer is made from a set of positions for each of the segments that its blocks are cut into.
-use Rattle.std.proofs.Common.{◌≡◌, ℕ, zero, suc, ◌+◌, List, [], ◌∷◌, ◌++◌, map, length, replicate, Bool, false, Option, None, Some, refl, sym, ◌∙◌, ap, subst, length-append}
+use Rattle.std.proofs.Common.{◌≡◌, ℕ, zero, suc, ◌+◌, List, [], ◌∷◌, ◌++◌, map, length, replicate, Bool, false, cond, not, Option, None, Some, refl, sym, ◌∙◌, ap, subst, length-append}
 use Rattle.std.specs.List.{items_where_true, slice_get}
 use Rattle.std.proofs.lemmas.List.{length-replicate}
 use Rattle.fc_spec.specs.words.Lists.{joined}
@@ -7,26 +7,25 @@ use Rattle.fc_spec.specs.documents.World.{World, Place, shard_places, on_shards}
 use Rattle.fc_spec.specs.documents.Totals.{document_total}
 use Rattle.fc_spec.specs.documents.Sets.{AreSets, places_on, places_at}
 use Rattle.fc_spec.specs.requests.Request.{Kind, terms, range, query, Facet, Nodes, no_nodes, statistic, facet, Request, stats_of}
-use Rattle.fc_spec.specs.requests.Base.{base}
-use Rattle.fc_spec.specs.requests.Domain.{domain}
 use Rattle.fc_spec.specs.requests.Buckets.{Key, value, missing, whole, bucket_places}
-use Rattle.fc_spec.specs.requests.DomainSets.{base_set}
-use Rattle.fc_spec.specs.requests.Paths.{at_root, path_places}
+use Rattle.fc_spec.specs.requests.DomainSets.{rebuilt_set}
+use Rattle.fc_spec.specs.requests.Paths.{Path, at_root, into, rebuilt, domain, path_places}
+use Rattle.fc_spec.specs.requests.Shape.{no_exclusions}
 use Rattle.fc_spec.specs.requests.Ranks.{below_rank, offered_bound}
 use Rattle.fc_spec.specs.requests.Statistics.{stats_over}
 use Rattle.fc_spec.specs.replies.Printed.{asked, range_keys}
 use Rattle.fc_spec.specs.replies.Values.{entries_in}
 use Rattle.fc_spec.specs.messages.Message.{Partials, no_partials, partial, row, Way, Want, way_of, first, more}
-use Rattle.fc_spec.specs.messages.Target.{facet_at, Target, leads_nowhere, leads_to, target_nodes, target_places, target_in, target_from, target_of}
-use Rattle.fc_spec.specs.messages.Answer.{not_empty, partials_of, answer_keys, answer_domain, answer_rows, answer_bucket, answer_wants}
+use Rattle.fc_spec.specs.messages.Target.{facet_at, Target, leads_nowhere, leads_to, target_path, target_nodes, target_places, target_in, target_from, target_of}
+use Rattle.fc_spec.specs.messages.Answer.{listed_keys, partials_of, answer_keys, answer_domain, answer_rows, answer_bucket, answer_wants}
 use Rattle.fc_spec.specs.laws.Blockwise.{IsOnShard}
 use Rattle.fc_spec.proofs.documents.BlockTotals.{document_total-append}
 use Rattle.fc_spec.proofs.documents.Shards.{is_on}
-use Rattle.fc_spec.proofs.messages.ShardSets.{bases_of_shards, changes_of_shards, buckets_of_shards}
-use Rattle.fc_spec.proofs.requests.JoinedSets.{bases_join, changes_join, buckets_join}
+use Rattle.fc_spec.proofs.messages.ShardSets.{bases_of_shards, rebuilt_of_shards, changes_of_shards, buckets_of_shards}
+use Rattle.fc_spec.proofs.requests.JoinedSets.{bases_join, rebuilt_join, changes_join, buckets_join}
 use Rattle.fc_spec.proofs.requests.Locality.{filter_twice}
 use Rattle.fc_spec.proofs.requests.SetChanges.{are_sets_again, first_is_set, rest_are_sets}
-use Rattle.fc_answers.specs.SetAnswer.{Sets, domain_sets, bucket_sets, own_keys, set_rows, Spot, root, nowhere, spot_in, spot_from, spot_at, set_bucket, set_wants, AnswersFromSets}
+use Rattle.fc_answers.specs.SetAnswer.{Sets, Scope, scope_on, domain_sets, bucket_sets, own_keys, set_rows, Spot, root, nowhere, scope_of, spot_in, spot_from, spot_at, set_bucket, set_wants, AnswersFromSets}
 use Rattle.fc_answers.proofs.BarePlaces.{bare, SameBare, bare_bucket, bare_stats, bare_entries, bare_not_empty, bare_sets}
 
 -- ---- sets, joined
@@ -62,26 +61,36 @@ module _ (r : Request) (W : World) (i : ℕ) (V : World) (at : slice_get W i ≡
   again : (sets : Sets) (X : List Place) → IsOf sets X → IsOf sets (on_shards (i ∷ []) X)
   again sets X on = filter_twice (is_on (i ∷ [])) X ∙ on
 
-  base_of : (f : Facet) → IsOf (map (base_set r f.change.exclude) V) (base r W f.change.exclude)
-  base_of f = bases_of_shards r f.change.exclude W i (joined V) at ∙ ap (places_on i (joined V)) (bases_join r f.change.exclude V)
+  -- the scope of a path
+  abbrev on : Path → Scope
+  on path = scope_on r path
 
-  domain_of : (f : Facet) (sets : Sets) (X : List Place) → AreSets V sets → IsOf sets X → IsOf (domain_sets r V f sets) (domain r W f.change X)
-  domain_of f sets X are on =
-      let bases = map (base_set r f.change.exclude) V in
-      let base_are = are_sets_again.bases r f.change.exclude V in
-      changes_of_shards f.change W i (joined V) at (base r W f.change.exclude) X (joined bases) (joined sets) (length-joined V bases base_are) (length-joined V sets are) (base_of f) on
+  base_of : (path : Path) (f : Facet) → IsOf (map (rebuilt_set r path f.change.exclude) V) (rebuilt r W path f.change.exclude)
+  base_of path f = rebuilt_of_shards r path f.change.exclude W i (joined V) at ∙ ap (places_on i (joined V)) (rebuilt_join r path f.change.exclude V)
+
+  domain_of : (path : Path) (f : Facet) (sets : Sets) (X : List Place) → AreSets V sets → IsOf sets X → IsOf (domain_sets (on path) V f sets) (domain r W path f.change X)
+  domain_of path f sets X are here =
+      let bases = map (rebuilt_set r path f.change.exclude) V in
+      let base_are = are_sets_again.rebuilt r path f.change.exclude V in
+      changes_of_shards f.change W i (joined V) at (rebuilt r W path f.change.exclude) X (joined bases) (joined sets) (length-joined V bases base_are) (length-joined V sets are) (base_of path f) here
       ∙ ap (places_on i (joined V)) (changes_join f.change V bases sets base_are are)
 
-  domain_are : (f : Facet) (sets : Sets) → AreSets V sets → AreSets V (domain_sets r V f sets)
-  domain_are f sets are = are_sets_again.changes f.change V (map (base_set r f.change.exclude) V) sets (are_sets_again.bases r f.change.exclude V) are
+  domain_are : (path : Path) (f : Facet) (sets : Sets) → AreSets V sets → AreSets V (domain_sets (on path) V f sets)
+  domain_are path f sets are = are_sets_again.changes f.change V (map (rebuilt_set r path f.change.exclude) V) sets (are_sets_again.rebuilt r path f.change.exclude V) are
 
   bucket_of : (kind : Kind) (key : Key) (sets : Sets) (D : List Place) → AreSets V sets → IsOf sets D → IsOf (bucket_sets V kind key sets) (bucket_places kind key D)
-  bucket_of kind key sets D are on = buckets_of_shards kind key i (joined V) D (joined sets) on ∙ ap (places_on i (joined V)) (buckets_join kind key V sets are)
+  bucket_of kind key sets D are here = buckets_of_shards kind key i (joined V) D (joined sets) here ∙ ap (places_on i (joined V)) (buckets_join kind key V sets are)
 
   bucket_are : (kind : Kind) (key : Key) (sets : Sets) → AreSets V sets → AreSets V (bucket_sets V kind key sets)
   bucket_are kind key sets are = are_sets_again.buckets kind key V sets are
 
   -- ---- what is listed
+
+  -- the same keys are listed
+  listed_of : (kind : Kind) (inner : Nodes) (sets : Sets) (D : List Place) (keys : List Key) → D ≡ places_on i (joined V) (joined sets) → listed_keys kind inner D keys ≡ listed_keys kind inner (places_at V sets) keys
+  listed_of kind inner sets D keys is =
+      ap (λ Y. listed_keys kind inner Y keys) is
+      ∙ ap (cond (not (no_exclusions inner)) keys) (bare_not_empty (places_on i (joined V) (joined sets)) (places_at V sets) (bare_sets i V sets) kind keys)
 
   keys_of : (kind : Kind) (inner : Nodes) (sets : Sets) (D : List Place) → on_shards (i ∷ []) D ≡ D → D ≡ places_on i (joined V) (joined sets)
       → answer_keys kind inner D i ≡ own_keys kind inner (places_at V sets)
@@ -89,66 +98,69 @@ module _ (r : Request) (W : World) (i : ℕ) (V : World) (at : slice_get W i ≡
       let same = bare_sets i V sets in
       let entries : entries_in t (stats_of inner) (on_shards (i ∷ []) D) ≡ entries_in t (stats_of inner) (places_at V sets) =
       ap (entries_in t (stats_of inner)) (own ∙ is) ∙ bare_entries (places_on i (joined V) (joined sets)) (places_at V sets) same t (stats_of inner) in
-      let rest = ap (λ Y. not_empty (terms t) Y (asked t.missing missing)) is ∙ bare_not_empty (places_on i (joined V) (joined sets)) (places_at V sets) same (terms t) (asked t.missing missing) in
+      let rest = listed_of (terms t) inner sets D (asked t.missing missing) is in
       λ j. map value (map (λ e. e.val) (below_rank t.sort (offered_bound t) (entries j))) ++ rest j
-  keys_of (range g) inner sets D own is =
-      ap (λ Y. not_empty (range g) Y (range_keys g)) is ∙ bare_not_empty (places_on i (joined V) (joined sets)) (places_at V sets) (bare_sets i V sets) (range g) (range_keys g)
+  keys_of (range g) inner sets D own is = listed_of (range g) inner sets D (range_keys g) is
   keys_of (query q) inner sets D own is = refl
 
-  rows_of : (nodes : Nodes) (sets : Sets) (X : List Place) → AreSets V sets → IsOf sets X → answer_rows r W i nodes X ≡ set_rows r V nodes sets
-  rows_of no_nodes sets X are on = refl
-  rows_of (statistic name s rest) sets X are on = rows_of rest sets X are on
-  rows_of (facet f inner rest) sets X are on =
-      let D = answer_domain r W i f X in
-      let sets_in = domain_sets r V f sets in
-      let domain_on : D ≡ places_on i (joined V) (joined sets_in) = domain_of f sets X are on in
-      let own : on_shards (i ∷ []) D ≡ D = filter_twice (is_on (i ∷ [])) (domain r W f.change X) in
+  rows_of : (path : Path) (nodes : Nodes) (sets : Sets) (X : List Place) → AreSets V sets → IsOf sets X → answer_rows r W i path nodes X ≡ set_rows (on path) V nodes sets
+  rows_of path no_nodes sets X are here = refl
+  rows_of path (statistic name s rest) sets X are here = rows_of path rest sets X are here
+  rows_of path (facet f inner rest) sets X are here =
+      let D = answer_domain r W i path f X in
+      let sets_in = domain_sets (on path) V f sets in
+      let domain_on : D ≡ places_on i (joined V) (joined sets_in) = domain_of path f sets X are here in
+      let own : on_shards (i ∷ []) D ≡ D = filter_twice (is_on (i ∷ [])) (domain r W path f.change X) in
       let same : SameBare D (places_at V sets_in) = ap bare domain_on ∙ bare_sets i V sets_in in
       let stats = λ (k : Key). bare_stats (bucket_places f.kind k D) (bucket_places f.kind k (places_at V sets_in)) (bare_bucket D (places_at V sets_in) same f.kind k) (stats_of inner) in
-      let inside = λ (k : Key).
-      rows_of inner (bucket_sets V f.kind k sets_in) (bucket_places f.kind k D) (bucket_are f.kind k sets_in (domain_are f sets are))
-      (bucket_of f.kind k sets_in D (domain_are f sets are) (own ∙ domain_on)) in
-      λ j. row (partials_of (λ k. stats k j) (λ k. inside k j) (keys_of f.kind inner sets_in D own domain_on j)) (rows_of rest sets X are on j)
+      let inside_it = λ (k : Key).
+      rows_of (into path f k) inner (bucket_sets V f.kind k sets_in) (bucket_places f.kind k D) (bucket_are f.kind k sets_in (domain_are path f sets are))
+      (bucket_of f.kind k sets_in D (domain_are path f sets are) (own ∙ domain_on)) in
+      λ j. row (partials_of (λ k. stats k j) (λ k. inside_it k j) (keys_of f.kind inner sets_in D own domain_on j)) (rows_of path rest sets X are here j)
 
   -- ---- where ways lead
 
-  -- the target's nodes are those of the spot, and the shard's part of its places that of the spot's sets
+  -- the target's path and nodes are those of the spot, and the shard's part of its places that of the spot's sets
   record IsSpot (t : Target) (s : Spot) : Type 0 where
+    pub path : target_path t ≡ s.path
     pub nodes : target_nodes t ≡ s.nodes
     pub places : IsOf s.sets (target_places r W t)
     pub are_sets : AreSets V s.sets
 
   is_nowhere : IsSpot leads_nowhere (nowhere V)
-  is_nowhere = record { nodes = refl; places = sym (nothing_there V (shard_places i 0 0 (joined V))); are_sets = no_positions V }
+  is_nowhere = record { path = refl; nodes = refl; places = sym (nothing_there V (shard_places i 0 0 (joined V))); are_sets = no_positions V }
 
   is_root : IsSpot (leads_to at_root r.nodes) (root r V)
   is_root = record {
+    path = refl;
     nodes = refl;
     places = bases_of_shards r [] W i (joined V) at ∙ ap (places_on i (joined V)) (bases_join r [] V);
     are_sets = are_sets_again.bases r [] V;
   }
 
-  one_step : (key : Key) (node : ℕ) (t : Target) (s : Spot) → IsSpot t s → IsSpot (target_in key t (facet_at node (target_nodes t))) (spot_in r V key s.sets (facet_at node s.nodes))
-  one_step key node leads_nowhere s is = subst (λ nodes. IsSpot leads_nowhere (spot_in r V key s.sets (facet_at node nodes))) is.nodes is_nowhere
+  one_step : (key : Key) (node : ℕ) (t : Target) (s : Spot) → IsSpot t s → IsSpot (target_in key t (facet_at node (target_nodes t))) (spot_in r V key s (facet_at node s.nodes))
+  one_step key node leads_nowhere s is = subst (λ nodes. IsSpot leads_nowhere (spot_in r V key s (facet_at node nodes))) is.nodes is_nowhere
   one_step key node (leads_to path nodes) s is =
-      subst (λ ns. IsSpot (target_in key (leads_to path nodes) (facet_at node nodes)) (spot_in r V key s.sets (facet_at node ns))) is.nodes (go (facet_at node nodes))
+      subst (λ ns. IsSpot (target_in key (leads_to path nodes) (facet_at node nodes)) (spot_in r V key s (facet_at node ns))) is.nodes (go (facet_at node nodes))
     where
-      go : (o : Option (Facet × Nodes)) → IsSpot (target_in key (leads_to path nodes) o) (spot_in r V key s.sets o)
+      go : (o : Option (Facet × Nodes)) → IsSpot (target_in key (leads_to path nodes) o) (spot_in r V key s o)
       go None = is_nowhere
       go (Some f) =
           let X = path_places r W path in
-          let sets_in = domain_sets r V f.0 s.sets in
-          let are = domain_are f.0 s.sets is.are_sets in
+          let sets_in = domain_sets (scope_of r s) V f.0 s.sets in
+          let are = domain_are s.path f.0 s.sets is.are_sets in
           record {
+            path = ap (λ p. into p f.0 key) is.path;
             nodes = refl;
-            places = bucket_of (f.0).kind key sets_in (domain r W (f.0).change X) are (domain_of f.0 s.sets X is.are_sets is.places);
+            places = bucket_of (f.0).kind key sets_in (domain r W path (f.0).change X) are
+                (subst (λ p. IsOf (domain_sets (on p) V f.0 s.sets) (domain r W path (f.0).change X)) is.path (domain_of path f.0 s.sets X is.are_sets is.places));
             are_sets = bucket_are (f.0).kind key sets_in are;
           }
 
   all_steps : (way : Way) (t : Target) (s : Spot) → IsSpot t s → IsSpot (target_from t way) (spot_from r V s way)
   all_steps [] t s is = is
   all_steps (step ∷ way) t s is =
-      all_steps way (target_in step.key t (facet_at step.node (target_nodes t))) (spot_in r V step.key s.sets (facet_at step.node s.nodes)) (one_step step.key step.node t s is)
+      all_steps way (target_in step.key t (facet_at step.node (target_nodes t))) (spot_in r V step.key s (facet_at step.node s.nodes)) (one_step step.key step.node t s is)
 
   bucket_at : (way : Way) (key : Key) (a b : Partials) → a ≡ b → answer_bucket r W i way key a ≡ set_bucket r V (spot_at r V way) key b
   bucket_at way key a b e =
@@ -158,8 +170,8 @@ module _ (r : Request) (W : World) (i : ℕ) (V : World) (at : slice_get W i ≡
       let X = on_shards (i ∷ []) (target_places r W t) in
       let stats : stats_over (stats_of (target_nodes t)) X ≡ stats_over (stats_of s.nodes) (places_at V s.sets) =
       (λ j. stats_over (stats_of (is.nodes j)) (is.places j)) ∙ bare_stats (places_on i (joined V) (joined s.sets)) (places_at V s.sets) (bare_sets i V s.sets) (stats_of s.nodes) in
-      let rows : answer_rows r W i (target_nodes t) X ≡ set_rows r V s.nodes s.sets =
-      ap (λ nodes. answer_rows r W i nodes X) is.nodes ∙ rows_of s.nodes s.sets X is.are_sets (again s.sets (target_places r W t) is.places) in
+      let rows : answer_rows r W i (target_path t) (target_nodes t) X ≡ set_rows (scope_of r s) V s.nodes s.sets =
+      (λ j. answer_rows r W i (is.path j) (is.nodes j) X) ∙ rows_of s.path s.nodes s.sets X is.are_sets (again s.sets (target_places r W t) is.places) in
       λ j. partial key (stats j) (rows j) (e j)
 
   wants_at : (wants : List Want) → answer_wants r W i wants ≡ set_wants r V wants

@@ -2,6 +2,7 @@
 ghost use Rattle.std.specs.Prelude.{◌≡◌, [], map, IfOk, OnOk, OnErr, option_map};
 ghost use Rattle.std.specs.Option.{ForSome};
 ghost use Rattle.fc_spec.specs.requests.Buckets.{value};
+ghost use Rattle.fc_spec.specs.requests.Statistics.{stats_over};
 ghost use Rattle.fc_base.specs.StatisticView.{stat_view};
 ghost use Rattle.fc_base.specs.View.{val_view};
 ghost use Rattle.fc_partial.specs.View.{key_view};
@@ -142,6 +143,15 @@ impl Tally {
             Val::Long(number) => self.longs.get(number),
             Val::Text(text) => self.texts.get(text),
         }
+    }
+
+    /// The statistics of a bucket without documents.
+    pub fn neutral(&self) -> Result<Stats, WantMemory>
+        ensures neutral { IfOk result (λ neutral. stats_view neutral ≡ stats_over self.now.stats []) }
+        ensures tally { IsTally self.now }
+    {
+        let neutral = Stats::neutral(self.alloc, &self.stats)?;
+        Ok(neutral)
     }
 
     /// A bucket for each key, in the order of keys, with nothing nested.

@@ -56,12 +56,12 @@ module _ (g : Gathered) (ok : AreGathered g) where
   pub groups_are : (gs : List (Group Listing)) → Holds (λ v. listed_by v g.parts) gs → gs ≡ map group_of (distinct vals)
   groups_are gs holds =
       let keys : keys_of gs ≡ distinct vals = same_ascending (keys_of gs) (distinct vals) holds.ascend (distinct_ascends vals)
-      (λ v. has_val-keys v gs ∙ ap is_some (holds.lists v) ∙ is_some-if_any (listed_by v g.parts) ∙ sym (any_is (terms g.terms) (stats_of g.nodes) (told_by g.parts) v g.parts ok.shaped own) ∙ sym (has_val-distinct v vals)) in
+      (λ v. has_val-keys v gs ∙ ap is_some (holds.lists v) ∙ is_some-if_any (listed_by v g.parts) ∙ sym (any_is (terms g.terms) g.nodes (told_by g.parts) v g.parts ok.shaped own) ∙ sym (has_val-distinct v vals)) in
       held_groups (λ v. listed_by v g.parts) gs holds ∙ ap (map group_of) keys
 
   pub groups_combine : (gs : List (Group Listing)) → Holds (λ v. listed_by v g.parts) gs → All (λ group. CanCombine (stats_of g.nodes) group.1) gs
   groups_combine gs holds = subst (All (λ (group : Group Listing). CanCombine (stats_of g.nodes) group.1)) (sym (groups_are gs holds))
-      (all_made (λ (group : Group Listing). CanCombine (stats_of g.nodes) group.1) group_of (distinct vals) (λ v. can_combine (terms g.terms) (stats_of g.nodes) (told_by g.parts) v g.parts ok.shaped ok.fit))
+      (all_made (λ (group : Group Listing). CanCombine (stats_of g.nodes) group.1) group_of (distinct vals) (λ v. can_combine (terms g.terms) g.nodes (told_by g.parts) v g.parts ok.shaped ok.fit))
 
   abbrev entry_of : Group Listing → Entry
   entry_of group = record { val = group.0; stats = all_of (stats_of g.nodes) group.1 }
@@ -73,11 +73,11 @@ module _ (g : Gathered) (ok : AreGathered g) where
       ∙ ap (λ l. entry_of (found_group f) ∷ l) (found_entries fs (All-tail (IsCombined (stats_of g.nodes)) f fs h))
 
   shards_are : (v : Val) → listing_shards g v ≡ map (λ (l : Listing). l.0) (listed_by v g.parts)
-  shards_are v = offering_is (terms g.terms) (stats_of g.nodes) (told_by g.parts) v g.parts ok.shaped own
+  shards_are v = offering_is (terms g.terms) g.nodes (told_by g.parts) v g.parts ok.shaped own
 
   entry_is : (v : Val) → entry_of (group_of v) ≡ record { val = v; stats = stats_on (over_told (told_by g.parts)) (stats_of g.nodes) (listing_shards g v) (value v) }
   entry_is v = ap (λ (s : Stats). record { val = v; stats = s })
-      (sym (ap (λ H. stats_on (over_told (told_by g.parts)) (stats_of g.nodes) H (value v)) (shards_are v) ∙ stats_are (terms g.terms) (stats_of g.nodes) (told_by g.parts) v g.parts ok.shaped own))
+      (sym (ap (λ H. stats_on (over_told (told_by g.parts)) (stats_of g.nodes) H (value v)) (shards_are v) ∙ stats_are (terms g.terms) g.nodes (told_by g.parts) v g.parts ok.shaped own))
 
   pub entries_are : (fs : List Found) (gs : List (Group Listing)) → map found_group fs ≡ gs → Holds (λ v. listed_by v g.parts) gs → All (IsCombined (stats_of g.nodes)) fs → map found_entry fs ≡ gathered_entries g
   entries_are fs gs same holds h =

@@ -4,7 +4,7 @@ use Rattle.std.proofs.lemmas.Bool.{ne_eqb}
 use Rattle.fc_spec.specs.requests.Request.{Nodes, no_nodes, statistic, facet, stats_of}
 use Rattle.fc_spec.specs.requests.RequestReading as reading
 use Rattle.fc_spec.specs.requests.Buckets.{Key}
-use Rattle.fc_spec.specs.messages.Message.{Partials, no_partials, partial, Way, Step}
+use Rattle.fc_spec.specs.messages.Message.{Partials, Way, Step}
 use Rattle.fc_spec.specs.messages.Message as message
 use Rattle.fc_spec.specs.messages.MessageShape.{is_complete, buckets_fit, rows_fit, insides_fit, wants_fit, root_fits, top_fits, is_nothing}
 use Rattle.fc_spec.specs.requests.Ranks.{offered_bound}
@@ -93,7 +93,7 @@ countable_along nodes (s ∷ way) h = countable_along (nodes_in s.node nodes) wa
 -- a list, and those behind it, beside a facet
 pub row_step : (n : Node) (row : PartialNode) (left : List PartialNode) (rest : Nodes) → has_buckets (kind_of n) ≡ true
     → rows_fit offered_bound (rows_view (row ∷ left)) (before (request.node_view n) rest)
-    ≡ (is_complete offered_bound (kind_view (kind_of n)) (node_view row) && buckets_fit (kind_view (kind_of n)) (stats_of (inner_view n)) (node_view row) None && insides_fit offered_bound (node_view row) (inner_view n) && rows_fit offered_bound (rows_view left) rest)
+    ≡ (is_complete offered_bound (kind_view (kind_of n)) (node_view row) && buckets_fit (kind_view (kind_of n)) (inner_view n) (node_view row) None && insides_fit offered_bound (node_view row) (inner_view n) && rows_fit offered_bound (rows_view left) rest)
 row_step n row left rest h = ap (rows_fit offered_bound (rows_view (row ∷ left))) (facet_is n h rest)
 
 pub no_row : (n : Node) (rest : Nodes) → has_buckets (kind_of n) ≡ true → rows_fit offered_bound (rows_view []) (before (request.node_view n) rest) ≡ false
@@ -122,23 +122,23 @@ third_fails true true true d h = absurd (cc h)
 
 module _ (n : Node) (row : PartialNode) (left rows : List PartialNode) (rest : Nodes) (h : has_buckets (kind_of n) ≡ true) (split : rows ≡ row ∷ left) where
   by_parts : rows_fit offered_bound (rows_view rows) (before (request.node_view n) rest)
-      ≡ (is_complete offered_bound (kind_view (kind_of n)) (buckets_view (out-PartialNode row).buckets.items) && buckets_fit (kind_view (kind_of n)) (stats_of (inner_view n)) (buckets_view (out-PartialNode row).buckets.items) None
+      ≡ (is_complete offered_bound (kind_view (kind_of n)) (buckets_view (out-PartialNode row).buckets.items) && buckets_fit (kind_view (kind_of n)) (inner_view n) (buckets_view (out-PartialNode row).buckets.items) None
       && insides_fit offered_bound (buckets_view (out-PartialNode row).buckets.items) (inner_view n) && rows_fit offered_bound (rows_view left) rest)
   by_parts = ap (λ l. rows_fit offered_bound (rows_view l) (before (request.node_view n) rest)) split ∙ row_step n row left rest h
-      ∙ ap (λ ps. is_complete offered_bound (kind_view (kind_of n)) ps && buckets_fit (kind_view (kind_of n)) (stats_of (inner_view n)) ps None && insides_fit offered_bound ps (inner_view n) && rows_fit offered_bound (rows_view left) rest) (node_is row)
+      ∙ ap (λ ps. is_complete offered_bound (kind_view (kind_of n)) ps && buckets_fit (kind_view (kind_of n)) (inner_view n) ps None && insides_fit offered_bound ps (inner_view n) && rows_fit offered_bound (rows_view left) rest) (node_is row)
 
-  pub row_fits : is_complete offered_bound (kind_view (kind_of n)) (buckets_view (out-PartialNode row).buckets.items) ≡ true → buckets_fit (kind_view (kind_of n)) (stats_of (inner_view n)) (buckets_view (out-PartialNode row).buckets.items) None ≡ true
+  pub row_fits : is_complete offered_bound (kind_view (kind_of n)) (buckets_view (out-PartialNode row).buckets.items) ≡ true → buckets_fit (kind_view (kind_of n)) (inner_view n) (buckets_view (out-PartialNode row).buckets.items) None ≡ true
       → insides_fit offered_bound (buckets_view (out-PartialNode row).buckets.items) (inner_view n) ≡ true → rows_fit offered_bound (rows_view rows) (before (request.node_view n) rest) ≡ rows_fit offered_bound (rows_view left) rest
   row_fits a b c = by_parts ∙ all_four _ _ _ (rows_fit offered_bound (rows_view left) rest) a b c
 
   pub not_complete : is_complete offered_bound (kind_view (kind_of n)) (buckets_view (out-PartialNode row).buckets.items) ≡ false → rows_fit offered_bound (rows_view rows) (before (request.node_view n) rest) ≡ false
   not_complete a = by_parts ∙ first_fails _ _ _ _ a
 
-  pub bad_buckets : buckets_fit (kind_view (kind_of n)) (stats_of (inner_view n)) (buckets_view (out-PartialNode row).buckets.items) None ≡ false → rows_fit offered_bound (rows_view rows) (before (request.node_view n) rest) ≡ false
+  pub bad_buckets : buckets_fit (kind_view (kind_of n)) (inner_view n) (buckets_view (out-PartialNode row).buckets.items) None ≡ false → rows_fit offered_bound (rows_view rows) (before (request.node_view n) rest) ≡ false
   bad_buckets b = by_parts ∙ second_fails _ _ _ _ b
 
   pub bad_insides : insides_fit offered_bound (buckets_view (out-PartialNode row).buckets.items) (inner_view n) ≡ false → rows_fit offered_bound (rows_view rows) (before (request.node_view n) rest) ≡ false
-  bad_insides c = by_parts ∙ third_fails (is_complete offered_bound (kind_view (kind_of n)) (buckets_view (out-PartialNode row).buckets.items)) (buckets_fit (kind_view (kind_of n)) (stats_of (inner_view n)) (buckets_view (out-PartialNode row).buckets.items) None) (insides_fit offered_bound (buckets_view (out-PartialNode row).buckets.items) (inner_view n)) (rows_fit offered_bound (rows_view left) rest) c
+  bad_insides c = by_parts ∙ third_fails (is_complete offered_bound (kind_view (kind_of n)) (buckets_view (out-PartialNode row).buckets.items)) (buckets_fit (kind_view (kind_of n)) (inner_view n) (buckets_view (out-PartialNode row).buckets.items) None) (insides_fit offered_bound (buckets_view (out-PartialNode row).buckets.items) (inner_view n)) (rows_fit offered_bound (rows_view left) rest) c
 
 -- after the last node
 pub rows_end : (rows : List PartialNode) → (length rows == 0) ≡ rows_fit offered_bound (rows_view rows) no_nodes

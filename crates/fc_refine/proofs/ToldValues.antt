@@ -14,7 +14,8 @@ use Rattle.std.proofs.lemmas.List.Sums.{sum_by-cons}
 use Rattle.fc_spec.specs.documents.Val.{Val, same_val, has_val}
 use Rattle.fc_spec.specs.requests.Buckets.{Key, value, missing, gap, before, between, after, whole}
 use Rattle.fc_spec.specs.requests.Combining.{combined, combined_values}
-use Rattle.fc_spec.specs.requests.Request.{StatKind, sum, min, max, countvals, Stat, Kind, no_nodes}
+use Rattle.fc_spec.specs.requests.Request.{StatKind, sum, min, max, countvals, Stat, Kind, Nodes, no_nodes, stats_of}
+use Rattle.fc_spec.specs.requests.Shape.{holds_exclusion}
 use Rattle.fc_spec.specs.requests.Request as request
 use Rattle.fc_spec.specs.requests.Statistics.{StatValue, number, extreme, Stats, amount, value_over, stats_over, combined_value}
 use Rattle.fc_spec.specs.replies.Reading.{stats_on}
@@ -60,30 +61,33 @@ module _ (v : Val) where
   same_test after = refl
   same_test whole = refl
 
-  module _ (kind : Kind) (ss : List Stat) where
-    head_ascends : (k : Key) (stats : Stats) (last : Key) → bucket_fits kind ss (Some last) k stats ≡ true → key_cmp last k ≡ Less
+  module _ (kind : Kind) (inner : Nodes) where
+    abbrev asked_of : List Stat
+    asked_of = stats_of inner
+
+    head_ascends : (k : Key) (stats : Stats) (last : Key) → bucket_fits kind inner (Some last) k stats ≡ true → key_cmp last k ≡ Less
     head_ascends k stats last h =
-        let one = (and_parts _ (values_fit ss stats.values) h).0 in
-        let two = (and_parts _ (count_fits k stats) one).0 in
+        let one = (and_parts _ (values_fit asked_of stats.values) h).0 in
+        let two = (and_parts _ (count_fits (holds_exclusion inner) k stats) one).0 in
         Less-from_is_lt (key_cmp last k) (and_parts (key_ascends (Some last) k) (buckets.is_key_of kind k) two).0
 
     -- every key behind stands after the value
-    none_behind : (i : ℕ) (ps : Partials) (last : Key) → (key_cmp (value v) last ≡ Less) ⊎ (key_cmp (value v) last ≡ Equal) → buckets_fit kind ss ps (Some last) ≡ true → listed_in v i ps ≡ []
+    none_behind : (i : ℕ) (ps : Partials) (last : Key) → (key_cmp (value v) last ≡ Less) ⊎ (key_cmp (value v) last ≡ Equal) → buckets_fit kind inner ps (Some last) ≡ true → listed_in v i ps ≡ []
     none_behind i no_partials last h fit = refl
     none_behind i (partial k stats rows rest) last h fit =
-        let parts = and_parts (bucket_fits kind ss (Some last) k stats) (buckets_fit kind ss rest (Some k)) fit in
+        let parts = and_parts (bucket_fits kind inner (Some last) k stats) (buckets_fit kind inner rest (Some k)) fit in
         let less = behind_key (value v) last k h (head_ascends k stats last parts.0) in
         ap (λ b. cond b ((i, stats) ∷ listed_in v i rest) (listed_in v i rest)) (not_value k less) ∙ none_behind i rest k (inl less) parts.1
 
     -- a value is listed once, with the statistics of its bucket
-    found_in : (i : ℕ) (ps : Partials) (last : Option Key) → buckets_fit kind ss ps last ≡ true → listed_in v i ps ≡ listing_of i (bucket_of (value v) ps)
+    found_in : (i : ℕ) (ps : Partials) (last : Option Key) → buckets_fit kind inner ps last ≡ true → listed_in v i ps ≡ listing_of i (bucket_of (value v) ps)
     found_in i no_partials last fit = refl
     found_in i (partial k stats rows rest) last fit =
         let here : Option HeldBucket = Some (record { stats = stats; nodes = no_nodes; rows = rows }) in
         go (is_key_of_value v k) refl (found_in i rest (Some k) later) ∙ ap (λ b. listing_of i (cond b here (bucket_of (value v) rest))) (sym (same_test k))
       where
-        later : buckets_fit kind ss rest (Some k) ≡ true
-        later = (and_parts (bucket_fits kind ss last k stats) (buckets_fit kind ss rest (Some k)) fit).1
+        later : buckets_fit kind inner rest (Some k) ≡ true
+        later = (and_parts (bucket_fits kind inner last k stats) (buckets_fit kind inner rest (Some k)) fit).1
 
         go : (b : Bool) → is_key_of_value v k ≡ b → listed_in v i rest ≡ listing_of i (bucket_of (value v) rest) → cond b ((i, stats) ∷ listed_in v i rest) (listed_in v i rest)
             ≡ listing_of i (cond b (Some (record { stats = stats; nodes = no_nodes; rows = rows })) (bucket_of (value v) rest))
@@ -91,19 +95,19 @@ module _ (v : Val) where
         go false e ih = ih
 
     -- which has the shape of the statistics
-    found_shape : (ps : Partials) (last : Option Key) → buckets_fit kind ss ps last ≡ true → (b : HeldBucket) → bucket_of (value v) ps ≡ Some b → values_fit ss b.stats.values ≡ true
+    found_shape : (ps : Partials) (last : Option Key) → buckets_fit kind inner ps last ≡ true → (b : HeldBucket) → bucket_of (value v) ps ≡ Some b → values_fit asked_of b.stats.values ≡ true
     found_shape no_partials last fit b e = absurd (cc e)
     found_shape (partial k stats rows rest) last fit b e = go (same_key (value v) k) e (λ h. found_shape rest (Some k) parts.1 b h)
       where
-        parts : (bucket_fits kind ss last k stats ≡ true) × (buckets_fit kind ss rest (Some k) ≡ true)
-        parts = and_parts (bucket_fits kind ss last k stats) (buckets_fit kind ss rest (Some k)) fit
+        parts : (bucket_fits kind inner last k stats ≡ true) × (buckets_fit kind inner rest (Some k) ≡ true)
+        parts = and_parts (bucket_fits kind inner last k stats) (buckets_fit kind inner rest (Some k)) fit
 
         stats_in : Option HeldBucket → List StatValue
         stats_in None = []
         stats_in (Some c) = c.stats.values
 
-        go : (t : Bool) → cond t (Some (record { stats = stats; nodes = no_nodes; rows = rows })) (bucket_of (value v) rest) ≡ Some b → (bucket_of (value v) rest ≡ Some b → values_fit ss b.stats.values ≡ true) → values_fit ss b.stats.values ≡ true
-        go true h ih = subst (λ vs. values_fit ss vs ≡ true) (ap stats_in h) (and_parts _ (values_fit ss stats.values) parts.0).1
+        go : (t : Bool) → cond t (Some (record { stats = stats; nodes = no_nodes; rows = rows })) (bucket_of (value v) rest) ≡ Some b → (bucket_of (value v) rest ≡ Some b → values_fit asked_of b.stats.values ≡ true) → values_fit asked_of b.stats.values ≡ true
+        go true h ih = subst (λ vs. values_fit asked_of vs ≡ true) (ap stats_in h) (and_parts _ (values_fit asked_of stats.values) parts.0).1
         go false h ih = ih h
 
   -- a value is among those listed where it has a bucket
@@ -130,18 +134,21 @@ module _ (v : Val) where
 -- ---- part by part
 
 -- the statistics of each told value fit, and each shard told its part
-abbrev pub FitParts : Kind → List Stat → List Part → Type 0
-FitParts kind ss ps = All (λ p. buckets_fit kind ss p.buckets None ≡ true) ps
+abbrev pub FitParts : Kind → Nodes → List Part → Type 0
+FitParts kind inner ps = All (λ p. buckets_fit kind inner p.buckets None ≡ true) ps
 
 abbrev pub AreTold : (ℕ → Partials) → List Part → Type 0
 AreTold told ps = All (λ p. told p.shard ≡ p.buckets) ps
 
-module _ (kind : Kind) (ss : List Stat) (told : ℕ → Partials) (v : Val) where
-  fit_head : (p : Part) (ps : List Part) → FitParts kind ss (p ∷ ps) → buckets_fit kind ss p.buckets None ≡ true
-  fit_head p ps h = All-head (λ (q : Part). buckets_fit kind ss q.buckets None ≡ true) p ps h
+module _ (kind : Kind) (inner : Nodes) (told : ℕ → Partials) (v : Val) where
+  abbrev ss : List Stat
+  ss = stats_of inner
 
-  fit_tail : (p : Part) (ps : List Part) → FitParts kind ss (p ∷ ps) → FitParts kind ss ps
-  fit_tail p ps h = All-tail (λ (q : Part). buckets_fit kind ss q.buckets None ≡ true) p ps h
+  fit_head : (p : Part) (ps : List Part) → FitParts kind inner (p ∷ ps) → buckets_fit kind inner p.buckets None ≡ true
+  fit_head p ps h = All-head (λ (q : Part). buckets_fit kind inner q.buckets None ≡ true) p ps h
+
+  fit_tail : (p : Part) (ps : List Part) → FitParts kind inner (p ∷ ps) → FitParts kind inner ps
+  fit_tail p ps h = All-tail (λ (q : Part). buckets_fit kind inner q.buckets None ≡ true) p ps h
 
   told_head : (p : Part) (ps : List Part) → AreTold told (p ∷ ps) → told p.shard ≡ p.buckets
   told_head p ps h = All-head (λ (q : Part). told q.shard ≡ q.buckets) p ps h
@@ -150,12 +157,12 @@ module _ (kind : Kind) (ss : List Stat) (told : ℕ → Partials) (v : Val) wher
   told_tail p ps h = All-tail (λ (q : Part). told q.shard ≡ q.buckets) p ps h
 
   -- the shards that list the value
-  pub offering_is : (ps : List Part) → FitParts kind ss ps → AreTold told ps → filter (λ i. has_val v (listed_values (told i))) (shards_of ps) ≡ map (λ (l : Listing). l.0) (listed_by v ps)
+  pub offering_is : (ps : List Part) → FitParts kind inner ps → AreTold told ps → filter (λ i. has_val v (listed_values (told i))) (shards_of ps) ≡ map (λ (l : Listing). l.0) (listed_by v ps)
   offering_is [] fit are = refl
   offering_is (p ∷ ps) fit are =
       ap (λ b. cond b (p.shard ∷ rest) rest) (ap (λ bs. has_val v (listed_values bs)) (told_head p ps are) ∙ has_in v p.buckets)
       ∙ go (bucket_of (value v) p.buckets) (offering_is ps (fit_tail p ps fit) (told_tail p ps are))
-      ∙ sym (ap (λ l. map (λ (l : Listing). l.0) (l ++ listed_by v ps)) (found_in v kind ss p.shard p.buckets None (fit_head p ps fit)))
+      ∙ sym (ap (λ l. map (λ (l : Listing). l.0) (l ++ listed_by v ps)) (found_in v kind inner p.shard p.buckets None (fit_head p ps fit)))
     where
       rest : List ℕ
       rest = filter (λ i. has_val v (listed_values (told i))) (shards_of ps)
@@ -165,13 +172,13 @@ module _ (kind : Kind) (ss : List Stat) (told : ℕ → Partials) (v : Val) wher
       go (Some b) later = ap (λ l. p.shard ∷ l) later
 
   -- some shard lists it where something is listed
-  pub any_is : (ps : List Part) → FitParts kind ss ps → AreTold told ps → has_val v (flat_map (λ i. listed_values (told i)) (shards_of ps)) ≡ not (is_empty (listed_by v ps))
+  pub any_is : (ps : List Part) → FitParts kind inner ps → AreTold told ps → has_val v (flat_map (λ i. listed_values (told i)) (shards_of ps)) ≡ not (is_empty (listed_by v ps))
   any_is [] fit are = refl
   any_is (p ∷ ps) fit are =
       list_any-append (same_val v) (listed_values (told p.shard)) (flat_map (λ i. listed_values (told i)) (shards_of ps))
       ∙ ap (λ b. b || more) (ap (λ bs. has_val v (listed_values bs)) (told_head p ps are) ∙ has_in v p.buckets)
       ∙ go (bucket_of (value v) p.buckets) (any_is ps (fit_tail p ps fit) (told_tail p ps are))
-      ∙ sym (ap (λ l. not (is_empty (l ++ listed_by v ps))) (found_in v kind ss p.shard p.buckets None (fit_head p ps fit)))
+      ∙ sym (ap (λ l. not (is_empty (l ++ listed_by v ps))) (found_in v kind inner p.shard p.buckets None (fit_head p ps fit)))
     where
       more : Bool
       more = has_val v (flat_map (λ i. listed_values (told i)) (shards_of ps))
@@ -196,7 +203,7 @@ module _ (kind : Kind) (ss : List Stat) (told : ℕ → Partials) (v : Val) wher
   of_no_shard (s ∷ ss) m = ap (λ l. value_over s [] ∷ l) (of_no_shard ss (m + 1))
 
   -- the statistics over the shards that list it are those of all that is listed
-  pub stats_are : (ps : List Part) → FitParts kind ss ps → AreTold told ps → stats_on (over_told told) ss (map (λ (l : Listing). l.0) (listed_by v ps)) (value v) ≡ all_of ss (listed_by v ps)
+  pub stats_are : (ps : List Part) → FitParts kind inner ps → AreTold told ps → stats_on (over_told told) ss (map (λ (l : Listing). l.0) (listed_by v ps)) (value v) ≡ all_of ss (listed_by v ps)
   stats_are [] fit are = rw (of_no_shard ss 0) refl
   stats_are (p ∷ ps) fit are =
       ap (λ l. stats_on (over_told told) ss (map (λ (l : Listing). l.0) (l ++ listed_by v ps)) (value v)) listed
@@ -204,7 +211,7 @@ module _ (kind : Kind) (ss : List Stat) (told : ℕ → Partials) (v : Val) wher
       ∙ sym (ap (λ l. all_of ss (l ++ listed_by v ps)) listed)
     where
       listed : listed_in v p.shard p.buckets ≡ listing_of p.shard (bucket_of (value v) p.buckets)
-      listed = found_in v kind ss p.shard p.buckets None (fit_head p ps fit)
+      listed = found_in v kind inner p.shard p.buckets None (fit_head p ps fit)
 
       H : List ℕ
       H = map (λ (l : Listing). l.0) (listed_by v ps)
@@ -221,7 +228,7 @@ module _ (kind : Kind) (ss : List Stat) (told : ℕ → Partials) (v : Val) wher
       go (Some b) e later =
           let there : bucket_of (value v) (told p.shard) ≡ Some b = ap (bucket_of (value v)) (told_head p ps are) ∙ e in
           let values = one_more ss 0 (λ m d. slice_index_or b.stats.values m d) b.stats.values (λ j d. ap (λ k. slice_index_or b.stats.values k d) (let z : 0 + j ≡ j = omega arith in z))
-          (found_shape v kind ss p.buckets None (fit_head p ps fit) b e) (λ s. value_told told s.0 s.1 H (value v)) in
+          (found_shape v kind inner p.buckets None (fit_head p ps fit) b e) (λ s. value_told told s.0 s.1 H (value v)) in
           ap with_first there ∙ ap (λ vs. record { count = b.stats.count + count_told told H (value v); values = vs }) values ∙ ap (combined ss b.stats) later
 
   -- ---- the sums fit
@@ -229,21 +236,21 @@ module _ (kind : Kind) (ss : List Stat) (told : ℕ → Partials) (v : Val) wher
   abbrev pub size_at : ℕ → List StatValue → ℕ
   size_at m vs = size_of (slice_index_or vs m (number (pos 0)))
 
-  counts_are : (ps : List Part) → FitParts kind ss ps → sum_by (λ (p : Part). held_count (bucket_of (value v) p.buckets)) ps ≡ sum_by (λ (l : Listing). l.1.count) (listed_by v ps)
+  counts_are : (ps : List Part) → FitParts kind inner ps → sum_by (λ (p : Part). held_count (bucket_of (value v) p.buckets)) ps ≡ sum_by (λ (l : Listing). l.1.count) (listed_by v ps)
   counts_are [] fit = refl
   counts_are (p ∷ ps) fit =
       sum_by-cons (λ (p : Part). held_count (bucket_of (value v) p.buckets)) p ps ∙ ap (λ n. held_count (bucket_of (value v) p.buckets) + n) (counts_are ps (fit_tail p ps fit)) ∙ go (bucket_of (value v) p.buckets)
-      ∙ sym (ap (λ l. sum_by (λ (l : Listing). l.1.count) (l ++ listed_by v ps)) (found_in v kind ss p.shard p.buckets None (fit_head p ps fit)))
+      ∙ sym (ap (λ l. sum_by (λ (l : Listing). l.1.count) (l ++ listed_by v ps)) (found_in v kind inner p.shard p.buckets None (fit_head p ps fit)))
     where
       go : (o : Option HeldBucket) → held_count o + sum_by (λ (l : Listing). l.1.count) (listed_by v ps) ≡ sum_by (λ (l : Listing). l.1.count) (listing_of p.shard o ++ listed_by v ps)
       go None = zero-add (sum_by (λ (l : Listing). l.1.count) (listed_by v ps))
       go (Some b) = sym (sum_by-cons (λ (l : Listing). l.1.count) (p.shard, b.stats) (listed_by v ps))
 
-  sizes_are : (m : ℕ) (ps : List Part) → FitParts kind ss ps → sum_by (λ (p : Part). held_size m (bucket_of (value v) p.buckets)) ps ≡ sum_by (λ (l : Listing). size_at m l.1.values) (listed_by v ps)
+  sizes_are : (m : ℕ) (ps : List Part) → FitParts kind inner ps → sum_by (λ (p : Part). held_size m (bucket_of (value v) p.buckets)) ps ≡ sum_by (λ (l : Listing). size_at m l.1.values) (listed_by v ps)
   sizes_are m [] fit = refl
   sizes_are m (p ∷ ps) fit =
       sum_by-cons (λ (p : Part). held_size m (bucket_of (value v) p.buckets)) p ps ∙ ap (λ n. held_size m (bucket_of (value v) p.buckets) + n) (sizes_are m ps (fit_tail p ps fit)) ∙ go (bucket_of (value v) p.buckets)
-      ∙ sym (ap (λ l. sum_by (λ (l : Listing). size_at m l.1.values) (l ++ listed_by v ps)) (found_in v kind ss p.shard p.buckets None (fit_head p ps fit)))
+      ∙ sym (ap (λ l. sum_by (λ (l : Listing). size_at m l.1.values) (l ++ listed_by v ps)) (found_in v kind inner p.shard p.buckets None (fit_head p ps fit)))
     where
       go : (o : Option HeldBucket) → held_size m o + sum_by (λ (l : Listing). size_at m l.1.values) (listed_by v ps) ≡ sum_by (λ (l : Listing). size_at m l.1.values) (listing_of p.shard o ++ listed_by v ps)
       go None = zero-add (sum_by (λ (l : Listing). size_at m l.1.values) (listed_by v ps))
@@ -303,17 +310,17 @@ module _ (kind : Kind) (ss : List Stat) (told : ℕ → Partials) (v : Val) wher
       one request.missing field = refl
   no_sizes (s ∷ ss) (suc m) = no_sizes ss m
 
-  shapes : (ps : List Part) → FitParts kind ss ps → All (λ (l : Listing). HasShape ss l.1) (listed_by v ps)
+  shapes : (ps : List Part) → FitParts kind inner ps → All (λ (l : Listing). HasShape ss l.1) (listed_by v ps)
   shapes [] fit = λ k d l. absurd (omega arith)
   shapes (p ∷ ps) fit =
-      subst (λ l. All (λ (l : Listing). HasShape ss l.1) (l ++ listed_by v ps)) (sym (found_in v kind ss p.shard p.buckets None (fit_head p ps fit))) (go (bucket_of (value v) p.buckets) refl (shapes ps (fit_tail p ps fit)))
+      subst (λ l. All (λ (l : Listing). HasShape ss l.1) (l ++ listed_by v ps)) (sym (found_in v kind inner p.shard p.buckets None (fit_head p ps fit))) (go (bucket_of (value v) p.buckets) refl (shapes ps (fit_tail p ps fit)))
     where
       go : (o : Option HeldBucket) → bucket_of (value v) p.buckets ≡ o → All (λ (l : Listing). HasShape ss l.1) (listed_by v ps) → All (λ (l : Listing). HasShape ss l.1) (listing_of p.shard o ++ listed_by v ps)
       go None e ih = ih
-      go (Some b) e ih = All-cons (λ (l : Listing). HasShape ss l.1) (p.shard, b.stats) (listed_by v ps) (found_shape v kind ss p.buckets None (fit_head p ps fit) b e) ih
+      go (Some b) e ih = All-cons (λ (l : Listing). HasShape ss l.1) (p.shard, b.stats) (listed_by v ps) (found_shape v kind inner p.buckets None (fit_head p ps fit) b e) ih
 
   -- what is told of the value can be combined
-  pub can_combine : (ps : List Part) → FitParts kind ss ps → SumsFit ps → CanCombine ss (listed_by v ps)
+  pub can_combine : (ps : List Part) → FitParts kind inner ps → SumsFit ps → CanCombine ss (listed_by v ps)
   can_combine ps fit sums = record {
     shaped = shapes ps fit;
     fit = in_turn (listed_by v ps) (stats_over ss []) (omega (arith, counts_are ps fit, sums.counts (value v))) (λ m. omega (arith, no_sizes ss m, sizes_are m ps fit, sums.sizes m (value v)));

@@ -2,7 +2,7 @@
 use Rattle.std.specs.Prelude.{ℕ, List, map, All, IsTrue, None}
 use Rattle.fc_spec.specs.documents.Val.{Val}
 use Rattle.fc_spec.specs.requests.Ranks.{Entry, page}
-use Rattle.fc_spec.specs.requests.Request.{Terms, terms, Nodes, stats_of}
+use Rattle.fc_spec.specs.requests.Request.{Terms, terms, Nodes}
 use Rattle.fc_spec.specs.replies.Chosen.{candidate_entries, chosen, chosen_bound, offering}
 use Rattle.fc_spec.specs.messages.MessageShape.{buckets_fit}
 use Rattle.fc_spec.specs.messages.Message.{Partials}
@@ -20,7 +20,7 @@ pub record Gathered : Type 0 where
 
 -- the part has the shape of the facet's buckets, however many there are and whatever is nested in them
 abbrev pub HasFacetShape : Terms → Nodes → Partials → Type 0
-HasFacetShape t inner buckets = IsTrue (buckets_fit (terms t) (stats_of inner) buckets None)
+HasFacetShape t inner buckets = IsTrue (buckets_fit (terms t) inner buckets None)
 
 -- what candidates keep: the facet, its node in the request, and each shard with the node that it told
 pub record Kept : Type 0 where

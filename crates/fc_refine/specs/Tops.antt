@@ -6,13 +6,9 @@ use Rattle.fc_spec.specs.requests.Ranks.{Entry, below_rank}
 use Rattle.fc_spec.specs.requests.Request.{Sort}
 use Rattle.fc_spec.specs.requests.Statistics.{Stats}
 use Rattle.fc_spec.specs.messages.Message.{Partials, no_partials, partial, no_rows}
+use Rattle.fc_spec.specs.messages.MessageShape.{is_value}
 use Rattle.fc_partial.specs.BucketView.{Part}
 use Rattle.fc_partial.specs.Tallied as tally
-
--- a value of a terms facet
-abbrev pub is_value : Key → Bool
-is_value (value v) = true
-is_value _ = false
 
 -- a key that buckets of a terms facet may have
 abbrev pub is_value_or_missing : Key → Bool

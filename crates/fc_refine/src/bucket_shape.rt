@@ -4,6 +4,7 @@ ghost use Rattle.fc_spec.specs.messages.Held.{listed_values};
 ghost use Rattle.fc_spec.specs.messages.MessageShape as definition;
 ghost use Rattle.fc_spec.specs.requests.Ranks.{offered_bound};
 ghost use Rattle.fc_spec.specs.requests.Buckets as buckets;
+ghost use Rattle.fc_spec.specs.requests.Shape.{holds_exclusion as holds_exclusion_of};
 ghost use Rattle.fc_spec.specs.requests.Request.{stats_of};
 ghost use Rattle.fc_base.specs.StatisticView.{stat_kind_view, stat_view};
 ghost use Rattle.fc_base.specs.View.{val_view};
@@ -18,7 +19,7 @@ ghost use Rattle.fc_refine.specs.Leaving.{LeavesValues};
 use crate::offered;
 use fc_base::{Name, Stat, StatKind, Val};
 use fc_partial::{Key, PartialBucket, StatValue, Stats};
-use fc_request::{Kind, Node};
+use fc_request::{Kind, Node, holds_exclusion};
 
 // Whether the statistic is a least or greatest value.
 fn is_extreme(of: StatKind) -> bool
@@ -105,30 +106,37 @@ fn ascends(last: Option<&Key>, key: &Key) -> bool
     }
 }
 
-fn count_fits(key: &Key, stats: &Stats) -> bool
-    ensures { result ≡ definition.count_fits (key_view key.now) (stats_view stats.now) }
+// Whether there is a document, where the key needs one in a facet with these nodes.
+fn count_fits(nodes: &[Node], key: &Key, stats: &Stats) -> bool
+    ensures { result ≡ definition.count_fits (holds_exclusion_of (nodes_view nodes.now)) (key_view key.now)
+        (stats_view stats.now) }
 {
+    if 1 <= stats.count {
+        return true;
+    }
     match key {
         Key::Whole => true,
-        _ => 1 <= stats.count,
+        Key::Value(_) => false,
+        _ => holds_exclusion(nodes),
     }
 }
 
 fn bucket_fits(kind: &Kind, nodes: &[Node], last: Option<&Key>, key: &Key, stats: &Stats) -> bool
     requires { IsCountable (kind_view kind.now) }
-    ensures { result ≡ definition.bucket_fits (kind_view kind.now) (stats_of (nodes_view nodes.now))
+    ensures { result ≡ definition.bucket_fits (kind_view kind.now) (nodes_view nodes.now)
         (option_map (λ k. key_view k.now) last.entry) (key_view key.now) (stats_view stats.now) }
 {
     ascends(last, key)
         && is_key_of(kind, key)
-        && count_fits(key, stats)
+        && count_fits(nodes, key, stats)
         && values_fit(nodes, &stats.values)
 }
 
-/// Whether the buckets of a facet with these nodes have ascending keys of it, documents and its statistics.
+/// Whether the buckets of a facet with these nodes have ascending keys of it, documents where they need them, and its
+/// statistics.
 pub(crate) fn buckets_fit(kind: &Kind, nodes: &[Node], all: &[PartialBucket]) -> bool
     requires { IsCountable (kind_view kind.now) }
-    ensures { result ≡ definition.buckets_fit (kind_view kind.now) (stats_of (nodes_view nodes.now)) (buckets_view all.now) None }
+    ensures { result ≡ definition.buckets_fit (kind_view kind.now) (nodes_view nodes.now) (buckets_view all.now) None }
 {
     let mut last = None;
     for bucket in all {

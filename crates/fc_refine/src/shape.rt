@@ -58,9 +58,10 @@ fn wants_fit(nodes: &[Node], wants: &[Want], buckets: &[PartialBucket]) -> bool
 }
 
 /// Whether the message has the shape that the ask demands: the root's bucket, or one for each want in order, of its key;
-/// in each bucket the facet's statistics and a list for each nested facet, whose keys ascend and are the facet's, with at
-/// least one document in each bucket but a query facet's, and no more values than a shard offers. The gaps of the
-/// request's ranges can be counted, as those of any request that was read.
+/// in each bucket the facet's statistics and a list for each nested facet, whose keys ascend and are the facet's, with no
+/// more values than a shard offers. Each of its buckets has a document, but a query facet's and, where the facet holds one
+/// that excludes tags, those that are no value's. The gaps of the request's ranges can be counted, as those of any request
+/// that was read.
 pub fn shaped(request: &Request, ask: &Ask, message: &Message) -> bool
     requires { AreCountable (request_view request.now).nodes }
     ensures { result ≡ definition.is_shaped (request_view request.now) (ask_view ask.now) (message_view message.now) }

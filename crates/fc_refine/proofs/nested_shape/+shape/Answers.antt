@@ -2,7 +2,6 @@ use Rattle.std.proofs.Common.{◌∙◌, ◌&&◌, ap, sym, drop, ◌+◌, None}
 use Rattle.std.proofs.lemmas.List.{drop_all}
 use Rattle.fc_spec.specs.messages.MessageShape.{is_complete, buckets_fit, rows_fit, insides_fit}
 use Rattle.fc_spec.specs.requests.Ranks.{offered_bound}
-use Rattle.fc_spec.specs.requests.Request.{stats_of}
 use Rattle.fc_partial.specs.BucketView.{buckets_view, rows_view}
 use Rattle.fc_request.specs.FacetNode.{kind_of, kind_view}
 use Rattle.fc_request.specs.NodeView.{inner_view, nodes_view}
@@ -22,8 +21,8 @@ rows_left-returns-then-not-buckets_fit t c = λ rest.
     let n = c.args.node.now in
     let K = kind_view (kind_of n) in
     bad_buckets n c.in_ok-row.row.now c.in_ok-row.left.now c.args.rows.now rest (has_buckets_by (kind_of n) c.in_default.not-Stat) c.in_ok-row.ensures.cases.0
-    (ap (λ bs. buckets_fit K (stats_of (inner_view n)) (buckets_view bs) None) (sym c.deref-3.ensures.value)
-    ∙ ap (λ ns. buckets_fit K (stats_of (nodes_view ns)) (buckets_view c.deref-3.result.now) None) (sym c.deref-2.ensures.value) ∙ sym c.buckets_fit.ensures ∙ c.if-not-buckets_fit.true)
+    (ap (λ bs. buckets_fit K (inner_view n) (buckets_view bs) None) (sym c.deref-3.ensures.value)
+    ∙ ap (λ ns. buckets_fit K (nodes_view ns) (buckets_view c.deref-3.result.now) None) (sym c.deref-2.ensures.value) ∙ sym c.buckets_fit.ensures ∙ c.if-not-buckets_fit.true)
 
 pub rows_left-returns-then-not-insides_fit : goal.rows_left-returns-then-not-insides_fit
 rows_left-returns-then-not-insides_fit t c = λ rest.
@@ -38,8 +37,8 @@ rows_left-returns t c = λ rest.
     let K = kind_view (kind_of n) in
     row_fits n c.in_ok-row.row.now c.in_ok-row.left.now c.args.rows.now rest (has_buckets_by (kind_of n) c.in_default.not-Stat) c.in_ok-row.ensures.cases.0
     (ap (λ bs. is_complete offered_bound K (buckets_view bs)) (sym c.deref.ensures.value) ∙ sym c.is_complete.ensures ∙ c.if-not-is_complete.false)
-    (ap (λ bs. buckets_fit K (stats_of (inner_view n)) (buckets_view bs) None) (sym c.deref-3.ensures.value)
-    ∙ ap (λ ns. buckets_fit K (stats_of (nodes_view ns)) (buckets_view c.deref-3.result.now) None) (sym c.deref-2.ensures.value) ∙ sym c.buckets_fit.ensures ∙ c.if-not-buckets_fit.false)
+    (ap (λ bs. buckets_fit K (inner_view n) (buckets_view bs) None) (sym c.deref-3.ensures.value)
+    ∙ ap (λ ns. buckets_fit K (nodes_view ns) (buckets_view c.deref-3.result.now) None) (sym c.deref-2.ensures.value) ∙ sym c.buckets_fit.ensures ∙ c.if-not-buckets_fit.false)
     (ap (λ bs. insides_fit offered_bound (buckets_view bs) (inner_view n)) (sym c.deref-5.ensures.value)
     ∙ ap (λ ns. insides_fit offered_bound (buckets_view c.deref-5.result.now) (nodes_view ns)) (sym c.deref-4.ensures.value) ∙ sym c.insides_fit.ensures ∙ c.if-not-insides_fit.false)
 
