@@ -6,7 +6,7 @@ use Rattle.fc_spec.specs.documents.Val.{Val, has_val, distinct}
 use Rattle.fc_spec.specs.requests.Request.{Stat, Terms, Kind, terms, range, query, Facet, Nodes, no_nodes, statistic, facet, stats_of}
 use Rattle.fc_spec.specs.requests.Buckets.{Key, value, missing, gap, before, between, after, whole}
 use Rattle.fc_spec.specs.requests.Ranks.{Entry, below_rank}
-use Rattle.fc_spec.specs.requests.Shape.{asks_again}
+use Rattle.fc_spec.specs.requests.Shape.{asks_again, counts_all}
 use Rattle.fc_spec.specs.requests.Statistics.{Stats, shown}
 use Rattle.fc_spec.specs.replies.Reading.{Reading, stats_on}
 use Rattle.fc_spec.specs.replies.Reply.{bucket, Facets, with_buckets}
@@ -46,7 +46,7 @@ module _ {B C D E : Type 0} (R : Reading B D) (S : Reading C E) (f : B → C) (g
     chosen_same = ap (λ es. map (λ e. e.val) (below_rank t.sort (chosen_bound t) es)) candidate_entries_same
 
     pub known_same : (v : Val) → known R t inner H Y v ≡ known S t inner H (g Y) v
-    known_same v = ap (cond t.refine H) (offering_same v)
+    known_same v = ap (cond (counts_all t inner) H) (offering_same v)
 
     pub chosen_entries_same : chosen_entries R t inner H Y ≡ chosen_entries S t inner H (g Y)
     chosen_entries_same = λ j. map (λ v. entry_same (known_same v j) v j) (chosen_same j)
@@ -101,7 +101,7 @@ module _ {B C D E : Type 0} (R : Reading B D) (S : Reading C E) (f : B → C) (g
 
     facet_lacks_same : (kind : Kind) (inner : Nodes) (e n : ℕ) (H : List ℕ) (Y : D) (way : Way) (u v : ℕ → List Lack) → ((d : ℕ) → u d ≡ v d)
         → lacking_at R has kind inner e n H Y way u ≡ lacking_at S had kind inner e n H (g Y) way v
-    facet_lacks_same (terms t) inner zero n H Y way u v same = ap (λ all. cond (asks_again t) all []) (values_same t inner n H Y way)
+    facet_lacks_same (terms t) inner zero n H Y way u v same = ap (λ all. cond (asks_again t inner) all []) (values_same t inner n H Y way)
     facet_lacks_same (terms t) inner (suc e) n H Y way u v same = same e
     facet_lacks_same (range p) inner e n H Y way u v same = same e
     facet_lacks_same (query q) inner e n H Y way u v same = same e

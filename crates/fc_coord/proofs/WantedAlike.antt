@@ -8,7 +8,7 @@ use Rattle.fc_spec.specs.requests.Buckets.{Key, value}
 use Rattle.fc_spec.specs.requests.Paths.{at_root}
 use Rattle.fc_spec.specs.requests.Ranks.{Entry, below_rank}
 use Rattle.fc_spec.specs.requests.Statistics.{Stats, combined_value}
-use Rattle.fc_spec.specs.requests.Shape.{asks_again}
+use Rattle.fc_spec.specs.requests.Shape.{asks_again, counts_all}
 use Rattle.fc_spec.specs.replies.Reading.{stats_on}
 use Rattle.fc_spec.specs.replies.Chosen.{candidates, offering, entry_on, chosen, chosen_bound, known}
 use Rattle.fc_spec.specs.replies.Printed.{terms_keys}
@@ -94,7 +94,7 @@ module _ (A C : List Told) (r : Request) (e : ℕ) (shallow : (i : ℕ) (way : W
   chosen_alike t inner H way n le = λ j. map (λ (w : Entry). w.val) (below_rank t.sort (chosen_bound t) (map (λ v. entry_alike t inner H way n v le j) (candidates_alike t inner H way n le j)))
 
   known_alike : (t : Terms) (inner : Nodes) (H : List ℕ) (way : Way) (n : ℕ) (v : Val) → way_depth r.nodes way ≤ e → known (over_held A) t inner H (node_at way n) v ≡ known (over_held C) t inner H (node_at way n) v
-  known_alike t inner H way n v le = λ j. cond t.refine H (offering_alike t inner H way n v le j)
+  known_alike t inner H way n v le = λ j. cond (counts_all t inner) H (offering_alike t inner H way n v le j)
 
   -- the buckets of the facet too
   known_entry_alike : (t : Terms) (inner : Nodes) (H : List ℕ) (way : Way) (n : ℕ) (v : Val) → way_depth r.nodes way ≤ e → way_depth r.nodes (way ++ step_to n (value v)) ≤ e
@@ -135,7 +135,7 @@ module _ (A C : List Told) (r : Request) (e : ℕ) (shallow : (i : ℕ) (way : W
   at_alike : (way : Way) (n : ℕ) (f : Facet) (kind : Kind) (inner : Nodes) (H : List ℕ) (d : ℕ) → f.kind ≡ kind → facet_at n (nodes_of r way) ≡ Some (f, inner) → Inside inner → way_depth r.nodes way + d ≤ e → wanted_held A kind inner n H way d ≡ wanted_held C kind inner n H way d
   at_alike way n f (terms t) inner H zero is at inside bound =
       let le : way_depth r.nodes way ≤ e = omega arith in
-      λ j. cond (asks_again t) (flat_map (λ v. each_of H (want_of way n (value v))) (chosen_alike t inner H way n le j)) []
+      λ j. cond (asks_again t inner) (flat_map (λ v. each_of H (want_of way n (value v))) (chosen_alike t inner H way n le j)) []
   at_alike way n f (terms t) inner H (suc d) is at inside bound =
       let own = ap own_depth is in
       ap (λ k. under_held A k inner n H way d) (sym is) ∙ under_alike way n f inner H d at inside (omega arith) ∙ ap (λ k. under_held C k inner n H way d) is

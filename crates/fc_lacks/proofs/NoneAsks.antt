@@ -22,7 +22,7 @@ neither true b h = absurd (false≢true (sym h))
 neither false b h = (refl, h)
 
 module _ {B D : Type 0} (R : Reading B D) (has : B → ℕ → Bool) where
-  none_at : (kind : Kind) (inner : Nodes) (e n : ℕ) (H : List ℕ) (Y : D) (way : Way) (asks : ℕ → Bool) (under : ℕ → List Lack) → asks_under kind e asks ≡ false → ((d : ℕ) → asks d ≡ false → under d ≡ [])
+  none_at : (kind : Kind) (inner : Nodes) (e n : ℕ) (H : List ℕ) (Y : D) (way : Way) (asks : ℕ → Bool) (under : ℕ → List Lack) → asks_under kind inner e asks ≡ false → ((d : ℕ) → asks d ≡ false → under d ≡ [])
       → lacking_at R has kind inner e n H Y way under ≡ []
   none_at (terms t) inner zero n H Y way asks under h u = ap (λ b. cond b (lacking_values R has t inner n H Y way) []) h
   none_at (terms t) inner (suc e) n H Y way asks under h u = u e h
@@ -41,7 +41,7 @@ module _ {B D : Type 0} (R : Reading B D) (has : B → ℕ → Bool) where
   none_lacking (statistic name s rest) e n H X way h = none_lacking rest e (suc n) H X way h
   none_lacking (facet f inner rest) e n H X way h =
       let Y = R.domain_on n f H X in
-      let both = neither (asks_under f.kind e (λ d. asks_at d inner)) (asks_at e rest) h in
+      let both = neither (asks_under f.kind inner e (λ d. asks_at d inner)) (asks_at e rest) h in
       let here = none_printed (R.count_on H X == 0) f _ (none_at f.kind inner e n H Y way (λ d. asks_at d inner) _ both.0 (λ d none. none_of_all (λ k. lacking R has d inner 0 (carried R f.kind inner H Y k) (R.bucket_at f.kind Y k) (way ++ record { node = n; key = k } ∷ [])) (printed_keys R f.kind inner H Y)
       (λ k. none_lacking inner d 0 (carried R f.kind inner H Y k) (R.bucket_at f.kind Y k) (way ++ record { node = n; key = k } ∷ []) none))) in
       let later = none_lacking rest e (suc n) H X way both.1 in

@@ -56,7 +56,7 @@ module _ (A : List Told) where
   -- at a facet
   at_untold : (kind : Kind) (inner : Nodes) (e n : ℕ) (H : List ℕ) (way : Way) (wanted_under lacking_under : ℕ → List Lack) → ((d : ℕ) → untold A (wanted_under d) ≡ lacking_under d)
       → untold A (wanted_at R kind inner e n H (record { way = way; node = n }) way wanted_under) ≡ lacking_at R has kind inner e n H (record { way = way; node = n }) way lacking_under
-  at_untold (terms t) inner zero n H way u l same = go (asks_again t)
+  at_untold (terms t) inner zero n H way u l same = go (asks_again t inner)
     where
       go : (b : Bool) → untold A (cond b (wanted_values R t inner n H (record { way = way; node = n }) way) []) ≡ cond b (lacking_values R has t inner n H (record { way = way; node = n }) way) []
       go true = values_untold t inner n H way

@@ -84,7 +84,7 @@ module _ {B D : Type 0} (R : Reading B D) (has : B → ℕ → Bool) where
 
       -- at a terms facet of the depth its own values
       pub values_here : (t : _) → kind_of node ≡ k.Terms t → e ≡ 0 → ((R.count_on H X == 0) && is_empty f.change.exclude) ≡ false
-          → lacking R has e (node_before (node_view node) no_nodes) n H X way ≡ cond (asks_again (terms_view t)) (lacking_values R has (terms_view t) inner n H Y way) []
+          → lacking R has e (node_before (node_view node) no_nodes) n H X way ≡ cond (asks_again (terms_view t) inner) (lacking_values R has (terms_view t) inner n H Y way) []
       values_here t is none printed = shown printed ∙ ap₂ (λ kind d. lacking_at R has (kind_view kind) inner d n H Y way (lacking_under R has (kind_view (kind_of node)) inner n H Y way)) is none
 
       -- at another one what lacks under its buckets

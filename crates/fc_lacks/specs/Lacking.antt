@@ -24,7 +24,7 @@ module _ {B D : Type 0} (R : Reading B D) (has : B → ℕ → Bool) where
 
   -- what lacks at a facet, of terms facets with e terms facets between: at depth 0 a terms facet's own chosen values, and nothing where it does not ask again; else what lacks under its buckets
   abbrev pub lacking_at : Kind → Nodes → (e n : ℕ) → List ℕ → D → Way → (under : ℕ → List Lack) → List Lack
-  lacking_at (terms t) inner zero n H Y way under = if asks_again t then lacking_values t inner n H Y way else []
+  lacking_at (terms t) inner zero n H Y way under = if asks_again t inner then lacking_values t inner n H Y way else []
   lacking_at (terms t) inner (suc e) n H Y way under = under e
   lacking_at _ inner e n H Y way under = under e
 

@@ -17,7 +17,7 @@ fn node_asks(node: &Node, depth: u32) -> bool
     match &node.kind {
         Kind::Terms(terms) => {
             if depth == 0 {
-                asks_again(terms)
+                asks_again(node, terms)
             } else {
                 asks_at(&node.nodes, depth - 1)
             }

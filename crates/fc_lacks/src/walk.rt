@@ -52,10 +52,10 @@ fn push_chosen<R: BucketReading>(
     requires terms { kind_of node.now ≡ variant.Terms terms.now }
     requires distinct { AreDistinct shards.now }
     ensures { OnOk result (map lack_view lacks.new.items ≡ map lack_view lacks.old.items
-        ++ (if asks_again_of (terms_view terms.now) then lacking_values (R.reading reading.now) R.has (terms_view terms.now) (inner_view node.now)
+        ++ (if asks_again_of (terms_view terms.now) (inner_view node.now) then lacking_values (R.reading reading.now) R.has (terms_view terms.now) (inner_view node.now)
         number shards.now ((R.reading reading.now).domain_on number (facet_view node.now) shards.now (R.held around.now)) (way_view way.now) else [])) }
 {
-    if !asks_again(terms) {
+    if !asks_again(node, terms) {
         return Ok(());
     }
     let domain = reading.domain_on(alloc, number as usize, node, shards, around)?;
@@ -238,8 +238,8 @@ fn push_in_bucket<R: BucketReading>(
     Ok(())
 }
 
-/// What lacks at the terms facets that have so many terms facets around them: of the facets that refine and have
-/// a limit, in printed buckets, the chosen values of which a shard that the bucket around them carries has told
+/// What lacks at the terms facets that have so many terms facets around them: of the facets that ask again, in printed
+/// buckets, the chosen values of which a shard that the bucket around them carries has told
 /// nothing; value by value, and for each its shards, in the order of the definition. (Guide: JSON Facet API, "Terms Facet", `refine`)
 pub fn lacking<R: BucketReading>(
     alloc: Global,

@@ -6,6 +6,7 @@ use Rattle.fc_spec.specs.requests.Request.{Terms, Nodes}
 use Rattle.fc_spec.specs.words.Lists.{numbers_below}
 use Rattle.fc_spec.specs.documents.Val.{Val, has_val}
 use Rattle.fc_spec.specs.replies.Reading.{Reading}
+use Rattle.fc_spec.specs.requests.Shape.{counts_all}
 use Rattle.fc_spec.specs.replies.Chosen.{known, offering}
 use Rattle.fc_reading.specs.Distinct.{AreDistinct}
 
@@ -46,7 +47,7 @@ module _ {B D : Type 0} (R : Reading B D) (t : Terms) (inner : Nodes) (H : List 
 
   -- the shards that are known of a value are different where all are
   pub known_distinct : (v : Val) → AreDistinct H → AreDistinct (known R t inner H Y v)
-  known_distinct v d = go t.refine
+  known_distinct v d = go (counts_all t inner)
     where
       go : (b : Bool) → AreDistinct (cond b H (offering R t inner H Y v))
       go true = d

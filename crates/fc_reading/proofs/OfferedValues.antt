@@ -1,9 +1,10 @@
 -- What is known of offered values and of the lists that their candidates are counted on.
-use Rattle.std.proofs.Common.{◌≡◌, ℕ, List, [], ◌∷◌, map, Bool, true, false, cond, Option, None, Some, not, ◌&&◌, refl, ap, sym, ◌∙◌, subst}
-use Rattle.std.specs.Prelude.{All, is_some}
+use Rattle.std.proofs.Common.{◌≡◌, ℕ, List, [], ◌∷◌, map, Bool, true, false, cond, not, ◌&&◌, ◌||◌, refl, ap, sym, ◌∙◌, subst}
+use Rattle.std.specs.Prelude.{All}
 use Rattle.std.proofs.lemmas.List.Elements.{All-head, All-tail, All-nil, All-cons, All-map}
 use Rattle.fc_spec.specs.documents.Val.{Val}
 use Rattle.fc_spec.specs.requests.Request.{Terms, Nodes}
+use Rattle.fc_spec.specs.requests.Shape.{asks_again}
 use Rattle.fc_spec.specs.replies.Reading.{Reading}
 use Rattle.fc_spec.specs.replies.Chosen as chosen
 use Rattle.fc_base.specs.View.{val_view}
@@ -37,10 +38,11 @@ module _ (h : Val → List ℕ) (vs : List Val) (os : List Offered) (is : map of
 
 module _ {B H D : Type 0} (R : Reading H D) (t : Terms) (inner : Nodes) (K : List ℕ) (Y : D) (held : B → H) where
   -- the shards that are counted first
-  first_shards : (offering : List ℕ) (refine : Bool) (limit : Option ℕ) → cond (refine && not (is_some limit)) K offering ≡ cond (refine && is_some limit) offering (cond refine K offering)
-  first_shards offering true None = refl
-  first_shards offering true (Some n) = refl
-  first_shards offering false limit = refl
+  first_shards : (offering : List ℕ) (refine again : Bool) → cond (refine && not again) K offering ≡ cond again offering (cond (refine || again) K offering)
+  first_shards offering true true = refl
+  first_shards offering true false = refl
+  first_shards offering false true = refl
+  first_shards offering false false = refl
 
   -- counted on the shards that are its value's
   pub on_where : (counted : Val → List ℕ) (shards : List ℕ) (c : Candidate B) → shards ≡ counted (val_view c.val) → IsOn R t inner K Y held (λ v. shards) c → IsOn R t inner K Y held counted c
@@ -51,15 +53,15 @@ module _ {B H D : Type 0} (R : Reading H D) (t : Terms) (inner : Nodes) (K : Lis
   }
 
   -- counted on shards of which none is named twice
-  pub first_distinct : (val : Val) (offered shards : List ℕ) → offered ≡ chosen.offering R t inner K Y val → shards ≡ cond (t.refine && not (is_some t.limit)) K offered → AreDistinct K → AreDistinct shards
-  first_distinct val offered shards offers is apart = subst AreDistinct (sym is) (go (t.refine && not (is_some t.limit)))
+  pub first_distinct : (val : Val) (offered shards : List ℕ) (again : Bool) → offered ≡ chosen.offering R t inner K Y val → shards ≡ cond (t.refine && not again) K offered → AreDistinct K → AreDistinct shards
+  first_distinct val offered shards again offers is apart = subst AreDistinct (sym is) (go (t.refine && not again))
     where
       go : (b : Bool) → AreDistinct (cond b K offered)
       go true = apart
       go false = subst AreDistinct (sym offers) (offering_distinct R t inner K Y val apart)
 
-  pub on_first : (val : Val) (offered shards : List ℕ) (c : Candidate B) → val_view c.val ≡ val → offered ≡ chosen.offering R t inner K Y val
-      → shards ≡ cond (t.refine && not (is_some t.limit)) K offered → IsOn R t inner K Y held (λ v. shards) c → IsOn R t inner K Y held (counted_first R t inner K Y) c
-  on_first val offered shards c same offers is h =
+  pub on_first : (val : Val) (offered shards : List ℕ) (again : Bool) (c : Candidate B) → again ≡ asks_again t inner → val_view c.val ≡ val → offered ≡ chosen.offering R t inner K Y val
+      → shards ≡ cond (t.refine && not again) K offered → IsOn R t inner K Y held (λ v. shards) c → IsOn R t inner K Y held (counted_first R t inner K Y) c
+  on_first val offered shards again c asks same offers is h =
       on_where (counted_first R t inner K Y) shards c
-      (is ∙ ap (λ o. cond (t.refine && not (is_some t.limit)) K o) offers ∙ first_shards (chosen.offering R t inner K Y val) t.refine t.limit ∙ ap (counted_first R t inner K Y) (sym same)) h
+      (is ∙ (λ i. cond (t.refine && not (asks i)) K (offers i)) ∙ first_shards (chosen.offering R t inner K Y val) t.refine (asks_again t inner) ∙ ap (counted_first R t inner K Y) (sym same)) h

@@ -10,10 +10,10 @@ kind_countable s inner (terms t) valid = tt
 kind_countable s inner (range g) valid = record { ordered = valid.ordered; forward = valid.forward; few = valid.few }
 kind_countable s inner (query q) valid = tt
 
-nodes_countable : (s : Schema) (outermost : Bool) (nodes : Nodes) → AreValidNodes s outermost nodes → AreCountable nodes
-nodes_countable s outermost no_nodes valid = tt
-nodes_countable s outermost (statistic name st rest) valid = nodes_countable s outermost rest valid.1
-nodes_countable s outermost (facet f inner rest) valid = (kind_countable s inner f.kind valid.0.kind, nodes_countable s _ inner valid.1, nodes_countable s outermost rest valid.2)
+nodes_countable : (s : Schema) (unmoved : Bool) (nodes : Nodes) → AreValidNodes s unmoved nodes → AreCountable nodes
+nodes_countable s unmoved no_nodes valid = tt
+nodes_countable s unmoved (statistic name st rest) valid = nodes_countable s unmoved rest valid.1
+nodes_countable s unmoved (facet f inner rest) valid = (kind_countable s inner f.kind valid.0.kind, nodes_countable s _ inner valid.1, nodes_countable s unmoved rest valid.2)
 
 pub valid_are_countable : (s : Schema) (r : Request) → IsValidRequest s r → AreCountable r.nodes
 valid_are_countable s r valid = nodes_countable s _ r.nodes valid.nodes

@@ -39,7 +39,7 @@ candidates_view cs = map candidate_view cs
 module _ {H D : Type 0} (R : Reading H D) (t : Terms) (inner : Nodes) (shards : List ℕ) (Y : D) where
   -- over which shards a candidate is counted first: where it is ranked among all, over those that offer it
   abbrev pub counted_first : Val → List ℕ
-  counted_first v = if asks_again t then offering R t inner shards Y v else known R t inner shards Y v
+  counted_first v = if asks_again t inner then offering R t inner shards Y v else known R t inner shards Y v
 
   -- it is the bucket of its value, and is counted over those shards
   pub record IsOn {B : Type 0} (held : B → H) (counted : Val → List ℕ) (c : Candidate B) : Type 0 where

@@ -1,5 +1,5 @@
 // The printed buckets of a terms facet.
-ghost use Rattle.std.specs.Prelude.{◌≡◌, ℕ, List, All, IfOk, IsTrue, is_some, map, nat_le, not, ◌&&◌, if◌then◌else◌};
+ghost use Rattle.std.specs.Prelude.{◌≡◌, ℕ, List, All, IfOk, IsTrue, map, nat_le, not, ◌&&◌, if◌then◌else◌};
 ghost use Rattle.std.specs.Cow.{cow_slice_items};
 ghost use Rattle.std.specs.List.{filter};
 ghost use Rattle.fc_spec.specs.documents.Val as value;
@@ -61,12 +61,17 @@ fn candidate<'s, R: BucketReading>(
     })
 }
 
-// Over which shards an offered value is counted first.
-fn shards_first<'s>(terms: &Terms, shards: &'s [u32], offering: Vec<u32>) -> CowSlice<'s, u32>
+// Over which shards an offered value is counted first, of a facet that asks again, or does not.
+fn shards_first<'s>(
+    terms: &Terms,
+    again: bool,
+    shards: &'s [u32],
+    offering: Vec<u32>,
+) -> CowSlice<'s, u32>
     ensures { cow_slice_items result
-        ≡ (if terms.now.refine && not (is_some terms.now.limit) then shards.now else offering.items) }
+        ≡ (if terms.now.refine && not again then shards.now else offering.items) }
 {
-    if terms.refine && terms.limit.is_none() {
+    if terms.refine && !again {
         CowSlice::Borrowed(shards)
     } else {
         CowSlice::Owned(offering)
@@ -80,6 +85,7 @@ fn candidates_of<'s, R: BucketReading>(
     node: &Node,
     terms: &Terms,
     stats: &[Stat],
+    again: bool,
     shards: &'s [u32],
     domain: &R::Domain,
     offered: Vec<Offered>,
@@ -87,6 +93,7 @@ fn candidates_of<'s, R: BucketReading>(
     requires made { R.is_for domain.now (kind_of node.now) }
     requires stats { map stat_view stats.now ≡ definition.stats_of (inner_view node.now) }
     requires terms { kind_of node.now ≡ variant.Terms terms.now }
+    requires again { again ≡ asks_again_of (terms_view terms.now) (inner_view node.now) }
     requires offering { All (λ o. o.shards.items ≡ chosen.offering (R.reading reading.now) (terms_view terms.now)
         (inner_view node.now) shards.now (R.over domain.now) (val_view o.val.now)) offered.items }
     requires distinct { AreDistinct shards.now }
@@ -96,7 +103,7 @@ fn candidates_of<'s, R: BucketReading>(
 {
     let mut list = Vec::with_capacity(alloc, offered.len())?;
     for one in offered {
-        let counted = shards_first(terms, shards, one.shards);
+        let counted = shards_first(terms, again, shards, one.shards);
         list.push(candidate(alloc, reading, node, terms, stats, domain, one.val, counted)?)?;
     }
     Ok(list)
@@ -123,7 +130,10 @@ fn candidates<'s, R: BucketReading>(
 {
     let offers = reading.offers(alloc, terms, stats, domain, shards)?;
     let offered = merged(alloc, shards, &offers)?;
-    let list = candidates_of(alloc, reading, node, terms, stats, shards, domain, offered)?;
+    let again = asks_again(node, terms);
+    let list = candidates_of(
+        alloc, reading, node, terms, stats, again, shards, domain, offered,
+    )?;
     Ok(list)
 }
 
@@ -173,11 +183,14 @@ fn all_counted_on<'s, R: BucketReading>(
     Ok(list)
 }
 
-/// Whether a terms facet asks again.
-pub fn asks_again(terms: &Terms) -> bool
-    ensures { result ≡ asks_again_of (terms_view terms.now) }
+/// Whether a terms facet with the nodes nested in this node asks again.
+pub fn asks_again(node: &Node, terms: &Terms) -> bool
+    ensures { result ≡ asks_again_of (terms_view terms.now) (inner_view node.now) }
 {
-    terms.refine && terms.limit.is_some()
+    match terms.limit {
+        Some(_) => terms.refine,
+        None => node.holds_exclusion(),
+    }
 }
 
 /// The chosen values of a facet that asks again, each counted over the shards that offer it.
@@ -194,7 +207,7 @@ pub fn chosen_again<'s, R: BucketReading>(
     requires stats { map stat_view stats.now ≡ definition.stats_of (inner_view node.now) }
     requires terms { kind_of node.now ≡ variant.Terms terms.now }
     requires distinct { AreDistinct shards.now }
-    requires again { IsTrue (asks_again_of (terms_view terms.now)) }
+    requires again { IsTrue (asks_again_of (terms_view terms.now) (inner_view node.now)) }
     ensures on { IfOk result (λ list. AreOn (R.reading reading.now) (terms_view terms.now) (inner_view node.now) shards.now
         (R.over domain.now) R.held (chosen.offering (R.reading reading.now) (terms_view terms.now) (inner_view node.now) shards.now
         (R.over domain.now)) list.items) }
@@ -228,7 +241,7 @@ fn chosen<'s, R: BucketReading>(
         (terms_view terms.now) (inner_view node.now) shards.now (R.over domain.now)) }
     ensures ascend { IfOk result (λ list. HaveAscendingValues (candidates_view list.items)) }
 {
-    if asks_again(terms) {
+    if asks_again(node, terms) {
         let front = chosen_again(alloc, reading, node, terms, stats, shards, domain)?;
         let refined = all_counted_on(alloc, reading, stats, shards, front)?;
         Ok(refined)

@@ -1,21 +1,17 @@
 -- Told buckets put into the tree, level by level.
-use Rattle.std.proofs.Common.{◌≡◌, ℕ, zero, suc, ◌+◌, ◌<◌, ◌≤◌, ◌-◌, ◌^◌, List, [], ◌∷◌, ◌++◌, length, get_or, drop, map, min, Bool, true, false, cond, Option, Some, None, unwrap_or, IsTrue, BTreeMap, Vec, refl, sym, ap, subst, ◌∙◌, ◌&&◌, arith}
+use Rattle.std.proofs.Common.{◌≡◌, ℕ, zero, suc, ◌+◌, ◌<◌, ◌≤◌, ◌-◌, List, [], ◌∷◌, ◌++◌, length, get_or, drop, map, true, false, cond, Some, None, unwrap_or, IsTrue, BTreeMap, Vec, refl, sym, ap, subst, ◌∙◌, ◌&&◌, arith}
 use Rattle.std.specs.Prelude.{slice_set}
 use Rattle.std.specs.BTreeMap.{insert_entry, is_at}
 use Rattle.std.specs.List.Sorted.{IsStrictlySortedBy}
 use Rattle.std.specs.Map.{lookup, keys_of}
 use Rattle.std.specs.Ordering.{nat_cmp, match_ordering, is_eq}
-use Rattle.std.specs.Cmp.{IsTotalOrder}
 use Rattle.std.specs.declared.cmp.Ordering.{Ordering}
 use Rattle.std.specs.declared.cmp.Ordering.TheVariants.{Less, Equal, Greater}
-use Rattle.std.proofs.lemmas.Cmp.{nat_cmp_total}
 use Rattle.std.proofs.lemmas.Map.{lookup-none}
 use Rattle.std.proofs.lemmas.Map.Entries.{none_below_head}
 use Rattle.std.proofs.lemmas.Map.Keys.{sorted_tail}
 use Rattle.fc_spec.specs.requests.Buckets as definition
 use Rattle.fc_spec.specs.requests.Request.{Nodes, statistic}
-use Rattle.fc_spec.specs.requests.Statistics.{StatValue}
-use Rattle.fc_spec.specs.messages.KeyOrder.{key_cmp}
 use Rattle.fc_spec.specs.messages.Message.{Rows, no_rows, row, Step, Way, way_of}
 use Rattle.fc_facet.specs.declared.kind.Kind.TheVariants as k
 use Rattle.fc_partial.specs.BucketView.{Part, bucket_view, buckets_view, node_view, rows_view}

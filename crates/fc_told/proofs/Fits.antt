@@ -1,6 +1,5 @@
 -- Whether told buckets can be added, row by row and bucket by bucket.
-use Rattle.std.proofs.Common.{◌≡◌, ℕ, zero, suc, ◌+◌, ◌<◌, ◌≤◌, List, [], ◌∷◌, ◌++◌, length, get_or, drop, drop-cons, add-one, Bool, true, false, ◌&&◌, refl, sym, ap, ◌∙◌, arith}
-use Rattle.std.proofs.lemmas.List.{drop_all}
+use Rattle.std.proofs.Common.{◌≡◌, ℕ, suc, ◌+◌, ◌<◌, List, [], ◌∷◌, ◌++◌, length, get_or, drop, drop-cons, add-one, Bool, true, false, ◌&&◌, refl, sym, ap, ◌∙◌, arith}
 use Rattle.fc_spec.specs.requests.Request.{Nodes, statistic}
 use Rattle.fc_spec.specs.requests.Paths.{at_root}
 use Rattle.fc_spec.specs.messages.Held.{told_root, told_wants}
@@ -14,7 +13,7 @@ use Rattle.fc_partial.specs.declared.bucket.PartialBucket.{PartialBucket, out-Pa
 use Rattle.fc_partial.specs.declared.bucket.PartialBucket.TheFolds.{fold_out-PartialBucket}
 use Rattle.fc_partial.specs.declared.bucket.PartialNode.{PartialNode}
 use Rattle.fc_request.specs.FacetNode.{has_buckets, kind_of}
-use Rattle.fc_request.specs.NodeView.{nodes_view, inner_view}
+use Rattle.fc_request.specs.NodeView.{nodes_view}
 use Rattle.fc_request.specs.declared.node.Node.{Node, out-Node}
 use Rattle.fc_request.proofs.Nodes.{facet_is, statistic_is}
 use Rattle.fc_refine.specs.Along.{nodes_along}

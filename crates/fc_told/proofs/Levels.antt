@@ -1,5 +1,5 @@
 -- The code's tree, level by level.
-use Rattle.std.proofs.Common.{◌≡◌, ℕ, zero, suc, ◌<◌, ◌≤◌, List, [], ◌∷◌, map, length, get_or, Bool, true, false, cond, ◌==◌, Option, Some, None, refl, sym, ap, ◌∙◌, arith}
+use Rattle.std.proofs.Common.{◌≡◌, ℕ, zero, suc, ◌<◌, ◌≤◌, List, [], ◌∷◌, map, length, get_or, Bool, true, false, cond, ◌==◌, Some, refl, sym, ap, ◌∙◌, arith}
 use Rattle.std.specs.Prelude.{option_map}
 use Rattle.std.specs.BTreeMap.{is_at}
 use Rattle.std.specs.Map.{lookup}
@@ -10,9 +10,8 @@ use Rattle.fc_spec.specs.requests.Buckets as definition
 use Rattle.fc_partial.specs.StatsView.{stats_view}
 use Rattle.fc_partial.specs.View.{key_view}
 use Rattle.fc_partial.specs.declared.key.Key.{Key}
-use Rattle.fc_partial.specs.declared.statistics.Stats.{Stats}
 use Rattle.fc_told.specs.Trees as trees
-use Rattle.fc_told.specs.Trees.{Branches, no_branches, branches_at, find_branch, nothing, teller_of}
+use Rattle.fc_told.specs.Trees.{Branches, no_branches, branches_at, find_branch, teller_of}
 use Rattle.fc_told.specs.TreeView.{teller_view, linked, bucket_step, node_step, tree_view, node_view, tree_there}
 use Rattle.fc_told.specs.Parts.{tellers_view, branches_view, forks_view}
 use Rattle.fc_told.specs.declared.teller.Teller as code

@@ -1,5 +1,5 @@
 -- What shards listed, teller by teller and bucket by bucket.
-use Rattle.std.proofs.Common.{◌≡◌, ℕ, List, [], ◌∷◌, ◌++◌, map, Bool, true, false, cond, ◌==◌, Option, Some, None, refl, sym, ap, ◌∙◌, subst, append-nil, arith, Bor, Vec, unwrap_or}
+use Rattle.std.proofs.Common.{◌≡◌, ℕ, List, [], ◌∷◌, ◌++◌, map, Bool, true, false, cond, ◌==◌, Some, None, refl, sym, ap, ◌∙◌, subst, append-nil, arith, Bor, Vec, unwrap_or}
 use Rattle.std.specs.Prelude.{option_map}
 use Rattle.std.specs.BTreeMap.{is_at}
 use Rattle.std.specs.declared.alloc.Global.{Global}
@@ -7,7 +7,6 @@ use Rattle.std.specs.List.{All, AllByRecursion}
 use Rattle.std.specs.List.Sorted.{IsStrictlySortedBy}
 use Rattle.std.specs.Map.{keys_of, lookup}
 use Rattle.std.specs.Ordering.{nat_cmp, is_eq}
-use Rattle.std.specs.declared.cmp.Ordering.{Ordering}
 use Rattle.std.specs.declared.cmp.Ordering.TheVariants.{Less}
 use Rattle.std.proofs.lemmas.List.Elements.{All-nil, All-cons}
 use Rattle.fc_spec.specs.documents.Val.{Val, val_cmp}
@@ -19,12 +18,11 @@ use Rattle.fc_partial.proofs.ViewedEntries.{keys_of-seen, sorted_seen}
 use Rattle.fc_told.specs.ListedView.{ShardMap, list_of, listed_once}
 use Rattle.fc_base.specs.declared.value.Val as value
 use Rattle.fc_request.specs.FacetNode.{vals_view}
-use Rattle.fc_told.specs.Parts.{tellers_view, branches_view}
+use Rattle.fc_told.specs.Parts.{tellers_view}
 use Rattle.fc_told.specs.Trees as trees
 use Rattle.fc_told.specs.Trees.{was_listed, teller_of, is_listed_by, values_listed, with_value}
 use Rattle.fc_told.specs.TreeView.{teller_view, linked, tree_view, node_view}
 use Rattle.fc_told.specs.declared.teller.Teller as code
-use Rattle.fc_told.specs.declared.tree.ToldBucket.{ToldBucket}
 use Rattle.fc_told.specs.declared.tree.ToldNode.{ToldNode, out-ToldNode}
 use Rattle.fc_told.proofs.Levels.{code_cmp, node_is, same_number}
 

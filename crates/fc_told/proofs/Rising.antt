@@ -5,7 +5,8 @@ use Rattle.std.specs.Option.{option_and_then}
 use Rattle.std.specs.Ordering.{is_eq}
 use Rattle.std.proofs.lemmas.Bool.{and_parts}
 use Rattle.fc_spec.specs.requests.Buckets.{Key, is_key_of}
-use Rattle.fc_spec.specs.requests.Request.{Stat, Kind, Terms, Facet, Nodes, facet, stats_of}
+use Rattle.fc_spec.specs.requests.Request.{Kind, Terms, Facet, Nodes, facet, stats_of}
+use Rattle.fc_spec.specs.requests.Shape.{holds_exclusion}
 use Rattle.fc_spec.specs.requests.Statistics.{Stats}
 use Rattle.fc_spec.specs.messages.KeyOrder.{key_cmp, same_key}
 use Rattle.fc_spec.specs.messages.Message.{Partials, no_partials, partial, Rows, row, Way}
@@ -29,15 +30,15 @@ abbrev AllBehindLast : Option Key → List Key → Type 0
 AllBehindLast None ks = Unit {0}
 AllBehindLast (Some k) ks = AllBehind k ks
 
-rise_behind : (kind : Kind) (ss : List Stat) (ps : Partials) (last : Option Key) → buckets_fit kind ss ps last ≡ true → AllBehindLast last (keys_of ps) × Rise ps
+rise_behind : (kind : Kind) (inner : Nodes) (ps : Partials) (last : Option Key) → buckets_fit kind inner ps last ≡ true → AllBehindLast last (keys_of ps) × Rise ps
 unfolding IsStrictlySortedBy
-rise_behind kind ss no_partials None h = (tt, tt)
-rise_behind kind ss no_partials (Some l) h = (tt, tt)
-rise_behind kind ss (partial k stats rows rest) last h =
-    let both = and_parts (bucket_fits kind ss last k stats) (buckets_fit kind ss rest (Some k)) h in
-    let later = rise_behind kind ss rest (Some k) both.1 in
-    let values = and_parts (key_ascends last k && is_key_of kind k && count_fits k stats) (values_fit ss stats.values) both.0 in
-    let count = and_parts (key_ascends last k && is_key_of kind k) (count_fits k stats) values.0 in
+rise_behind kind inner no_partials None h = (tt, tt)
+rise_behind kind inner no_partials (Some l) h = (tt, tt)
+rise_behind kind inner (partial k stats rows rest) last h =
+    let both = and_parts (bucket_fits kind inner last k stats) (buckets_fit kind inner rest (Some k)) h in
+    let later = rise_behind kind inner rest (Some k) both.1 in
+    let values = and_parts (key_ascends last k && is_key_of kind k && count_fits (holds_exclusion inner) k stats) (values_fit (stats_of inner) stats.values) both.0 in
+    let count = and_parts (key_ascends last k && is_key_of kind k) (count_fits (holds_exclusion inner) k stats) values.0 in
     (go last (and_parts (key_ascends last k) (is_key_of kind k) count.0).0 later.0, later)
   where
     go : (last : Option Key) → key_ascends last k ≡ true → AllBehind k (keys_of rest) → AllBehindLast last (k ∷ keys_of rest)
@@ -66,10 +67,10 @@ module _ (most : Terms → Option ℕ) where
   -- the parts of a row that fits
   pub row_parts : (f : Facet) (inner rest : Nodes) (ps : Partials) (rows : Rows) → rows_fit most (row ps rows) (facet f inner rest) ≡ true → Rise ps × (insides_fit most ps inner ≡ true) × (rows_fit most rows rest ≡ true)
   row_parts f inner rest ps rows h =
-      let others = and_parts (is_complete most f.kind ps && buckets_fit f.kind (stats_of inner) ps None && insides_fit most ps inner) (rows_fit most rows rest) h in
-      let insides = and_parts (is_complete most f.kind ps && buckets_fit f.kind (stats_of inner) ps None) (insides_fit most ps inner) others.0 in
-      let buckets = and_parts (is_complete most f.kind ps) (buckets_fit f.kind (stats_of inner) ps None) insides.0 in
-      ((rise_behind f.kind (stats_of inner) ps None buckets.1).1, insides.1, others.1)
+      let others = and_parts (is_complete most f.kind ps && buckets_fit f.kind inner ps None && insides_fit most ps inner) (rows_fit most rows rest) h in
+      let insides = and_parts (is_complete most f.kind ps && buckets_fit f.kind inner ps None) (insides_fit most ps inner) others.0 in
+      let buckets = and_parts (is_complete most f.kind ps) (buckets_fit f.kind inner ps None) insides.0 in
+      ((rise_behind f.kind inner ps None buckets.1).1, insides.1, others.1)
 
   pub row_rises : (n : ℕ) (b : HeldBucket) → HasFittingRows b → Rise (row_at n b.nodes b.rows)
   unfolding IsStrictlySortedBy
@@ -77,7 +78,7 @@ module _ (most : Terms → Option ℕ) where
     where
       go : (o : Option (Facet × Nodes)) (ps : Partials) → RowFits most o ps → Rise ps
       go None ps e = subst Rise (sym e) tt
-      go (Some f) ps fit = (rise_behind (f.0).kind (stats_of f.1) ps None fit.0).1
+      go (Some f) ps fit = (rise_behind (f.0).kind f.1 ps None fit.0).1
 
   found_fits : (nodes : Nodes) (k : Key) (ps : Partials) (c : HeldBucket) → insides_fit most ps nodes ≡ true → find_key nodes k ps ≡ Some c → HasFittingRows c
   found_fits nodes k no_partials c h e = absurd (none_not_some c e)

@@ -1,5 +1,5 @@
 -- A told bucket put into the tree.
-use Rattle.std.specs.Prelude.{ℕ, zero, suc, min, ◌+◌, ◌-◌, ◌^◌, List, [], ◌∷◌, Bool, true, false}
+use Rattle.std.specs.Prelude.{ℕ, zero, suc, min, ◌+◌, ◌-◌, ◌^◌, List, [], ◌∷◌, true, false}
 use Rattle.std.specs.Ordering.{match_ordering, nat_cmp}
 use Rattle.fc_spec.specs.requests.Buckets.{Key}
 use Rattle.fc_spec.specs.requests.Request.{Nodes, no_nodes, statistic, facet}

@@ -1,6 +1,5 @@
 -- Whether told buckets can be added to the sums of a tree.
-use Rattle.std.specs.Prelude.{ℕ, zero, suc, ◌+◌, ◌^◌, List, [], ◌∷◌, Bool, true, ◌&&◌, nat_lt}
-use Rattle.fc_spec.specs.requests.Buckets.{Key}
+use Rattle.std.specs.Prelude.{ℕ, suc, ◌+◌, ◌^◌, List, [], ◌∷◌, Bool, true, ◌&&◌, nat_lt}
 use Rattle.fc_spec.specs.requests.Request.{Nodes, no_nodes, statistic, facet}
 use Rattle.fc_spec.specs.requests.Statistics.{StatValue, Stats}
 use Rattle.fc_spec.specs.messages.Message.{Partials, no_partials, partial, Rows, no_rows, row}

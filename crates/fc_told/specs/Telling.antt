@@ -1,6 +1,5 @@
 -- A tree of what was told.
-use Rattle.std.specs.Prelude.{◌≡◌, ◌≢◌, ◌↔◌, AllPairs, ℕ, ◌<◌, ◌^◌, List, ◌++◌, sum_by, option_map, true, IsTrue, slice_index_or, pos}
-use Rattle.std.specs.List.{AllByRecursion}
+use Rattle.std.specs.Prelude.{◌≡◌, ◌≢◌, ◌↔◌, AllPairs, ℕ, ◌<◌, ◌^◌, List, ◌++◌, sum_by, option_map, IsTrue, slice_index_or, pos}
 use Rattle.std.specs.List.Sorted.{IsStrictlySortedBy}
 use Rattle.fc_spec.specs.requests.Request.{Request}
 use Rattle.fc_spec.specs.requests.Statistics.{number}

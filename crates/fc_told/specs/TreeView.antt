@@ -1,5 +1,5 @@
 -- What the code's tree stands for.
-use Rattle.std.specs.Prelude.{ℕ, List, [], ◌∷◌, map, Option, None, Some, option_map, unwrap_or}
+use Rattle.std.specs.Prelude.{ℕ, List, [], ◌∷◌, map, Option, option_map, unwrap_or}
 use Rattle.fc_spec.specs.requests.Buckets.{Key}
 use Rattle.fc_partial.specs.View.{key_view}
 use Rattle.fc_partial.specs.StatsView.{stats_view}

@@ -29,7 +29,7 @@ returns g c =
     let Z = R.domain_on n (facet_view node) K (held c.args.around.now) in
     let way = way_view c.args.way.now in
     let old = map lack_view c.args.lacks.now.items in
-    let again : asks_again t ≡ true = search rules in
+    let again : asks_again t inner ≡ true = search rules in
     let F = λ (one : Candidate g.row.R-Bucket.Denot). lacked_by has K (held one.bucket) (want_of way n (value (val_view one.val))) in
     c.in_ok-push_values.ensures
     ∙ ap (λ cs. old ++ flat_map F cs) c.deref-2.ensures.value

@@ -30,7 +30,7 @@ loop-one-preserved g c =
     let first = c.in-Some.ensures.steps.0 in
     let vals = map (λ (o : Offered). val_view o.val.now) c.args.offered.items in
     let both = made_more done now made one left rest pushed first (IsOn R t inner K Y held (counted_first R t inner K Y)) (λ (o : Offered). o.shards.items ≡ offering R t inner K Y (val_view o.val.now)) c.loop-one.invariant.0 c.loop-one.invariant.2
-    (λ offers. on_first R t inner K Y held (val_view one.val.now) one.shards.items (cow_slice_items c.shards_first-counted.result) made c.in_ok-candidate.ensures.val offers c.shards_first-counted.ensures (c.in_ok-candidate.ensures.on K)) in
+    (λ offers. on_first R t inner K Y held (val_view one.val.now) one.shards.items (cow_slice_items c.shards_first-counted.result) c.args.again made c.requires.again c.in_ok-candidate.ensures.val offers c.shards_first-counted.ensures (c.in_ok-candidate.ensures.on K)) in
     (both.0, images_more done now made one left rest pushed first (λ c. val_view c.val) (λ (o : Offered). val_view o.val.now) vals c.in_ok-candidate.ensures.val c.loop-one.invariant.1, both.1)
 
 pub candidate-requires-clause-distinct : goal.candidate-requires-clause-distinct
@@ -43,4 +43,4 @@ candidate-requires-clause-distinct g c =
     let one = c.in-Some.one in
     let P = λ (o : Offered). o.shards.items ≡ offering R t inner K Y (val_view o.val.now) in
     let offers = All-head P one c.next.new.self.rest.items (subst (All P) c.in-Some.ensures.steps.0 c.loop-one.invariant.2) in
-    first_distinct R t inner K Y g.R.BucketReading.held (val_view one.val.now) one.shards.items (cow_slice_items c.shards_first-counted.result) offers c.shards_first-counted.ensures c.requires.distinct
+    first_distinct R t inner K Y g.R.BucketReading.held (val_view one.val.now) one.shards.items (cow_slice_items c.shards_first-counted.result) c.args.again offers c.shards_first-counted.ensures c.requires.distinct

@@ -42,7 +42,7 @@ returns-in_ok-all-clause-on g c =
     let R = g.R.BucketReading.reading c.args.reading.now in
     let t = terms_view c.args.terms.now in
     let Y = g.R.BucketReading.over c.args.domain.now in
-    let none : asks_again t ≡ false = sym c.asks_again.ensures ∙ c.if-asks_again.false in
+    let none : asks_again t (inner_view c.args.node.now) ≡ false = sym c.asks_again.ensures ∙ c.if-asks_again.false in
     all_known R t (inner_view c.args.node.now) c.args.shards.now Y g.R.BucketReading.held none c.in_ok-all.all.items c.in_ok-all.ensures.on
 
 pub returns-in_ok-all-clause-entries : goal.returns-in_ok-all-clause-entries
@@ -50,7 +50,7 @@ returns-in_ok-all-clause-entries g c =
     let R = g.R.BucketReading.reading c.args.reading.now in
     let t = terms_view c.args.terms.now in
     let Y = g.R.BucketReading.over c.args.domain.now in
-    let none : asks_again t ≡ false = sym c.asks_again.ensures ∙ c.if-asks_again.false in
+    let none : asks_again t (inner_view c.args.node.now) ≡ false = sym c.asks_again.ensures ∙ c.if-asks_again.false in
     known_entries R t (inner_view c.args.node.now) c.args.shards.now Y g.R.BucketReading.held none c.in_ok-all.all.items c.in_ok-all.ensures.on c.in_ok-all.ensures.vals
 
 pub returns-in_ok-all-clause-ascend : goal.returns-in_ok-all-clause-ascend

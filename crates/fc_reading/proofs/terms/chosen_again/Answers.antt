@@ -1,7 +1,7 @@
 use Rattle.std.proofs.Common.{◌≡◌, ◌∙◌, ap, sym, map}
 use Rattle.fc_spec.specs.requests.Ranks.{Entry, below_rank, rank_bound}
 use Rattle.fc_spec.specs.replies.Chosen.{offering}
-use Rattle.fc_facet.specs.KindView.{sort_view, terms_view}
+use Rattle.fc_facet.specs.KindView.{terms_view}
 use Rattle.fc_request.specs.NodeView.{inner_view}
 use Rattle.fc_reading.specs.Terms.{candidate_vals, candidates_view, IsOn}
 use Rattle.fc_refine.proofs.Among.{All-among}

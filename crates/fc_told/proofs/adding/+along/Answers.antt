@@ -3,7 +3,6 @@ use Rattle.std.specs.Vec.{with_item}
 use Rattle.std.specs.BTreeMap.Entry.{map_with_value}
 use Rattle.fc_partial.specs.BucketView.{rows_view}
 use Rattle.fc_partial.specs.StatsView.{stats_view}
-use Rattle.fc_partial.specs.View.{key_view}
 use Rattle.fc_partial.specs.declared.bucket.PartialBucket.{out-PartialBucket}
 use Rattle.fc_refine.specs.Along.{nodes_along}
 use Rattle.fc_refine.specs.AskView.{step_view, way_view}
