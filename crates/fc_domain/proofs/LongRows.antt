@@ -5,7 +5,7 @@ use Rattle.std.proofs.lemmas.Int.{ints}
 use Rattle.std.specs.List.{list_any}
 use Rattle.fc_spec.specs.documents.IntegerTexts.{is_long}
 use Rattle.fc_spec.specs.documents.Val.{Val, long, same_val}
-use Rattle.fc_column.specs.Longs.{is_between, has_between}
+use Rattle.fc_column.specs.Longs.{has_between}
 use Rattle.fc_domain.specs.Within.{PassesFromTo}
 
 row_passes : (test : ℤ → Bool) (p : Val → Bool) (zs : List ℤ) → ((z : ℤ) → test z ≡ p (long z)) → list_any test zs ≡ list_any p (map long zs)

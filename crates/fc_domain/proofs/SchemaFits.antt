@@ -53,8 +53,8 @@ step_fits s stay valid = tt
 step_fits s (parents q) valid = fields_fit s q valid.fits
 step_fits s (children q) valid = fields_fit s q valid.fits
 
-pub change_fits : (s : Schema) (is_outermost : Bool) (c : DomainChange) → IsValidChange s is_outermost c → ChangeFits (texts_held s.fields) c
-change_fits s is_outermost c valid = record {
+pub change_fits : (s : Schema) (unmoved : Bool) (c : DomainChange) → IsValidChange s unmoved c → ChangeFits (texts_held s.fields) c
+change_fits s unmoved c valid = record {
   step = step_fits s c.block valid.step;
   filters = λ k q below. fields_fit s (get_or c.filters k q) (valid.filters k q below).fits;
 }

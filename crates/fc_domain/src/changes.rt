@@ -98,8 +98,8 @@ fn keep_match(
     Ok(())
 }
 
-// Keeps the positions whose document matches each of the queries.
-fn keep_matching(
+/// Keeps the positions whose document matches each of the queries. After want of memory nothing is known of the set but its length.
+pub fn keep_matching(
     alloc: Global,
     segment: &Segment,
     queries: &[Query],

@@ -10,5 +10,5 @@ mod matching;
 mod texts;
 
 pub use bases::base;
-pub use changes::step;
+pub use changes::{keep_matching, step};
 pub use matching::matches;

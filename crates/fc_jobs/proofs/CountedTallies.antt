@@ -13,14 +13,13 @@ use Rattle.fc_spec.specs.words.Lists.{is_empty}
 use Rattle.fc_partial.specs.Adding.{AddUp}
 use Rattle.fc_partial.specs.Fitting.{StatisticsFit}
 use Rattle.fc_partial.specs.Tallied.{Tallied}
-use Rattle.fc_partial.specs.Tallying.{entry_at}
 use Rattle.fc_partial.proofs.Fitting.{filtered_fit, front_fits}
 use Rattle.fc_partial.proofs.FittingSums.{add_up}
 use Rattle.fc_kind.specs.Collecting.{BucketsAddUp, Collects}
 use Rattle.fc_kind.specs.Tallies.{IsTallyOf}
 use Rattle.fc_kind.proofs.JoinedTallies.{bucket_same, joins, stats_same}
 use Rattle.fc_answers.specs.SetAnswer.{Sets}
-use Rattle.fc_jobs.specs.Gathered.{AreFirst, IsCountedSoFar, gathered}
+use Rattle.fc_jobs.specs.Gathered.{IsCountedSoFar, gathered}
 use Rattle.fc_jobs.proofs.GatheredPlaces.{first_more, gathered_front, gathered_more, gathered_none, gathered_whole, same_documents}
 
 -- ---- the start

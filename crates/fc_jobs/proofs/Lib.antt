@@ -1,9 +1,12 @@
+mod BasesFound
 pub mod CountedTallies
 pub mod EmptySets
+pub mod FilledEntries
 pub mod GatheredPlaces
 pub mod KeptLengths
 pub mod ListedKeys
 pub mod NodesThere
+pub mod RebuiltScopes
 pub mod SegmentLimits
 pub mod SteppedWays
 pub mod TopBuckets

@@ -1,6 +1,5 @@
 -- The keys of what is listed of a tally.
-use Rattle.std.proofs.Common.{◌≡◌, List, [], ◌∷◌, ◌++◌, map, All, Bool, true, false, cond, ◌&&◌, not, Some, None, IsTrue, refl, sym, ◌∙◌, ap, subst}
-use Rattle.std.specs.List.{AllByRecursion}
+use Rattle.std.proofs.Common.{◌≡◌, List, [], ◌∷◌, ◌++◌, map, All, Bool, true, false, cond, ◌&&◌, not, Some, None, IsTrue, refl, sym, ◌∙◌, ap}
 use Rattle.std.specs.Map.{keys_of}
 use Rattle.std.proofs.lemmas.Bool.{false≢true}
 use Rattle.std.proofs.lemmas.List.Elements.{All-nil, All-cons, All-head, All-tail}
@@ -10,7 +9,10 @@ use Rattle.fc_spec.specs.words.Lists.{is_empty}
 use Rattle.fc_spec.specs.requests.Buckets.{Key, value, missing, gap, before, between, after, whole, bucket_places, is_key_of}
 use Rattle.fc_spec.specs.requests.Ranks.{offered_bound}
 use Rattle.fc_spec.specs.requests.Request.{Stat, Terms, Kind, terms, range, query, Nodes, stats_of}
+use Rattle.fc_spec.specs.requests.Shape.{no_exclusions}
 use Rattle.fc_spec.specs.requests.Statistics.{stats_over}
+use Rattle.fc_spec.specs.replies.Printed.{asked, range_keys}
+use Rattle.fc_spec.proofs.replies.PrintedKeys.{every_asked, every_range_key}
 use Rattle.fc_spec.specs.messages.KeyOrder.{same_key}
 use Rattle.fc_spec.proofs.messages.Keys.{same_key_itself}
 use Rattle.fc_spec.proofs.words.Members.{Every, every_append, every_filter, every_map}
@@ -18,9 +20,9 @@ use Rattle.fc_partial.specs.BucketView.{bare, bucket_view, buckets_view}
 use Rattle.fc_partial.specs.Tallied.{Entry, Tallied}
 use Rattle.fc_partial.specs.Tallying.{IsTally, entry_at}
 use Rattle.fc_partial.specs.declared.bucket.PartialBucket.{PartialBucket}
-use Rattle.fc_refine.specs.Tops.{is_value_or_missing, of_entry, others_of_tally, values_of_tally}
+use Rattle.fc_refine.specs.Tops.{is_value_or_missing, of_entry, others_of_tally, top_of, values_of_tally}
 use Rattle.fc_kind.specs.Tallies.{IsTallyOf}
-use Rattle.fc_answers.specs.Listed.{bucket_entry, listed_of}
+use Rattle.fc_answers.specs.Listed.{bucket_entry, entry_or_none, listed_of, top_values}
 use Rattle.fc_answers.specs.SetAnswer.{Sets, own_keys}
 use Rattle.fc_answers.proofs.ListedTallies.{tallies_list}
 use Rattle.fc_jobs.specs.Gathered.{IsCountedSoFar, gathered}
@@ -63,7 +65,7 @@ keys_own kind ss X t of = passes (is_key_of kind) t.entries (λ k h. of.entries 
 
 -- what is listed are the buckets of the keys that the answer lists
 pub listed_all : (V : World) (D : Sets) (kind : Kind) (inner : Nodes) (t : Tallied) → AreSets V D → IsTally t → IsCountedSoFar V D kind (stats_of inner) D t
-    → listed_of kind (stats_of inner) t.entries ≡ map (bucket_entry kind (stats_of inner) (places_at V D)) (own_keys kind inner (places_at V D))
+    → listed_of kind inner t.entries ≡ map (bucket_entry kind (stats_of inner) (places_at V D)) (own_keys kind inner (places_at V D))
 listed_all V D kind inner t are tally so_far = tallies_list kind inner (places_at V D) t.entries tally.ascend (counted_all V D kind (stats_of inner) t are so_far).entries
 
 -- and the keys of the tally are the facet's
@@ -96,15 +98,24 @@ values_own p ((between, s) ∷ es) own = values_own p es own.1
 values_own p ((after, s) ∷ es) own = values_own p es own.1
 values_own p ((whole, s) ∷ es) own = values_own p es own.1
 
--- what is listed has keys of the tally, or the whole
-pub listed_keys : (kind : Kind) (ss : List Stat) (es : List Entry) → HaveKeysOf kind es → HaveKeysOf kind (listed_of kind ss es)
-listed_keys (terms t) ss es own =
-    let p : Key → Bool = is_key_of (terms t) in
-    every_append (λ e. p e.0) (map of_entry _) (others_of_tally es)
-    (every_map (λ e. p e.0) of_entry _ (every_filter (λ e. p (of_entry e).0) _ (values_of_tally es) (values_own p es own)))
-    (every_filter (λ e. p e.0) _ es own)
-listed_keys (range g) ss es own = own
-listed_keys (query q) ss es own = (refl, tt)
+-- what is listed has keys of the tally, or others of the facet
+pub listed_keys : (kind : Kind) (inner : Nodes) (es : List Entry) → HaveKeysOf kind es → HaveKeysOf kind (listed_of kind inner es)
+listed_keys (terms t) inner es own = go (no_exclusions inner)
+  where
+    values : Every (λ e. is_key_of (terms t) e.0) (top_values t es)
+    values = every_map (λ e. is_key_of (terms t) e.0) of_entry _ (every_filter (λ e. is_key_of (terms t) (of_entry e).0) _ (values_of_tally es) (values_own (is_key_of (terms t)) es own))
+
+    go : (none : Bool) → Every (λ e. is_key_of (terms t) e.0) (cond (not none) (top_values t es ++ map (entry_or_none (stats_of inner) es) (asked t.missing missing)) (top_of t.sort (offered_bound t) es))
+    go true = every_append (λ e. is_key_of (terms t) e.0) (top_values t es) (others_of_tally es) values (every_filter (λ e. is_key_of (terms t) e.0) _ es own)
+    go false =
+        every_append (λ e. is_key_of (terms t) e.0) (top_values t es) (map (entry_or_none (stats_of inner) es) (asked t.missing missing)) values
+        (every_map (λ e. is_key_of (terms t) e.0) (entry_or_none (stats_of inner) es) (asked t.missing missing) (every_asked (is_key_of (terms t)) t.missing missing refl))
+listed_keys (range g) inner es own = go (no_exclusions inner)
+  where
+    go : (none : Bool) → Every (λ e. is_key_of (range g) e.0) (cond (not none) (map (entry_or_none (stats_of inner) es) (range_keys g)) es)
+    go true = own
+    go false = every_map (λ e. is_key_of (range g) e.0) (entry_or_none (stats_of inner) es) (range_keys g) (every_range_key g)
+listed_keys (query q) inner es own = (refl, tt)
 
 -- buckets have the keys of the entries that they are of
 pub bucket_keys : (p : Key → Bool) (bs : List PartialBucket) (es : List Entry) → buckets_view bs ≡ bare es → Every (λ e. p e.0) es → All (λ b. IsTrue (p (bucket_view b).key)) bs
@@ -116,6 +127,6 @@ bucket_keys p (b ∷ bs) (e ∷ es) same own =
     All-cons (λ b. IsTrue (p (bucket_view b).key)) b bs (ap p key ∙ own.0) (bucket_keys p bs es rest own.1)
 
 -- so what is listed has keys of the facet
-pub keys_listed : (kind : Kind) (ss : List Stat) (es : List Entry) (bs : List PartialBucket) → All (λ key. IsTrue (is_key_of kind key)) (keys_of es) → buckets_view bs ≡ bare (listed_of kind ss es)
+pub keys_listed : (kind : Kind) (inner : Nodes) (es : List Entry) (bs : List PartialBucket) → All (λ key. IsTrue (is_key_of kind key)) (keys_of es) → buckets_view bs ≡ bare (listed_of kind inner es)
     → All (λ b. IsTrue (is_key_of kind (bucket_view b).key)) bs
-keys_listed kind ss es bs all same = bucket_keys (is_key_of kind) bs (listed_of kind ss es) same (listed_keys kind ss es (have_keys kind es all))
+keys_listed kind inner es bs all same = bucket_keys (is_key_of kind) bs (listed_of kind inner es) same (listed_keys kind inner es (have_keys kind es all))

@@ -1,5 +1,5 @@
 -- Segments of a shard that is within the limits.
-use Rattle.std.proofs.Common.{◌≡◌, ◌≤◌, ℕ, zero, suc, ◌+◌, List, [], ◌∷◌, ◌++◌, map, length, drop, Bool, refl, sym, ◌∙◌, ap, subst, arith, append-nil, length-append}
+use Rattle.std.proofs.Common.{◌≡◌, ◌≤◌, ℕ, zero, suc, ◌+◌, List, [], ◌∷◌, ◌++◌, map, length, drop, refl, sym, ◌∙◌, ap, subst, arith, append-nil, length-append}
 use Rattle.std.specs.Prelude.{nat_abs, sum_by, IsTrue}
 use Rattle.std.specs.List.{AllByRecursion, flat_map}
 use Rattle.std.proofs.lemmas.List.{length-map, map-append}
@@ -10,7 +10,7 @@ use Rattle.fc_spec.specs.documents.Document.{Block, Document, values_of}
 use Rattle.fc_spec.specs.documents.Sets.{places_at}
 use Rattle.fc_spec.specs.documents.Totals.{documents_in, value_count}
 use Rattle.fc_spec.specs.documents.World.{World, Place, places, places_from, shard_places}
-use Rattle.fc_spec.specs.requests.Statistics.{longs_of, pair_values}
+use Rattle.fc_spec.specs.requests.Statistics.{pair_values}
 use Rattle.fc_spec.specs.scripts.ScriptTotals.{absolute_total, are_few, script_limits}
 use Rattle.fc_spec.specs.scripts.WorldLimits.{IsWithinLimits}
 use Rattle.fc_spec.proofs.documents.BlockTotals.{documents_in-append}

@@ -5,7 +5,7 @@ use Rattle.std.proofs.Math.Seq.{take-length}
 use Rattle.fc_spec.specs.documents.Document.{Block}
 use Rattle.fc_spec.specs.documents.Sets.{AreSets, each_set, places_at, places_on}
 use Rattle.fc_spec.specs.documents.Totals.{document_total}
-use Rattle.fc_spec.specs.documents.World.{World, Place}
+use Rattle.fc_spec.specs.documents.World.{World}
 use Rattle.fc_spec.specs.requests.Buckets.{Key}
 use Rattle.fc_spec.specs.requests.Combining.{combined}
 use Rattle.fc_spec.specs.requests.DomainSets.{bucket_set}

@@ -1,5 +1,5 @@
 -- Facets whose work can be done in a segment.
-use Rattle.std.specs.Prelude.{◌≡◌, ◌≢◌, List, IsTrue, Bool}
+use Rattle.std.specs.Prelude.{List, IsTrue, Bool}
 use Rattle.fc_spec.specs.requests.Request.{Nodes, no_nodes, statistic, facet, stats_of}
 use Rattle.fc_domain.specs.FieldsFit.{ChangeFits}
 use Rattle.fc_kind.specs.Columns.{FitsColumns, HaveFields}

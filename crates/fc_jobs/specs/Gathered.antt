@@ -1,6 +1,5 @@
 -- The places of sets that are made segment by segment.
-use Rattle.std.specs.Prelude.{◌≡◌, ℕ, ◌+◌, List, [], ◌∷◌, ◌++◌, Bool, drop, length, take}
-use Rattle.fc_spec.specs.documents.Document.{Block}
+use Rattle.std.specs.Prelude.{◌≡◌, ℕ, ◌+◌, List, [], ◌∷◌, ◌++◌, drop, length, take}
 use Rattle.fc_spec.specs.documents.Sets.{places_on}
 use Rattle.fc_spec.specs.documents.World.{World, Place}
 use Rattle.fc_spec.specs.requests.Buckets.{Key}

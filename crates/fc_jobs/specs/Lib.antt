@@ -1,3 +1,6 @@
+pub mod BasesKept
 pub mod FacetFits
 pub mod Gathered
+pub mod EmptyMissing
+pub mod Scopes
 pub mod Walked

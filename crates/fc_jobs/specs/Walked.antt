@@ -4,33 +4,52 @@ use Rattle.fc_spec.specs.documents.Document.{Block}
 use Rattle.fc_spec.specs.documents.Sets.{AreSets, each_set}
 use Rattle.fc_spec.specs.documents.Totals.{document_total}
 use Rattle.fc_spec.specs.documents.World.{World}
-use Rattle.fc_spec.specs.messages.Message.{Want, Way}
+use Rattle.fc_spec.specs.messages.Message.{Way}
 use Rattle.fc_spec.specs.messages.Target.{facet_at, nodes_in}
 use Rattle.fc_spec.specs.requests.Buckets.{Key}
-use Rattle.fc_spec.specs.requests.DomainSets.{base_set, bucket_set, changed_set}
+use Rattle.fc_spec.specs.requests.DomainSets.{bucket_set, changed_set}
+use Rattle.fc_spec.specs.requests.Paths.{Path, at_root, into}
 use Rattle.fc_spec.specs.requests.Request.{Facet, Nodes, Request}
-use Rattle.fc_answers.specs.SetAnswer.{Spot, domain_sets, spot_at, spot_from}
+use Rattle.fc_answers.specs.SetAnswer.{Scope, Spot, base_in, inside, scope_of, scope_on, spot_from}
 
 -- the domain of a facet in a segment, from the set of the bucket around it
-abbrev pub domain_set : Request → List Block → Facet → List Bool → List Bool
-domain_set r blocks f set = changed_set f.change blocks (base_set r f.change.exclude blocks) set
+abbrev pub domain_set : Scope → List Block → Facet → List Bool → List Bool
+domain_set o blocks f set = changed_set f.change blocks (base_in o f.change.exclude blocks) set
 
 -- one step further in; nowhere is no position
-abbrev pub set_in : Request → List Block → Key → List Bool → Option (Facet × Nodes) → List Bool
-set_in r blocks key set None = replicate (document_total blocks) false
-set_in r blocks key set (Some f) = bucket_set f.0.kind key blocks (domain_set r blocks f.0 set)
+abbrev pub set_in : Scope → List Block → Key → List Bool → Option (Facet × Nodes) → List Bool
+set_in o blocks key set None = replicate (document_total blocks) false
+set_in o blocks key set (Some f) = bucket_set f.0.kind key blocks (domain_set o blocks f.0 set)
+
+abbrev pub path_in : Path → Key → Option (Facet × Nodes) → Path
+path_in path key None = at_root
+path_in path key (Some f) = into path f.0 key
+
+abbrev pub scope_into : Scope → Key → Option (Facet × Nodes) → Scope
+scope_into o key None = scope_on o.request at_root
+scope_into o key (Some f) = inside o f.0 key
 
 -- the set of the bucket where a way leads, from a bucket with these nodes
-abbrev pub walked : Request → List Block → Nodes → List Bool → Way → List Bool
-walked r blocks nodes set [] = set
-walked r blocks nodes set (step ∷ way) = walked r blocks (nodes_in (facet_at step.node nodes)) (set_in r blocks step.key set (facet_at step.node nodes)) way
+abbrev pub walked : Scope → List Block → Nodes → List Bool → Way → List Bool
+walked o blocks nodes set [] = set
+walked o blocks nodes set (step ∷ way) = walked (scope_into o step.key (facet_at step.node nodes)) blocks (nodes_in (facet_at step.node nodes)) (set_in o blocks step.key set (facet_at step.node nodes)) way
 
 -- the nodes nested in that bucket
 abbrev pub nodes_from : Nodes → Way → Nodes
 nodes_from nodes [] = nodes
 nodes_from nodes (step ∷ way) = nodes_from (nodes_in (facet_at step.node nodes)) way
 
+-- its path, and its scope
+abbrev pub path_along : Path → Nodes → Way → Path
+path_along path nodes [] = path
+path_along path nodes (step ∷ way) = path_along (path_in path step.key (facet_at step.node nodes)) (nodes_in (facet_at step.node nodes)) way
+
+abbrev pub scope_along : Scope → Nodes → Way → Scope
+scope_along o nodes [] = o
+scope_along o nodes (step ∷ way) = scope_along (scope_into o step.key (facet_at step.node nodes)) (nodes_in (facet_at step.node nodes)) way
+
 -- over all segments a way leads to the sets that it leads to in each of them
 abbrev pub WalksBySegment : Type 0
 WalksBySegment = (r : Request) (V : World) (s : Spot) (way : Way) → AreSets V s.sets
-    → spot_from r V s way ≡ record { nodes = nodes_from s.nodes way; sets = each_set (λ blocks set. walked r blocks s.nodes set way) V s.sets }
+    → (spot_from r V s way ≡ record { path = path_along s.path s.nodes way; nodes = nodes_from s.nodes way; sets = each_set (λ blocks set. walked (scope_of r s) blocks s.nodes set way) V s.sets })
+    × (scope_on r (path_along s.path s.nodes way) ≡ scope_along (scope_of r s) s.nodes way)

@@ -13,32 +13,46 @@ ghost use Rattle.fc_request.specs.RequestView.{request_view};
 ghost use Rattle.fc_domain.specs.FieldsFit.{BaseFits, ChangeFits};
 ghost use Rattle.fc_kind.specs.Collecting.{BucketsAddUp, Collects};
 ghost use Rattle.fc_kind.specs.Names.{Covers};
+ghost use Rattle.fc_jobs.specs.BasesKept.{AreBasesAt, StayBases};
 ghost use Rattle.fc_jobs.specs.FacetFits.{FacetFits};
+ghost use Rattle.fc_jobs.specs.Scopes.{AllEnclosingFit, scope_over};
 ghost use Rattle.fc_jobs.specs.Walked.{domain_set};
 
+use crate::bases::Bases;
 use crate::choosing::{collect, selected};
+use crate::enclosing::Enclosing;
+use crate::rebuilding::rebuilt;
 use fc_base::WantMemory;
 use fc_docset::DocSet;
-use fc_domain::{base, step};
+use fc_domain::step;
 use fc_kind::FacetKind;
 use fc_partial::{Key, Tally};
 use fc_request::{Node, Request};
 use fc_segment::Segment;
 use std::alloc::Global;
 
-/// The domain of a facet in a segment, from the documents of the bucket around it. Where there are none, and the change excludes
-/// no tag, no document is looked at.
+/// The domain of a facet in a segment, inside the buckets of these facets, from the documents of the innermost one. Where the change
+/// excludes tags, it begins with the base inside those buckets; where it excludes none, no base is asked for, and where there are no
+/// documents besides, none is looked at.
 pub(crate) fn changed(
     alloc: Global,
+    kinds: &[Box<dyn FacetKind>],
     request: &Request,
     segment: &Segment,
+    at: usize,
+    bases: &mut Bases,
+    enclosing: &[Enclosing<'_>],
     node: &Node,
     docs: &DocSet,
 ) -> Result<DocSet, WantMemory>
+    requires covers { Covers (map name kinds.now) }
+    requires enclosing { AllEnclosingFit segment.now.texts enclosing.now }
     requires base { BaseFits segment.now.texts (request_view request.now) }
     requires fits { ChangeFits segment.now.texts (facet_view node.now).change }
     requires docs { length docs.now ≡ document_total segment.now.blocks }
-    ensures { IfOk result (λ set. set ≡ domain_set (request_view request.now) segment.now.blocks (facet_view node.now) docs.now) }
+    requires kept { AreBasesAt (request_view request.now) at segment.now.blocks bases.old }
+    ensures set { IfOk result (λ set. set ≡ domain_set (scope_over (request_view request.now) enclosing.now) segment.now.blocks (facet_view node.now) docs.now) }
+    ensures kept { StayBases (request_view request.now) at segment.now.blocks bases.old bases.new }
 {
     let mut into = DocSet::empty(alloc, docs.len())?;
     if node.domain.exclude.is_empty() {
@@ -48,25 +62,31 @@ pub(crate) fn changed(
         step(alloc, segment, &node.domain, docs, docs, &mut into)?;
         return Ok(into);
     }
-    let mut base_docs = DocSet::empty(alloc, docs.len())?;
-    base(
+    let base_docs = rebuilt(
         alloc,
-        segment,
+        kinds,
         request,
+        segment,
+        at,
+        bases,
+        enclosing,
         &node.domain.exclude,
-        &mut base_docs,
     )?;
     step(alloc, segment, &node.domain, docs, &base_docs, &mut into)?;
     Ok(into)
 }
 
-/// One segment of a facet's job, in the bucket of a key of the facet around it: the facet's domain there, whose documents are
-/// collected into its tally.
+/// One segment of a facet's job, inside the buckets of these facets, of which the last is the one around it with this key: the facet's
+/// domain there, whose documents are collected into its tally. The segment has this number; what base it needs is taken from the bases,
+/// and one that is new is kept there.
 pub fn facet_unit(
     alloc: Global,
     kinds: &[Box<dyn FacetKind>],
     request: &Request,
     segment: &Segment,
+    at: usize,
+    bases: &mut Bases,
+    enclosing: &[Enclosing<'_>],
     around: &Node,
     key: &Key,
     docs: &DocSet,
@@ -76,21 +96,26 @@ pub fn facet_unit(
     requires covers { Covers (map name kinds.now) }
     requires base { BaseFits segment.now.texts (request_view request.now) }
     requires limits { IsWithinLimits (segment.now.blocks ∷ []) }
+    requires enclosing { AllEnclosingFit segment.now.texts enclosing.now }
     requires around { FacetFits segment.now.texts around.now }
     requires key { IsTrue (is_key_of (kind_view (kind_of around.now)) (key_view key.now)) }
     requires length { length docs.now ≡ document_total segment.now.blocks }
     requires node { FacetFits segment.now.texts node.now }
+    requires kept { AreBasesAt (request_view request.now) at segment.now.blocks bases.old }
     requires stats { tally.old.stats ≡ stats_of (inner_view node.now) }
     requires add_up { BucketsAddUp (kind_view (kind_of node.now)) tally.old.stats
-        (places_on 0 segment.now.blocks (domain_set (request_view request.now) segment.now.blocks (facet_view node.now)
+        (places_on 0 segment.now.blocks (domain_set (scope_over (request_view request.now) enclosing.now) segment.now.blocks (facet_view node.now)
         (bucket_set (kind_view (kind_of around.now)) (key_view key.now) segment.now.blocks docs.now))) tally.old.entries }
-    ensures set { IfOk result (λ set. set ≡ domain_set (request_view request.now) segment.now.blocks (facet_view node.now)
+    ensures set { IfOk result (λ set. set ≡ domain_set (scope_over (request_view request.now) enclosing.now) segment.now.blocks (facet_view node.now)
         (bucket_set (kind_view (kind_of around.now)) (key_view key.now) segment.now.blocks docs.now)) }
     ensures collected { IfOk result (λ set. Collects (kind_view (kind_of node.now)) tally.old.stats
         (places_on 0 segment.now.blocks set) tally.old tally.new) }
+    ensures kept { StayBases (request_view request.now) at segment.now.blocks bases.old bases.new }
 {
     let bucket = selected(alloc, kinds, segment, docs, around, key)?;
-    let set = changed(alloc, request, segment, node, &bucket)?;
+    let set = changed(
+        alloc, kinds, request, segment, at, bases, enclosing, node, &bucket,
+    )?;
     collect(alloc, kinds, segment, &set, node, tally)?;
     Ok(set)
 }

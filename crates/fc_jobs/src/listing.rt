@@ -1,18 +1,26 @@
 // What is listed of a facet.
-ghost use Rattle.std.specs.Prelude.{◌≡◌, ◌∷◌, [], All, IfOk, IsTrue, unwrap_or};
+ghost use Rattle.std.specs.Prelude.{◌≡◌, [], All, IfOk, IsTrue};
 ghost use Rattle.std.specs.Map.{keys_of};
-ghost use Rattle.fc_spec.specs.requests.Buckets.{is_key_of, whole};
+ghost use Rattle.fc_spec.specs.requests.Buckets.{is_key_of};
+ghost use Rattle.fc_spec.specs.requests.Request as definition;
 ghost use Rattle.fc_spec.specs.requests.Request.{stats_of};
-ghost use Rattle.fc_spec.specs.requests.Statistics.{stats_over};
+ghost use Rattle.fc_query.specs.QueryView.{query_view};
+ghost use Rattle.fc_facet.specs.KindView.{range_view, terms_view};
+ghost use Rattle.fc_facet.specs.RangeGaps.{HasFewGaps};
+ghost use Rattle.fc_facet.specs.declared.kind.Kind.TheVariants as variant;
+ghost use Rattle.fc_refine.specs.CountableRanges.{IsCountable};
 ghost use Rattle.fc_partial.specs.BucketView.{bare, bucket_view, buckets_view};
-ghost use Rattle.fc_partial.specs.StatsView.{stats_view};
-ghost use Rattle.fc_partial.specs.Tallying.{IsTally, entry_at};
+ghost use Rattle.fc_partial.specs.Tallying.{IsTally};
 ghost use Rattle.fc_request.specs.FacetNode.{has_buckets, kind_of, kind_view};
 ghost use Rattle.fc_request.specs.NodeView.{inner_view};
 ghost use Rattle.fc_answers.specs.Listed.{listed_of};
+ghost use Rattle.fc_jobs.specs.EmptyMissing.{adds_missing};
 
+use crate::filling::{bucket_of, filled, range_keys};
 use fc_base::WantMemory;
-use fc_partial::{Key, PartialBucket, Stats, Tally};
+use fc_facet::{Range, Terms};
+use fc_partial::{Key, PartialBucket, Tally};
+use fc_query::Query;
 use fc_refine::{offered, top};
 use fc_request::{Kind, Node};
 use std::alloc::Global;
@@ -26,65 +34,108 @@ pub fn tally_of(alloc: Global, node: &Node) -> Result<Tally, WantMemory>
     Ok(tally)
 }
 
-/// What a shard lists of a facet, by its tally: of a terms facet the values that it offers, and those without a value; of a range
-/// facet each bucket that is not empty; of a query facet the one that it has. In the order of their keys, with nothing nested.
-pub fn listed(alloc: Global, node: &Node, tally: Tally) -> Result<Vec<PartialBucket>, WantMemory>
-    requires facet { IsTrue (has_buckets (kind_of node.now)) }
+// Whether missing is listed though no document lacks a value.
+fn adds_missing(node: &Node, terms: &Terms, tally: &Tally) -> bool
+    ensures adds { result ≡ adds_missing (terms_view terms.now) (inner_view node.now) tally.now.entries }
+    ensures tally { IsTally tally.now }
+{
+    let there = tally.get(&Key::Missing).is_some();
+    terms.missing && node.holds_exclusion() && !there
+}
+
+// What is listed of a terms facet.
+fn values_listed(
+    alloc: Global,
+    node: &Node,
+    terms: &Terms,
+    tally: Tally,
+) -> Result<Vec<PartialBucket>, WantMemory>
+    requires terms { kind_of node.now ≡ variant.Terms terms.now }
     requires stats { tally.stats ≡ stats_of (inner_view node.now) }
     requires keys { All (λ key. IsTrue (is_key_of (kind_view (kind_of node.now)) key)) (keys_of tally.entries) }
-    ensures listed { IfOk result (λ list. buckets_view list.items ≡ bare (listed_of (kind_view (kind_of node.now)) tally.stats tally.entries)) }
+    ensures list { IfOk result (λ list. buckets_view list.items
+        ≡ bare (listed_of (definition.terms (terms_view terms.now)) (inner_view node.now) tally.entries)) }
+    ensures tally { IsTally tally }
+{
+    let adds = adds_missing(node, terms, &tally);
+    if !adds {
+        let list = top(alloc, node, tally, offered(terms))?;
+        return Ok(list);
+    }
+    let missing = bucket_of(alloc, &tally, Key::Missing)?;
+    let mut list = top(alloc, node, tally, offered(terms))?;
+    list.push(missing)?;
+    Ok(list)
+}
+
+// What is listed of a range facet.
+fn ranges_listed(
+    alloc: Global,
+    node: &Node,
+    range: &Range,
+    tally: Tally,
+) -> Result<Vec<PartialBucket>, WantMemory>
+    requires few { HasFewGaps (range_view range.now) }
+    requires stats { tally.stats ≡ stats_of (inner_view node.now) }
+    ensures list { IfOk result (λ list. buckets_view list.items
+        ≡ bare (listed_of (definition.range (range_view range.now)) (inner_view node.now) tally.entries)) }
+    ensures tally { IsTally tally }
+{
+    if !node.holds_exclusion() {
+        let list = tally.into_buckets()?;
+        return Ok(list);
+    }
+    let none = tally.neutral()?;
+    let keys = range_keys(alloc, range)?;
+    let list = filled(alloc, &tally, keys, &none)?;
+    Ok(list)
+}
+
+// The bucket of a query facet, which may have no document.
+fn whole_listed(
+    alloc: Global,
+    node: &Node,
+    query: &Query,
+    tally: &Tally,
+) -> Result<Vec<PartialBucket>, WantMemory>
+    requires { tally.now.stats ≡ stats_of (inner_view node.now) }
+    ensures list { IfOk result (λ list. buckets_view list.items
+        ≡ bare (listed_of (definition.query (query_view query.now)) (inner_view node.now) tally.now.entries)) }
+    ensures tally { IsTally tally.now }
+{
+    let bucket = bucket_of(alloc, tally, Key::Whole)?;
+    let mut list = Vec::new(alloc);
+    list.push(bucket)?;
+    Ok(list)
+}
+
+/// What a shard lists of a facet, by its tally: of a terms facet the values that it offers, and those without a value; of a range
+/// facet each bucket that is not empty; of a query facet the one that it has. Of a facet that holds one that excludes tags each
+/// bucket but a value's is listed, whether it is empty or not. In the order of their keys, with nothing nested. The gaps of a
+/// range can be counted, as those of any facet that was read.
+pub fn listed(alloc: Global, node: &Node, tally: Tally) -> Result<Vec<PartialBucket>, WantMemory>
+    requires facet { IsTrue (has_buckets (kind_of node.now)) }
+    requires countable { IsCountable (kind_view (kind_of node.now)) }
+    requires stats { tally.stats ≡ stats_of (inner_view node.now) }
+    requires keys { All (λ key. IsTrue (is_key_of (kind_view (kind_of node.now)) key)) (keys_of tally.entries) }
+    ensures listed { IfOk result (λ list. buckets_view list.items
+        ≡ bare (listed_of (kind_view (kind_of node.now)) (inner_view node.now) tally.entries)) }
     ensures keys { IfOk result (λ list. All (λ b. IsTrue (is_key_of (kind_view (kind_of node.now)) (bucket_view b).key)) list.items) }
     ensures tally { IsTally tally }
 {
     match &node.kind {
         Kind::Terms(terms) => {
-            let list = top(alloc, node, tally, offered(terms))?;
+            let list = values_listed(alloc, node, terms, tally)?;
             Ok(list)
         }
-        Kind::Range(_) => {
-            let list = tally.into_buckets()?;
+        Kind::Range(range) => {
+            let list = ranges_listed(alloc, node, range, tally)?;
             Ok(list)
         }
-        Kind::Query(_) => {
-            let list = whole_bucket(alloc, node, &tally)?;
+        Kind::Query(query) => {
+            let list = whole_listed(alloc, node, query, &tally)?;
             Ok(list)
         }
         Kind::Stat(_) => unreachable!(),
     }
-}
-
-// The statistics of the one bucket of a query facet, which may have no document.
-fn whole_stats(alloc: Global, node: &Node, tally: &Tally) -> Result<Stats, WantMemory>
-    requires { tally.now.stats ≡ stats_of (inner_view node.now) }
-    ensures stats { IfOk result (λ stats. stats_view stats ≡ unwrap_or (entry_at tally.now.entries whole) (stats_over tally.now.stats [])) }
-    ensures tally { IsTally tally.now }
-{
-    match tally.get(&Key::Whole) {
-        Some(stats) => {
-            let copy = stats.copy(alloc)?;
-            Ok(copy)
-        }
-        None => {
-            let asked = node.stats(alloc)?;
-            let neutral = Stats::neutral(alloc, &asked)?;
-            Ok(neutral)
-        }
-    }
-}
-
-// That bucket, by itself.
-fn whole_bucket(alloc: Global, node: &Node, tally: &Tally) -> Result<Vec<PartialBucket>, WantMemory>
-    requires { tally.now.stats ≡ stats_of (inner_view node.now) }
-    ensures list { IfOk result (λ list. buckets_view list.items
-        ≡ bare ((whole, unwrap_or (entry_at tally.now.entries whole) (stats_over tally.now.stats [])) ∷ [])) }
-    ensures tally { IsTally tally.now }
-{
-    let stats = whole_stats(alloc, node, tally)?;
-    let mut list = Vec::new(alloc);
-    list.push(PartialBucket {
-        key: Key::Whole,
-        stats,
-        nodes: Vec::new(alloc),
-    })?;
-    Ok(list)
 }

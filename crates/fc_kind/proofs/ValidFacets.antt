@@ -39,7 +39,7 @@ kind_fits s inner (range g) valid =
     (is_field s.fields g.field valid.field, integers_there s.fields g.field valid.of_integers, record { ordered = valid.ordered; forward = valid.forward; few = valid.few })
 kind_fits s inner (query q) valid = fields_fit s q valid.fits
 
-pub statistics_fit : (s : Schema) (outermost : Bool) (nodes : Nodes) → AreValidNodes s outermost nodes → HaveFields (texts_held s.fields) (stats_of nodes)
-statistics_fit s outermost no_nodes valid = tt
-statistics_fit s outermost (statistic name st rest) valid = (is_field s.fields st.field valid.0.field, statistics_fit s outermost rest valid.1)
-statistics_fit s outermost (facet f inner rest) valid = statistics_fit s outermost rest valid.2
+pub statistics_fit : (s : Schema) (unmoved : Bool) (nodes : Nodes) → AreValidNodes s unmoved nodes → HaveFields (texts_held s.fields) (stats_of nodes)
+statistics_fit s unmoved no_nodes valid = tt
+statistics_fit s unmoved (statistic name st rest) valid = (is_field s.fields st.field valid.0.field, statistics_fit s unmoved rest valid.1)
+statistics_fit s unmoved (facet f inner rest) valid = statistics_fit s unmoved rest valid.2

@@ -1,5 +1,5 @@
 -- Facets among nodes, and what is listed for them.
-use Rattle.std.proofs.Common.{◌≡◌, suc, ◌+◌, ◌*◌, List, [], ◌∷◌, length, Bool, true, false, cond, refl, sym, ap, ◌∙◌, arith}
+use Rattle.std.proofs.Common.{◌≡◌, suc, ◌+◌, ◌*◌, List, [], ◌∷◌, length, Bool, true, false, ◌&&◌, cond, refl, sym, ap, ◌∙◌, arith}
 use Rattle.std.specs.Prelude.{IsTrue, count_by}
 use Rattle.std.proofs.lemmas.List.Elements.{All-nil, All-cons, All-head, All-same, All-rest}
 use Rattle.std.proofs.lemmas.List.Recursion.{is_count_by}
@@ -8,7 +8,8 @@ use Rattle.fc_spec.specs.documents.World.{World}
 use Rattle.fc_spec.specs.messages.Answer.{partials_of}
 use Rattle.fc_spec.specs.messages.Message.{Rows, no_rows, row}
 use Rattle.fc_spec.specs.requests.Buckets.{Key}
-use Rattle.fc_spec.specs.requests.Request.{Nodes, no_nodes, statistic, facet, Request}
+use Rattle.fc_spec.specs.requests.Request.{Nodes, no_nodes, statistic, facet}
+use Rattle.fc_spec.specs.requests.Shape.{stays}
 use Rattle.fc_spec.specs.requests.Statistics.{Stats}
 use Rattle.fc_spec.specs.requests.ValidRequests.{AreValidNodes}
 use Rattle.fc_facet.specs.declared.kind.Kind.{Kind}
@@ -17,7 +18,7 @@ use Rattle.fc_request.specs.FacetNode.{has_buckets, kind_of}
 use Rattle.fc_request.specs.NodeView.{nodes_view}
 use Rattle.fc_request.specs.declared.node.Node.{Node}
 use Rattle.fc_request.proofs.Nodes.{facet_is, statistic_is}
-use Rattle.fc_answers.specs.SetAnswer.{Sets, set_rows}
+use Rattle.fc_answers.specs.SetAnswer.{Scope, Sets, set_rows}
 use Rattle.fc_levels.specs.Facets.{Nested, nested_view, facets_of, facet_count}
 use Rattle.fc_levels.specs.Jobs.{row_count, opened}
 use Rattle.fc_levels.specs.Levels.{row_in}
@@ -49,10 +50,10 @@ facets_counted ns = is_count_by (λ xs. facet_count (nodes_view xs)) (λ n. has_
 
 -- ---- valid nodes
 
-facets_valid : (s : Schema) (outermost : Bool) (nodes : Nodes) → AreValidNodes s outermost nodes → AreValidFacets s nodes
-facets_valid s outermost no_nodes h = All-nil (IsValidNested s)
-facets_valid s outermost (statistic name st rest) h = facets_valid s outermost rest h.1
-facets_valid s outermost (facet f inner rest) h = All-cons (IsValidNested s) (f, inner) (facets_of rest) (record { valid = (outermost, h.0); inner = (false, h.1) }) (facets_valid s outermost rest h.2)
+facets_valid : (s : Schema) (unmoved : Bool) (nodes : Nodes) → AreValidNodes s unmoved nodes → AreValidFacets s nodes
+facets_valid s unmoved no_nodes h = All-nil (IsValidNested s)
+facets_valid s unmoved (statistic name st rest) h = facets_valid s unmoved rest h.1
+facets_valid s unmoved (facet f inner rest) h = All-cons (IsValidNested s) (f, inner) (facets_of rest) (record { valid = (unmoved, h.0); inner = (unmoved && stays f.change, h.1) }) (facets_valid s unmoved rest h.2)
 
 pub valid_facets : (s : Schema) (nodes : Nodes) → AreValid s nodes → AreValidFacets s nodes
 valid_facets s nodes h = facets_valid s h.0 nodes h.1
@@ -68,35 +69,35 @@ rest_valid s nodes rest n e v = All-rest (IsValidNested s) (nested_view n) (face
 
 -- ---- lists
 
-module _ (r : Request) (V : World) where
+module _ (o : Scope) (V : World) where
   -- a list for each of the facets
   rows_of : List Nested → Sets → Rows
   rows_of [] sets = no_rows
-  rows_of (n ∷ ns) sets = row (row_in r V n sets) (rows_of ns sets)
+  rows_of (n ∷ ns) sets = row (row_in o V n sets) (rows_of ns sets)
 
-  by_facets : (nodes : Nodes) (sets : Sets) → set_rows r V nodes sets ≡ rows_of (facets_of nodes) sets
+  by_facets : (nodes : Nodes) (sets : Sets) → set_rows o V nodes sets ≡ rows_of (facets_of nodes) sets
   unfolding rows_of
   by_facets no_nodes sets = refl
   by_facets (statistic name s rest) sets = by_facets rest sets
-  by_facets (facet f inner rest) sets = ap (row (row_in r V (f, inner) sets)) (by_facets rest sets)
+  by_facets (facet f inner rest) sets = ap (row (row_in o V (f, inner) sets)) (by_facets rest sets)
 
-  pub rows_alike : (a b : Nodes) (sets : Sets) → facets_of a ≡ facets_of b → set_rows r V a sets ≡ set_rows r V b sets
+  pub rows_alike : (a b : Nodes) (sets : Sets) → facets_of a ≡ facets_of b → set_rows o V a sets ≡ set_rows o V b sets
   rows_alike a b sets e = by_facets a sets ∙ ap (λ ns. rows_of ns sets) e ∙ sym (by_facets b sets)
 
-  pub rows_none : (a : Nodes) (sets : Sets) → facets_of a ≡ [] → set_rows r V a sets ≡ no_rows
+  pub rows_none : (a : Nodes) (sets : Sets) → facets_of a ≡ [] → set_rows o V a sets ≡ no_rows
   rows_none a sets e = rows_alike a no_nodes sets e
 
-  pub rows_first : (a rest : Nodes) (n : Nested) (sets : Sets) → facets_of a ≡ n ∷ facets_of rest → set_rows r V a sets ≡ row (row_in r V n sets) (set_rows r V rest sets)
+  pub rows_first : (a rest : Nodes) (n : Nested) (sets : Sets) → facets_of a ≡ n ∷ facets_of rest → set_rows o V a sets ≡ row (row_in o V n sets) (set_rows o V rest sets)
   rows_first a rest n sets e = rows_alike a (facet n.0 n.1 rest) sets e
 
-  pub rows_counted : (nodes : Nodes) (sets : Sets) → row_count (set_rows r V nodes sets) ≡ facet_count nodes
+  pub rows_counted : (nodes : Nodes) (sets : Sets) → row_count (set_rows o V nodes sets) ≡ facet_count nodes
   rows_counted no_nodes sets = refl
   rows_counted (statistic name s rest) sets = rows_counted rest sets
   rows_counted (facet f inner rest) sets = ap suc (rows_counted rest sets)
 
-  pub opened_of : (inner : Nodes) (stats : Key → Stats) (sets : Key → Sets) (keys : List Key) → opened (partials_of stats (λ k. set_rows r V inner (sets k)) keys) ≡ length keys * facet_count inner
-  opened_of inner stats sets [] = omega arith
-  opened_of inner stats sets (key ∷ keys) =
-      let here : row_count (set_rows r V inner (sets key)) ≡ facet_count inner = rows_counted inner (sets key) in
-      let there : opened (partials_of stats (λ k. set_rows r V inner (sets k)) keys) ≡ length keys * facet_count inner = opened_of inner stats sets keys in
-      grind arith
+pub opened_of : (V : World) (inner : Nodes) (stats : Key → Stats) (scopes : Key → Scope) (sets : Key → Sets) (keys : List Key) → opened (partials_of stats (λ k. set_rows (scopes k) V inner (sets k)) keys) ≡ length keys * facet_count inner
+opened_of V inner stats scopes sets [] = omega arith
+opened_of V inner stats scopes sets (key ∷ keys) =
+    let here : row_count (set_rows (scopes key) V inner (sets key)) ≡ facet_count inner = rows_counted (scopes key) V inner (sets key) in
+    let there : opened (partials_of stats (λ k. set_rows (scopes k) V inner (sets k)) keys) ≡ length keys * facet_count inner = opened_of V inner stats scopes sets keys in
+    grind arith

@@ -9,7 +9,6 @@ use Rattle.fc_spec.specs.documents.Schema.{Schema}
 use Rattle.fc_spec.specs.documents.World.{World}
 use Rattle.fc_spec.specs.messages.Message.{Partials, partial, row}
 use Rattle.fc_spec.specs.requests.Buckets.{is_key_of}
-use Rattle.fc_spec.specs.requests.Request.{Request}
 use Rattle.fc_partial.specs.BucketView.{Part, bucket_step, bucket_view, linked, linked_rows, node_step, node_view}
 use Rattle.fc_partial.specs.StatsView.{stats_view}
 use Rattle.fc_partial.specs.Tallied.{Entry}
@@ -23,12 +22,12 @@ use Rattle.fc_partial.specs.declared.bucket.PartialNode.{PartialNode}
 use Rattle.fc_request.specs.FacetNode.{has_buckets, kind_of, kind_view}
 use Rattle.fc_request.specs.NodeView.{nodes_view}
 use Rattle.fc_request.specs.declared.node.Node.{Node}
-use Rattle.fc_answers.specs.SetAnswer.{Sets, bucket_sets, set_rows}
+use Rattle.fc_answers.specs.SetAnswer.{Scope, Sets, inside, bucket_sets, set_rows}
 use Rattle.fc_levels.specs.declared.level.Level.{Level}
 use Rattle.fc_levels.specs.declared.level.Step.TheVariants.{Opened, Closed}
 use Rattle.fc_levels.specs.Facets.{Nested, nested_view, facets_of}
 use Rattle.fc_levels.specs.Jobs.{opened_inside, opened_in_rows, openings_of}
-use Rattle.fc_levels.specs.Levels.{ended_inside, entry_of, filled, nested_in, open_sets, put, put_rows, row_in}
+use Rattle.fc_levels.specs.Levels.{ended_inside, entry_of, filled, nested_in, open_scope, open_sets, put, put_rows, row_in}
 use Rattle.fc_levels.specs.Steps.{IsLevel, Resumes, StaysValid}
 use Rattle.fc_levels.proofs.FacetLists.{first_valid, rest_valid, rows_first, rows_none}
 use Rattle.fc_levels.proofs.Putting.{inside_bucket, inside_row, last_row, put_bucket, put_none, put_row}
@@ -43,11 +42,11 @@ pub entry_is : (b : PartialBucket) → entry_of b ≡ (key_view (out-PartialBuck
 entry_is b = let entry : Part → Entry = λ p. (p.key, p.stats) in ap entry (fold_out-PartialBucket Part Partials bucket_step node_step b)
 
 -- a bucket that waits, before those that wait behind it
-pub next_bucket : (r : Request) (V : World) (n : Nested) (domain : Sets) (open' : PartialBucket) (wait wait' : List PartialBucket) → wait ≡ wait' ++ open' ∷ []
-    → partial (key_view (out-PartialBucket open').key) (stats_view (out-PartialBucket open').stats) (set_rows r V n.1 (bucket_sets V n.0.kind (key_view (out-PartialBucket open').key) domain)) (filled r V n domain (map entry_of (reverse wait')))
-    ≡ filled r V n domain (map entry_of (reverse wait))
-next_bucket r V n domain open' wait wait' e =
-    ap (λ e. filled r V n domain (e ∷ map entry_of (reverse wait'))) (sym (entry_is open')) ∙ ap (λ bs. filled r V n domain (map entry_of bs)) (sym (ap reverse e ∙ reverse-append wait' (open' ∷ [])))
+pub next_bucket : (o : Scope) (V : World) (n : Nested) (domain : Sets) (open' : PartialBucket) (wait wait' : List PartialBucket) → wait ≡ wait' ++ open' ∷ []
+    → partial (key_view (out-PartialBucket open').key) (stats_view (out-PartialBucket open').stats) (set_rows (inside o n.0 (key_view (out-PartialBucket open').key)) V n.1 (bucket_sets V n.0.kind (key_view (out-PartialBucket open').key) domain)) (filled o V n domain (map entry_of (reverse wait')))
+    ≡ filled o V n domain (map entry_of (reverse wait))
+next_bucket o V n domain open' wait wait' e =
+    ap (λ e. filled o V n domain (e ∷ map entry_of (reverse wait'))) (sym (entry_is open')) ∙ ap (λ bs. filled o V n domain (map entry_of bs)) (sym (ap reverse e ∙ reverse-append wait' (open' ∷ [])))
 
 module _ (l : Level) (h : PartialNode) (rows : Vec PartialNode Global) (grown : rows.items ≡ l.rows.items ++ h ∷ []) where
   abbrev done_inside : List ℕ
@@ -56,9 +55,9 @@ module _ (l : Level) (h : PartialNode) (rows : Vec PartialNode Global) (grown : 
   -- another facet of the bucket that is open
   pub resumes_next : (left : Bor (List Node)) (n : Bor Node) → facets_of (nodes_view l.left.now) ≡ nested_view n.now ∷ facets_of (nodes_view left.now) → Resumes l h (Opened (record l { rows = rows; left = left }) n)
   resumes_next left n e = (
-    λ r V. ap (λ x. put (map bucket_view l.done.items) (partial (key_view l.key) (stats_view l.stats) x (filled r V (nested_in l) l.domain.items (map entry_of (reverse l.wait.items)))))
-        (put_row l.rows.items rows.items h (row (row_in r V (nested_view n.now) (open_sets V l)) (set_rows r V (nodes_view left.now) (open_sets V l))) grown
-        ∙ ap (λ x. put_rows (map node_view l.rows.items) (row (node_view h) x)) (sym (rows_first r V (nodes_view l.left.now) (nodes_view left.now) (nested_view n.now) (open_sets V l) e))),
+    λ o V. ap (λ x. put (map bucket_view l.done.items) (partial (key_view l.key) (stats_view l.stats) x (filled o V (nested_in l) l.domain.items (map entry_of (reverse l.wait.items)))))
+        (put_row l.rows.items rows.items h (row (row_in (open_scope o l) V (nested_view n.now) (open_sets V l)) (set_rows (open_scope o l) V (nodes_view left.now) (open_sets V l))) grown
+        ∙ ap (λ x. put_rows (map node_view l.rows.items) (row (node_view h) x)) (sym (rows_first (open_scope o l) V (nodes_view l.left.now) (nodes_view left.now) (nested_view n.now) (open_sets V l) e))),
     ap (λ xs. done_inside ++ xs) (inside_row l.rows.items rows.items h grown) ∙ sym (append_assoc done_inside (opened_in_rows (linked_rows (map node_view l.rows.items))) (openings_of (node_view h))),
     refl,
   )
@@ -70,13 +69,13 @@ module _ (l : Level) (h : PartialNode) (rows : Vec PartialNode Global) (grown : 
 
   -- that was the last: the bucket is whole
   module _ (none : facets_of (nodes_view l.left.now) ≡ []) (done : Vec PartialBucket Global) (more : done.items ≡ l.done.items ++ roll-PartialBucket (record { key = l.key; stats = l.stats; nodes = rows }) ∷ []) where
-    closed_bucket : (r : Request) (V : World) (ps : Partials)
-        → put (map bucket_view done.items) ps ≡ put (map bucket_view l.done.items) (partial (key_view l.key) (stats_view l.stats) (put_rows (map node_view l.rows.items) (row (node_view h) (set_rows r V (nodes_view l.left.now) (open_sets V l)))) ps)
-    closed_bucket r V ps =
+    closed_bucket : (o : Scope) (V : World) (ps : Partials)
+        → put (map bucket_view done.items) ps ≡ put (map bucket_view l.done.items) (partial (key_view l.key) (stats_view l.stats) (put_rows (map node_view l.rows.items) (row (node_view h) (set_rows (open_scope o l) V (nodes_view l.left.now) (open_sets V l)))) ps)
+    closed_bucket o V ps =
         put_bucket l.done.items done.items (roll-PartialBucket (record { key = l.key; stats = l.stats; nodes = rows })) ps more
         ∙ ap (λ (p : Part). put (map bucket_view l.done.items) (partial p.key p.stats p.rows ps)) (bucket_is l.key l.stats rows)
         ∙ ap (λ x. put (map bucket_view l.done.items) (partial (key_view l.key) (stats_view l.stats) x ps))
-        (last_row l.rows.items rows.items h grown ∙ ap (λ x. put_rows (map node_view l.rows.items) (row (node_view h) x)) (sym (rows_none r V (nodes_view l.left.now) (open_sets V l) none)))
+        (last_row l.rows.items rows.items h grown ∙ ap (λ x. put_rows (map node_view l.rows.items) (row (node_view h) x)) (sym (rows_none (open_scope o l) V (nodes_view l.left.now) (open_sets V l) none)))
 
     closed_inside : opened_inside (linked (map bucket_view done.items)) ≡ ended_inside l ++ openings_of (node_view h)
     closed_inside =
@@ -91,9 +90,9 @@ module _ (l : Level) (h : PartialNode) (rows : Vec PartialNode Global) (grown : 
 
       pub resumes_bucket : Resumes l h (Opened next_level l.first)
       resumes_bucket = (
-        λ r V. ap (λ ns. put (map bucket_view done.items) (partial (key_view (out-PartialBucket open').key) (stats_view (out-PartialBucket open').stats)
-            (put_rows (map node_view ns) (set_rows r V (nested_in l).1 (bucket_sets V (nested_in l).0.kind (key_view (out-PartialBucket open').key) l.domain.items))) (filled r V (nested_in l) l.domain.items (map entry_of (reverse wait.items))))) empty
-            ∙ ap (put (map bucket_view done.items)) (next_bucket r V (nested_in l) l.domain.items open' l.wait.items wait.items split) ∙ closed_bucket r V (filled r V (nested_in l) l.domain.items (map entry_of (reverse l.wait.items))),
+        λ o V. ap (λ ns. put (map bucket_view done.items) (partial (key_view (out-PartialBucket open').key) (stats_view (out-PartialBucket open').stats)
+            (put_rows (map node_view ns) (set_rows (inside o (nested_in l).0 (key_view (out-PartialBucket open').key)) V (nested_in l).1 (bucket_sets V (nested_in l).0.kind (key_view (out-PartialBucket open').key) l.domain.items))) (filled o V (nested_in l) l.domain.items (map entry_of (reverse wait.items))))) empty
+            ∙ ap (put (map bucket_view done.items)) (next_bucket o V (nested_in l) l.domain.items open' l.wait.items wait.items split) ∙ closed_bucket o V (filled o V (nested_in l) l.domain.items (map entry_of (reverse l.wait.items))),
         ap (λ ns. opened_inside (linked (map bucket_view done.items)) ++ opened_in_rows (linked_rows (map node_view ns))) empty ∙ append-nil (opened_inside (linked (map bucket_view done.items))) ∙ closed_inside,
         refl,
       )
@@ -106,7 +105,7 @@ module _ (l : Level) (h : PartialNode) (rows : Vec PartialNode Global) (grown : 
     -- no bucket is left
     pub resumes_whole : l.wait.items ≡ [] → Resumes l h (Closed (roll-PartialNode (record { buckets = done })) l.domain)
     resumes_whole e = (
-      λ r V. list_is done ∙ sym (put_none (map bucket_view done.items)) ∙ ap (λ bs. put (map bucket_view done.items) (filled r V (nested_in l) l.domain.items (map entry_of (reverse bs)))) (sym e) ∙ closed_bucket r V (filled r V (nested_in l) l.domain.items (map entry_of (reverse l.wait.items))),
+      λ o V. list_is done ∙ sym (put_none (map bucket_view done.items)) ∙ ap (λ bs. put (map bucket_view done.items) (filled o V (nested_in l) l.domain.items (map entry_of (reverse bs)))) (sym e) ∙ closed_bucket o V (filled o V (nested_in l) l.domain.items (map entry_of (reverse l.wait.items))),
       ap opened_inside (list_is done) ∙ closed_inside,
       refl,
     )

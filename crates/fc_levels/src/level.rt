@@ -5,17 +5,17 @@ ghost use Rattle.fc_spec.specs.documents.Sets.{AreSets, places_at};
 ghost use Rattle.fc_spec.specs.documents.World.{World};
 ghost use Rattle.fc_spec.specs.messages.Message.{partial, no_partials};
 ghost use Rattle.fc_spec.specs.requests.Buckets.{is_key_of};
-ghost use Rattle.fc_spec.specs.requests.Request.{Request, stats_of};
+ghost use Rattle.fc_spec.specs.requests.Request.{stats_of};
 ghost use Rattle.fc_spec.specs.requests.Statistics.{stats_over};
 ghost use Rattle.fc_partial.specs.BucketView.{bare, buckets_view};
 ghost use Rattle.fc_partial.specs.StatsView.{stats_view};
 ghost use Rattle.fc_partial.specs.View.{key_view};
-ghost use Rattle.fc_request.specs.FacetNode.{has_buckets, kind_of, kind_view};
+ghost use Rattle.fc_request.specs.FacetNode.{facet_view, has_buckets, kind_of, kind_view};
 ghost use Rattle.fc_request.specs.NodeView.{inner_view};
 ghost use Rattle.fc_answers.specs.Listed.{bucket_entry};
-ghost use Rattle.fc_answers.specs.SetAnswer.{bucket_sets, own_keys, set_rows};
+ghost use Rattle.fc_answers.specs.SetAnswer.{Scope, inside, bucket_sets, own_keys, set_rows};
 ghost use Rattle.fc_levels.specs.Facets.{nested_view};
-ghost use Rattle.fc_levels.specs.Levels.{row_over};
+ghost use Rattle.fc_levels.specs.Levels.{row_over, scope_in};
 ghost use Rattle.fc_levels.specs.Steps.{AreKeysOf, Given, Goes, IsLevel, IsNextOf, IsValidNode, Resumes, StaysValid};
 
 use crate::{facet_count, next_facet};
@@ -65,11 +65,11 @@ pub fn job_ended<'a>(
     listed: Vec<PartialBucket>,
 ) -> Result<Next<'a>, WantMemory>
     requires { IsTrue (has_buckets (kind_of node.now)) }
-    ensures goes { IfOk result (λ next. (r : Request) (V : World)
+    ensures goes { IfOk result (λ next. (o : Scope) (V : World)
         → buckets_view listed.items ≡ bare (map
         (bucket_entry (kind_view (kind_of node.now)) (stats_of (inner_view node.now)) (places_at V domain.items))
         (own_keys (kind_view (kind_of node.now)) (inner_view node.now) (places_at V domain.items)))
-        → Goes r V levels.old.items levels.new.items domain.items (row_over r V (nested_view node.now) domain.items) next) }
+        → Goes o V levels.old.items levels.new.items domain.items (row_over (scope_in o levels.old.items) V (nested_view node.now) domain.items) next) }
     ensures kept { IfOk result (λ next. (s : Schema) (V : World) → All (IsLevel s V) levels.old.items
         → IsValidNode s node.now → AreSets V domain.items → AreKeysOf node.now listed.items
         → All (IsLevel s V) levels.new.items) }
@@ -120,11 +120,11 @@ pub fn top_ended<'a>(
     stats: Stats,
 ) -> Result<Next<'a>, WantMemory>
     requires { IsTrue (has_buckets (kind_of node.now)) }
-    ensures goes { IfOk result (λ next. (r : Request) (V : World)
+    ensures goes { IfOk result (λ next. (o : Scope) (V : World)
         → stats_view stats ≡ stats_over (stats_of (inner_view node.now))
         (places_at V (bucket_sets V (kind_view (kind_of node.now)) (key_view key) domain.items))
-        → Goes r V levels.old.items levels.new.items domain.items
-        (partial (key_view key) (stats_view stats) (set_rows r V (inner_view node.now)
+        → Goes o V levels.old.items levels.new.items domain.items
+        (partial (key_view key) (stats_view stats) (set_rows (inside (scope_in o levels.old.items) (facet_view node.now) (key_view key)) V (inner_view node.now)
         (bucket_sets V (kind_view (kind_of node.now)) (key_view key) domain.items)) no_partials) next) }
     ensures kept { IfOk result (λ next. (s : Schema) (V : World) → All (IsLevel s V) levels.old.items
         → IsValidNode s node.now → AreSets V domain.items

@@ -2,6 +2,7 @@ use Rattle.std.proofs.Common.{rules, ◌≡◌, ◌*◌, [], ◌∷◌, ◌++◌
 use Rattle.fc_partial.specs.declared.bucket.PartialBucket.{out-PartialBucket}
 use Rattle.fc_request.specs.NodeView.{inner_view, nodes_view}
 use Rattle.fc_levels.specs.Facets.{facets_of, facet_count, nested_view}
+use Rattle.fc_levels.specs.Levels.{scope_in}
 use Rattle.fc_levels.specs.Steps.{AreKeysOf}
 use Rattle.fc_levels.specs.declared.level.Level.{Level}
 use Rattle.fc_levels.proofs.Endings.{given_kept, job_opens, keys_split, level_valid, listed_goes, none_goes, opened_over, pushed_goes, pushed_kept}
@@ -38,8 +39,8 @@ returns-clause-goes c =
     let facets : c.facet_count-facets.result ≡ facet_count (inner_view c.args.node.now) = c.facet_count-facets.ensures ∙ ap (λ ns. facet_count (nodes_view ns)) c.deref-2.ensures.value in
     let product : c.in-Some-checked_mul.opened ≡ c.len.result * c.facet_count-facets.result = c.in-Some-checked_mul.ensures.1 in
     let counted : c.in-Some-checked_mul.opened ≡ length c.args.listed.items * facet_count (inner_view c.args.node.now) = product ∙ ap (λ k. k * c.facet_count-facets.result) many ∙ ap (λ k. length c.args.listed.items * k) facets in
-    λ r V is. pushed_goes c.args.levels.now.items c.push.new.self.items l c.in_ok-push.ensures.items c.new.ensures.items c.new-2.ensures.items refl r V c.args.domain.items _ c.in-Some-checked_mul.opened
-    (job_opens l c.args.listed.items c.in-Some-pop.open refl refl turned some r V is) (counted ∙ sym (opened_over r V c.args.node.now c.args.domain.items c.args.listed.items is)) refl
+    λ o V is. pushed_goes c.args.levels.now.items c.push.new.self.items l c.in_ok-push.ensures.items c.new.ensures.items c.new-2.ensures.items refl o V c.args.domain.items _ c.in-Some-checked_mul.opened
+    (job_opens l c.args.listed.items c.in-Some-pop.open refl refl turned some (scope_in o c.args.levels.now.items) V is) (counted ∙ sym (opened_over (scope_in o c.args.levels.now.items) V c.args.node.now c.args.domain.items c.args.listed.items is)) refl
 
 pub returns-clause-kept : goal.returns-clause-kept
 returns-clause-kept c =

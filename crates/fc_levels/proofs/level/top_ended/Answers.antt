@@ -7,6 +7,7 @@ use Rattle.fc_partial.specs.declared.bucket.PartialBucket.TheViews.{roll-Partial
 use Rattle.fc_request.specs.FacetNode.{kind_of, kind_view}
 use Rattle.fc_request.specs.NodeView.{inner_view, nodes_view}
 use Rattle.fc_levels.specs.Facets.{facets_of, facet_count, nested_view}
+use Rattle.fc_levels.specs.Levels.{scope_in}
 use Rattle.fc_levels.specs.declared.level.Level.{Level}
 use Rattle.fc_levels.proofs.Endings.{given_kept, level_valid, no_keys, pushed_goes, pushed_kept, top_counted, top_goes, top_opens}
 use Rattle.fc_levels.proofs.FacetLists.{first_valid, valid_facets}
@@ -27,8 +28,8 @@ returns-clause-goes c =
     let l : Level = record { node = c.args.node; first = c.in-Some.first; others = c.in-Some.others; domain = c.args.domain; done = c.new.result; key = c.args.key; stats = c.args.stats; rows = c.new-rows.result; left = c.in-Some.others; wait = c.new-2.result } in
     let some : facets_of (inner_view c.args.node.now) ≡ nested_view c.in-Some.first.now ∷ facets_of (nodes_view c.in-Some.others.now) = ap (λ ns. facets_of (nodes_view ns)) (sym c.deref.ensures.value) ∙ c.in-Some.ensures.next in
     let facets : c.facet_count-opened.result ≡ facet_count (inner_view c.args.node.now) = c.facet_count-opened.ensures ∙ ap (λ ns. facet_count (nodes_view ns)) c.deref-2.ensures.value in
-    λ r V is. pushed_goes c.args.levels.now.items c.push-2.new.self.items l c.in_ok-push-2.ensures.items c.new.ensures.items c.new-rows.ensures.items refl r V c.args.domain.items _ c.facet_count-opened.result
-    (top_opens l c.new-2.ensures.items some r V) (facets ∙ top_counted r V c.args.node.now c.args.domain.items (key_view c.args.key) (stats_view c.args.stats)) refl
+    λ o V is. pushed_goes c.args.levels.now.items c.push-2.new.self.items l c.in_ok-push-2.ensures.items c.new.ensures.items c.new-rows.ensures.items refl o V c.args.domain.items _ c.facet_count-opened.result
+    (top_opens l c.new-2.ensures.items some (scope_in o c.args.levels.now.items) V) (facets ∙ top_counted (scope_in o c.args.levels.now.items) V c.args.node.now c.args.domain.items (key_view c.args.key) (stats_view c.args.stats)) refl
 
 pub returns-clause-kept : goal.returns-clause-kept
 returns-clause-kept c =

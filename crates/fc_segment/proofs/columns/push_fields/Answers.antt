@@ -1,8 +1,8 @@
-use Rattle.std.proofs.Common.{◌≡◌, ◌+◌, ◌++◌, [], ◌∷◌, refl, length, map, get_or, subst, sym, ap, ◌∙◌, arith}
+use Rattle.std.proofs.Common.{◌+◌, refl, length, map, subst, sym, ap, ◌∙◌, arith}
 use Rattle.std.proofs.lemmas.List.{length-map}
 use Rattle.fc_base.specs.View.{val_view}
 use Rattle.fc_docs.proofs.Entries.{Entry}
-use Rattle.fc_segment.specs.Building.{builds_texts, padded, values_built}
+use Rattle.fc_segment.specs.Building.{builds_texts, values_built}
 use Rattle.fc_segment.proofs.WalkedFields.{Pushed, pushed_none, pushed_value, pushed_all, waits_of, all_wait, field_within, here_is, some_here, still_waits}
 use Rattle.fc_segment.proofs.columns.push_fields.Goals as goal
 
