@@ -13,6 +13,7 @@ use Rattle.fc_spec.specs.messages.Message.{way_of}
 use Rattle.fc_spec.specs.messages.Target.{facet_at, nodes_in}
 use Rattle.fc_spec.specs.requests.Buckets.{Key, is_key_of}
 use Rattle.fc_spec.specs.requests.Request.{Facet, Nodes, no_nodes, statistic, facet}
+use Rattle.fc_spec.specs.requests.Shape.{stays}
 use Rattle.fc_spec.specs.requests.ValidRequests.{AreValidNodes, IsValidFacet}
 use Rattle.fc_partial.specs.View.{key_view}
 use Rattle.fc_request.specs.FacetNode.{facet_view, has_buckets, kind_of, kind_view}
@@ -114,7 +115,7 @@ split_named nodes step rest named = split (has_key (facet_at step.node nodes) st
 
 -- ---- validity
 
-valid_at : (s : Schema) (outermost : Bool) (nodes : Nodes) (i : ℕ) (f : Facet) (inner : Nodes) → AreValidNodes s outermost nodes → facet_at i nodes ≡ Some (f, inner) → IsValidFacet s outermost f inner × AreValidNodes s false inner
+valid_at : (s : Schema) (unmoved : Bool) (nodes : Nodes) (i : ℕ) (f : Facet) (inner : Nodes) → AreValidNodes s unmoved nodes → facet_at i nodes ≡ Some (f, inner) → IsValidFacet s unmoved f inner × AreValidNodes s (unmoved && stays f.change) inner
 valid_at s o no_nodes zero f inner valid there = absurd (cc)
 valid_at s o no_nodes (suc i) f inner valid there = absurd (cc)
 valid_at s o (statistic name st rest) zero f inner valid there = absurd (cc)
@@ -122,7 +123,7 @@ valid_at s o (statistic name st rest) (suc i) f inner valid there = valid_at s o
 valid_at s o (facet g nodes rest) zero f inner valid there =
     let here : Facet × Nodes = (g, nodes) in
     let wanted : Facet × Nodes = (f, inner) in
-    subst (λ (p : Facet × Nodes). IsValidFacet s o p.0 p.1 × AreValidNodes s false p.1) (same_Some here wanted there) (valid.0, valid.1)
+    subst (λ (p : Facet × Nodes). IsValidFacet s o p.0 p.1 × AreValidNodes s (o && stays p.0.change) p.1) (same_Some here wanted there) (valid.0, valid.1)
 valid_at s o (facet g nodes rest) (suc i) f inner valid there = valid_at s o rest i f inner valid.2 there
 
 -- a facet that is named is valid, and so are the nodes nested in it
@@ -130,4 +131,4 @@ pub valid_there : (s : Schema) (xs : List Node) (i : ℕ) (key : Key) (n : Node)
 valid_there s xs i key n named is valid =
     let here = named.there n is in
     let both = valid_at s valid.0 (nodes_view xs) i (facet_view n) (inner_view n) valid.1 here.0 in
-    record { facet = here.1; valid = (valid.0, both.0); inner = (false, both.1) }
+    record { facet = here.1; valid = (valid.0, both.0); inner = (valid.0 && stays (facet_view n).change, both.1) }

@@ -8,6 +8,7 @@ use Rattle.fc_spec.specs.messages.Message.{Ask, first, more}
 use Rattle.fc_spec.specs.messages.Target.{facet_at}
 use Rattle.fc_spec.specs.queries.Query.{all}
 use Rattle.fc_spec.specs.requests.Buckets.{is_key_of}
+use Rattle.fc_spec.specs.requests.DomainReading.{no_change}
 use Rattle.fc_spec.specs.requests.Request as definition
 use Rattle.fc_spec.specs.requests.Request.{query, stats_of}
 use Rattle.fc_spec.specs.requests.RequestReading as reading
@@ -42,13 +43,22 @@ kind_from c (k.Range g) n d m e = cc
 kind_from c (k.Query q) n d m e = cc
 kind_from c (k.Stat s) n d m e = absurd (cc)
 
+change_from : (c : definition.DomainChange) (kind : Kind) (n : definition.Nodes) (d : definition.DomainChange) (m : definition.Nodes) → node_of c kind n ≡ reading.of_facet d (query all) m → c ≡ d
+change_from c (k.Terms t) n d m e = cc
+change_from c (k.Range g) n d m e = cc
+change_from c (k.Query q) n d m e = cc
+change_from c (k.Stat s) n d m e = absurd (cc)
+
+pub root_change : (root : Node) → IsRoot root → (facet_view root).change ≡ no_change
+root_change root is = change_from _ (kind_of root) _ _ _ (ap (λ p. p.1) (sym (node_is root) ∙ is))
+
 pub root_kind : (root : Node) → IsRoot root → (facet_view root).kind ≡ query all
 root_kind root is = kind_from _ (kind_of root) _ _ _ (ap (λ p. p.1) (sym (node_is root) ∙ is))
 
 -- ---- the bucket with a number
 pub asked_top : WalksBySegment → (request : Request) (V : World) (ask : Ask) (i : ℕ) (n : Nested) → IsRoot request.root → i < asked_count ask → IsAskedFacet (nested_view request.root) (request_view request) ask i n
     → IsTop (request_view request) V ask i n (asked_key ask i)
-asked_top walks request V first zero n root h is = root_top (request_view request) V n (ap (λ m. m.1) is) (ap (λ m. (m.0).kind) is ∙ root_kind request.root root)
+asked_top walks request V first zero n root h is = root_top (request_view request) V n (ap (λ m. m.1) is) (ap (λ m. (m.0).kind) is ∙ root_kind request.root root) (ap (λ m. (m.0).change) is ∙ root_change request.root root)
 asked_top walks request V first (suc i) n root h is = absurd (omega (arith, h))
 asked_top walks request V (more wants) i n root h is = wanted_top walks (request_view request) V wants i n h is
 

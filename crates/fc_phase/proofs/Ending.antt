@@ -7,7 +7,6 @@ use Rattle.fc_spec.specs.documents.Schema.{Schema}
 use Rattle.fc_spec.specs.documents.World.{World}
 use Rattle.fc_spec.specs.messages.Message.{Ask}
 use Rattle.fc_spec.specs.requests.DomainSets.{base_set}
-use Rattle.fc_spec.specs.requests.Request as definition
 use Rattle.fc_spec.specs.requests.Request.{stats_of}
 use Rattle.fc_partial.specs.BucketView.{bucket_view, linked, node_view}
 use Rattle.fc_partial.specs.declared.bucket.PartialBucket.{PartialBucket}
@@ -18,16 +17,16 @@ use Rattle.fc_request.specs.RequestView.{request_view}
 use Rattle.fc_request.specs.declared.node.Node.{Node}
 use Rattle.fc_request.specs.declared.request.Request.{Request}
 use Rattle.fc_segment.specs.Segmented.{Segmented}
-use Rattle.fc_answers.specs.SetAnswer.{Sets, domain_sets}
+use Rattle.fc_answers.specs.SetAnswer.{Scope, Sets, domain_sets}
 use Rattle.fc_levels.specs.Facets.{nested_view}
 use Rattle.fc_levels.specs.Jobs.{openings}
-use Rattle.fc_levels.specs.Levels.{ended_in, open_in, row_in}
+use Rattle.fc_levels.specs.Levels.{ended_in, open_in, row_in, scope_in}
 use Rattle.fc_levels.specs.Steps.{IsValidNode}
 use Rattle.fc_levels.specs.declared.level.Level.{Level}
 use Rattle.fc_levels.specs.declared.level.Next.TheVariants.{Job, Whole}
 use Rattle.fc_jobs.specs.Gathered.{AreFirst, IsCountedSoFar}
 use Rattle.fc_jobs.proofs.CountedTallies.{counted_none}
-use Rattle.fc_phase.specs.Asked.{FitsTop, HasSameDomain, asked_count}
+use Rattle.fc_phase.specs.Asked.{FitsTop, HasSameDomain, asked_count, top_scope}
 use Rattle.fc_phase.specs.Built.{CanAnswer, IsTopJob, IsUnder, blocks_in, zeroed}
 use Rattle.fc_phase.specs.Going.{AreFront, Begins, Ends, GoesOn}
 use Rattle.fc_phase.specs.declared.going.Gone.{Gone}
@@ -76,23 +75,23 @@ goes_on s segments request ask before k n roots buckets levels job can based fro
         some = e.2;
         counted = counted;
       },
-      subst (λ m. IsUnder request V ask (length buckets.items) levels.items (row_in r V (nested_view m) (open_in V [] levels.items))) (sym node) e.3,
+      subst (λ m. IsUnder request V ask (length buckets.items) levels.items (row_in (scope_in o levels.items) V (nested_view m) (open_in V [] levels.items))) (sym node) e.3,
     );
   },
   ap length domain,
   refl,
-  ap (λ m. openings (linked (map bucket_view buckets.items)) ++ zeroed (ended_in r V levels.items (row_in r V (nested_view m) (open_in V [] levels.items)))) node
+  ap (λ m. openings (linked (map bucket_view buckets.items)) ++ zeroed (ended_in o V levels.items (row_in (scope_in o levels.items) V (nested_view m) (open_in V [] levels.items)))) node
       ∙ ap (λ l. openings (linked (map bucket_view buckets.items)) ++ l) e.4 ∙ sym (append_assoc (openings (linked (map bucket_view buckets.items))) before (k ∷ [])),
 )
   where
-    r : definition.Request
-    r = request_view request
+    o : Scope
+    o = top_scope (request_view request) ask (length buckets.items)
 
     V : World
     V = blocks_in segments
 
     D : Node → Sets
-    D m = domain_sets r V (facet_view m) (open_in V [] levels.items)
+    D m = domain_sets (scope_in o levels.items) V (facet_view m) (open_in V [] levels.items)
 
     counted : IsCountedSoFar V (D job.node.now) (kind_view (kind_of job.node.now)) (stats_of (inner_view job.node.now)) job.domain.items job.tally
     counted = subst (λ d. IsCountedSoFar V (D job.node.now) (kind_view (kind_of job.node.now)) (stats_of (inner_view job.node.now)) d job.tally) (sym domain)

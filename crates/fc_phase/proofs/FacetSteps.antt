@@ -1,12 +1,13 @@
 -- One segment more of a facet's job.
 use Rattle.std.proofs.Common.{◌≡◌, ℕ, suc, ◌+◌, ◌-◌, ◌<◌, ◌≤◌, List, [], ◌∷◌, ◌++◌, length, map, drop, take, get_or, All, Bool, IsTrue, refl, sym, ◌∙◌, ap, subst, arith, length-append}
 use Rattle.std.proofs.lemmas.List.{length-map, take-append-drop}
-use Rattle.std.proofs.lemmas.List.Elements.{All-drop, All-head}
+use Rattle.std.proofs.lemmas.List.Elements.{All-cons, All-drop, All-head, All-nil, All-tail}
 use Rattle.fc_spec.specs.documents.Document.{Block}
 use Rattle.fc_spec.specs.documents.Schema.{Schema}
 use Rattle.fc_spec.specs.documents.Sets.{AreSets, places_on}
 use Rattle.fc_spec.specs.documents.Totals.{document_total}
 use Rattle.fc_spec.specs.documents.World.{World}
+use Rattle.fc_spec.specs.messages.Message.{Ask}
 use Rattle.fc_spec.specs.requests.Buckets.{is_key_of}
 use Rattle.fc_spec.specs.requests.DomainSets.{bucket_set}
 use Rattle.fc_spec.specs.requests.Request as definition
@@ -21,19 +22,21 @@ use Rattle.fc_request.specs.RequestView.{request_view}
 use Rattle.fc_request.specs.declared.node.Node.{Node}
 use Rattle.fc_request.specs.declared.request.Request.{Request}
 use Rattle.fc_segment.specs.Segmented.{Segmented}
-use Rattle.fc_answers.specs.SetAnswer.{Sets, domain_sets}
-use Rattle.fc_levels.specs.Levels.{open_in}
+use Rattle.fc_answers.specs.SetAnswer.{Scope, Sets, domain_sets}
+use Rattle.fc_levels.specs.Levels.{open_in, scope_in}
 use Rattle.fc_levels.specs.Steps.{IsLevel, IsValidNode}
 use Rattle.fc_levels.specs.declared.level.Level.{Level}
-use Rattle.fc_jobs.specs.FacetFits.{FacetFits}
+use Rattle.fc_jobs.specs.FacetFits.{AllFit, FacetFits}
 use Rattle.fc_jobs.specs.Gathered.{IsCountedSoFar}
+use Rattle.fc_jobs.specs.Scopes.{KeyFits}
 use Rattle.fc_jobs.specs.Walked.{domain_set}
 use Rattle.fc_jobs.proofs.CountedTallies.{counted_more}
+use Rattle.fc_phase.specs.Asked.{top_scope}
 use Rattle.fc_phase.specs.Built.{blocks_in}
 use Rattle.fc_phase.specs.Stepping.{IsFacetStep, IsOneFurther, StandsAtFacet}
 use Rattle.fc_phase.specs.declared.jobs.FacetJob.{FacetJob}
 use Rattle.fc_phase.proofs.JobEnds.{sets_count}
-use Rattle.fc_phase.proofs.Segments.{base_here, blocks_here, facet_adds_up, facet_here, facet_stands, limits_here, map_stands, no_further, one_further, stands_at, within_list}
+use Rattle.fc_phase.proofs.Segments.{all_here, base_here, blocks_here, facet_adds_up, facet_here, facet_stands, limits_here, map_stands, no_further, one_further, stands_at, within_list}
 
 -- ---- sets
 same_first : (x y : ℕ) (xs ys : List ℕ) → x ∷ xs ≡ y ∷ ys → x ≡ y
@@ -56,11 +59,11 @@ pub last_is : (levels : List Level) (l : Level) → drop (length levels - 1) lev
 last_is levels l e = sym (take-append-drop (length levels - 1) levels) ∙ ap (λ xs. take (length levels - 1) levels ++ xs) e
 
 -- ---- no segment is left
-pub facet_kept : (s : Schema) (gs : List Segmented) (request : Request) (levels : List Level) (job : FacetJob) (at : ℕ) → at ≡ length job.domain.items → length gs ≤ at → StandsAtFacet s gs request levels job → IsFacetStep s gs request levels job job
-facet_kept s gs request levels job at count past st = record { same = refl; job = st.is_job; further = no_further (length gs) (length job.domain.items) (subst (λ n. length gs ≤ n) count past) }
+pub facet_kept : (s : Schema) (gs : List Segmented) (request : Request) (ask : Ask) (number : ℕ) (levels : List Level) (job : FacetJob) (at : ℕ) → at ≡ length job.domain.items → length gs ≤ at → StandsAtFacet s gs request ask number levels job → IsFacetStep s gs request ask number levels job job
+facet_kept s gs request ask number levels job at count past st = record { same = refl; job = st.is_job; further = no_further (length gs) (length job.domain.items) (subst (λ n. length gs ≤ n) count past) }
 
 -- ---- the job at a segment
-module _ (s : Schema) (gs : List Segmented) (request : Request) (levels : List Level) (job : FacetJob) (at : ℕ) (count : at ≡ length job.domain.items) (g : Segmented) (rest : List Segmented) (here : drop at gs ≡ g ∷ rest) (st : StandsAtFacet s gs request levels job) where
+module _ (s : Schema) (gs : List Segmented) (request : Request) (ask : Ask) (number : ℕ) (levels : List Level) (job : FacetJob) (at : ℕ) (count : at ≡ length job.domain.items) (g : Segmented) (rest : List Segmented) (here : drop at gs ≡ g ∷ rest) (st : StandsAtFacet s gs request ask number levels job) where
   abbrev r : definition.Request
   r = request_view request
 
@@ -76,8 +79,12 @@ module _ (s : Schema) (gs : List Segmented) (request : Request) (levels : List L
   abbrev ss : List Stat
   ss = stats_of (inner_view job.node.now)
 
+  -- the scope of the bucket that is open
+  abbrev o : Scope
+  o = scope_in (top_scope r ask number) levels
+
   abbrev E : Sets
-  E = domain_sets r V f (open_in V [] levels)
+  E = domain_sets o V f (open_in V [] levels)
 
   pub facet_base : BaseFits g.texts r
   facet_base = base_here s gs request at g rest here st.can
@@ -90,6 +97,22 @@ module _ (s : Schema) (gs : List Segmented) (request : Request) (levels : List L
 
   pub facet_stats : job.tally.stats ≡ ss
   facet_stats = st.is_job.counted.tally.stats
+
+  level_fits : (l : Level) → IsLevel s V l → KeyFits g.texts l.node.now (key_view l.key)
+  level_fits l v =
+      let fits = facet_here s gs request at g rest here st.can l.node.now v.node in
+      record { facet = fits.facet; change = fits.change; kind = fits.kind; key = v.key }
+
+  all_levels_fit : (ls : List Level) → All (IsLevel s V) ls → All (λ (l : Level). KeyFits g.texts l.node.now (key_view l.key)) ls
+  all_levels_fit [] a = All-nil (λ (l : Level). KeyFits g.texts l.node.now (key_view l.key))
+  all_levels_fit (l ∷ ls) a = All-cons (λ (l : Level). KeyFits g.texts l.node.now (key_view l.key)) l ls (level_fits l (All-head (IsLevel s V) l ls a)) (all_levels_fit ls (All-tail (IsLevel s V) l ls a))
+
+  -- the facets around are open in buckets of their own
+  pub facet_levels : All (λ (l : Level). KeyFits g.texts l.node.now (key_view l.key)) levels
+  facet_levels = all_levels_fit levels st.is_job.valid
+
+  pub facet_nodes : AllFit g.texts r.nodes
+  facet_nodes = all_here s gs request at g rest here st.can
 
   -- in the bucket that is open at the innermost level
   module _ (l : Level) (last : drop (length levels - 1) levels ≡ l ∷ []) where
@@ -119,12 +142,12 @@ module _ (s : Schema) (gs : List Segmented) (request : Request) (levels : List L
       facet_long = long_at V (blocks_in rest) l.domain.items behind at g.blocks set level.sets (blocks_here s gs request at g rest here st.can) next
 
       abbrev docs : List Bool
-      docs = domain_set r g.blocks f (bucket_set (kind_view (kind_of l.node.now)) (key_view l.key) g.blocks set)
+      docs = domain_set o g.blocks f (bucket_set (kind_view (kind_of l.node.now)) (key_view l.key) g.blocks set)
 
       pub facet_add_up : BucketsAddUp kind job.tally.stats (places_on 0 g.blocks docs) job.tally.entries
       facet_add_up =
           subst (λ ts. BucketsAddUp kind ts (places_on 0 g.blocks docs) job.tally.entries) (sym facet_stats)
-          (facet_adds_up s gs request at g rest here st.can f levels before l (last_is levels l last) level set behind next kind ss job.domain.items job.tally (sym count) st.is_job.counted)
+          (facet_adds_up s gs request at g rest here st.can o f levels before l (last_is levels l last) level set behind next kind ss job.domain.items job.tally (sym count) st.is_job.counted)
 
       -- one segment more
       module _ (after : FacetJob) (found : List Bool) (found_is : found ≡ docs) (node : after.node.now ≡ job.node.now) (domain_is : after.domain.items ≡ job.domain.items ++ found ∷ [])
@@ -132,17 +155,17 @@ module _ (s : Schema) (gs : List Segmented) (request : Request) (levels : List L
         counted : IsCountedSoFar V E kind ss (job.domain.items ++ docs ∷ []) after.tally
         counted =
             counted_more V (blocks_in rest) E job.domain.items _ kind ss g.blocks docs job.tally after.tally (ap (λ n. drop n V) (sym count) ∙ blocks_here s gs request at g rest here st.can)
-            (ap (λ n. drop n E) (sym count) ∙ facet_stands s gs request at g rest here st.can f levels before l (last_is levels l last) level set behind next) st.is_job.counted
+            (ap (λ n. drop n E) (sym count) ∙ facet_stands s gs request at g rest here st.can o f levels before l (last_is levels l last) level set behind next) st.is_job.counted
             (subst (λ ts. Collects kind ts (places_on 0 g.blocks docs) job.tally after.tally) facet_stats (subst (λ (x : List Bool). Collects kind job.tally.stats (places_on 0 g.blocks x) job.tally after.tally) found_is collects))
 
-        pub facet_stepped : IsFacetStep s gs request levels job after
+        pub facet_stepped : IsFacetStep s gs request ask number levels job after
         facet_stepped = record {
           same = node;
           job = record {
             node = subst (IsValidNode s) (sym node) st.is_job.node;
             valid = st.is_job.valid;
             some = st.is_job.some;
-            counted = subst (λ (m : Node). IsCountedSoFar V (domain_sets r V (facet_view m) (open_in V [] levels)) (kind_view (kind_of m)) (stats_of (inner_view m)) after.domain.items after.tally) (sym node)
+            counted = subst (λ (m : Node). IsCountedSoFar V (domain_sets o V (facet_view m) (open_in V [] levels)) (kind_view (kind_of m)) (stats_of (inner_view m)) after.domain.items after.tally) (sym node)
                 (subst (λ (d : Sets). IsCountedSoFar V E kind ss d after.tally) (sym (domain_is ∙ ap (λ x. job.domain.items ++ x ∷ []) found_is)) counted);
           };
           further = subst (λ n. IsOneFurther (length gs) n (length after.domain.items)) count

@@ -6,17 +6,17 @@ use Rattle.fc_spec.specs.documents.World.{World}
 use Rattle.fc_spec.specs.messages.Message.{Ask, first, more, Partials, no_partials, partial}
 use Rattle.fc_spec.specs.requests.Buckets.{Key}
 use Rattle.fc_spec.specs.requests.Request.{Nodes, no_nodes, statistic, facet, Request}
-use Rattle.fc_answers.specs.SetAnswer.{Sets, bucket_sets, set_answer, set_rows}
+use Rattle.fc_answers.specs.SetAnswer.{Scope, Sets, inside, bucket_sets, set_answer, set_rows}
 use Rattle.fc_levels.specs.Facets.{Nested, facet_count}
 use Rattle.fc_levels.specs.Jobs.{AreCounted, job_count, opened, openings, row_count, top_buckets}
-use Rattle.fc_phase.specs.Asked.{IsTop, answer_from, asked_count, followed, top_bucket, top_domain}
+use Rattle.fc_phase.specs.Asked.{IsTop, answer_from, asked_count, followed, top_bucket, top_domain, top_scope}
 use Rattle.fc_phase.proofs.Turning.{AreKnown}
 
 -- a list for each facet
-pub rows_count : (r : Request) (V : World) (nodes : Nodes) (sets : Sets) → row_count (set_rows r V nodes sets) ≡ facet_count nodes
-rows_count r V no_nodes sets = refl
-rows_count r V (statistic name s rest) sets = rows_count r V rest sets
-rows_count r V (facet f inner rest) sets = ap suc (rows_count r V rest sets)
+pub rows_count : (o : Scope) (V : World) (nodes : Nodes) (sets : Sets) → row_count (set_rows o V nodes sets) ≡ facet_count nodes
+rows_count o V no_nodes sets = refl
+rows_count o V (statistic name s rest) sets = rows_count o V rest sets
+rows_count o V (facet f inner rest) sets = ap suc (rows_count o V rest sets)
 
 first_count : Partials → ℕ
 first_count ps = top_buckets ps + opened ps
@@ -33,7 +33,7 @@ opened-followed (partial k stats rows rest) qs = omega (arith, opened-followed r
 pub one_bucket : (r : Request) (V : World) (ask : Ask) (i : ℕ) (n : Nested) (k : Key) → IsTop r V ask i n k
     → top_buckets (answer_from r V ask i) + opened (answer_from r V ask i) ≡ facet_count n.1 + 1 + (top_buckets (answer_from r V ask (i + 1)) + opened (answer_from r V ask (i + 1)))
 one_bucket r V ask i n k top =
-    let b = top_bucket r V n k (top_domain r V ask i n.0) in
+    let b = top_bucket (top_scope r ask i) V n k (top_domain r V ask i n.0) in
     let rest = answer_from r V ask (i + 1) in
     omega (
       arith,
@@ -41,7 +41,7 @@ one_bucket r V ask i n k top =
       ap opened top,
       top-followed b rest,
       opened-followed b rest,
-      rows_count r V n.1 (bucket_sets V n.0.kind k (top_domain r V ask i n.0)),
+      rows_count (inside (top_scope r ask i) n.0 k) V n.1 (bucket_sets V n.0.kind k (top_domain r V ask i n.0)),
     )
 
 -- from the first one on it is the whole answer, and behind the last one there is nothing

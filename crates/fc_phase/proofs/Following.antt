@@ -6,7 +6,7 @@ use Rattle.std.specs.declared.vec.Vec.{Vec}
 use Rattle.std.specs.Map.{keys_of}
 use Rattle.std.proofs.lemmas.List.Elements.{All-nil}
 use Rattle.fc_base.specs.declared.error.WantMemory.{WantMemory}
-use Rattle.fc_spec.specs.documents.Schema.{Schema}
+use Rattle.fc_spec.specs.documents.Schema.{Schema, texts_held}
 use Rattle.fc_spec.specs.documents.Sets.{AreSets, places_at}
 use Rattle.fc_spec.specs.documents.World.{World}
 use Rattle.fc_spec.specs.messages.Message.{Ask, Partials, no_partials, partial, Rows}
@@ -27,19 +27,22 @@ use Rattle.fc_request.specs.NodeView.{inner_view}
 use Rattle.fc_request.specs.RequestView.{request_view}
 use Rattle.fc_request.specs.declared.node.Node.{Node}
 use Rattle.fc_request.specs.declared.request.Request.{Request}
+use Rattle.fc_refine.specs.CountableRanges.{IsCountable}
+use Rattle.fc_kind.specs.Columns.{FitsColumns}
+use Rattle.fc_kind.proofs.ValidFacets.{kind_fits}
 use Rattle.fc_segment.specs.Segmented.{Segmented}
 use Rattle.fc_answers.specs.Listed.{bucket_entry, listed_of}
-use Rattle.fc_answers.specs.SetAnswer.{Sets, bucket_sets, domain_sets, own_keys, set_rows}
+use Rattle.fc_answers.specs.SetAnswer.{Scope, Sets, bucket_sets, domain_sets, inside, own_keys, set_rows}
 use Rattle.fc_levels.specs.Facets.{Nested, nested_view}
 use Rattle.fc_levels.specs.Jobs.{openings, units_each}
-use Rattle.fc_levels.specs.Levels.{ended_in, open_in, row_in, row_over}
+use Rattle.fc_levels.specs.Levels.{ended_in, open_in, row_in, row_over, scope_in}
 use Rattle.fc_levels.specs.Steps.{AreKeysOf, Goes, IsLevel, IsNextOf, IsValidNode}
 use Rattle.fc_levels.specs.declared.level.Level.{Level}
 use Rattle.fc_levels.specs.declared.level.Next.{Next}
 use Rattle.fc_levels.specs.declared.level.Next.TheVariants.{Job, Whole}
 use Rattle.fc_jobs.specs.Gathered.{AreFirst}
 use Rattle.fc_jobs.proofs.ListedKeys.{counted_keys, listed_all}
-use Rattle.fc_phase.specs.Asked.{FitsTop, HasSameDomain, IsTop, asked_count}
+use Rattle.fc_phase.specs.Asked.{FitsTop, HasSameDomain, IsTop, asked_count, top_scope}
 use Rattle.fc_phase.specs.Built.{CanAnswer, IsBuilt, IsJob, IsTopJob, IsUnder, blocks_in, done_in, ended, row_under_way, zeroed}
 use Rattle.fc_phase.specs.Going.{AreFront, Begins, Ends, GoesOn, UnitDone, ended_by, known_already, opened_by}
 use Rattle.fc_phase.specs.Stepping.{IsFacetStep, IsOneFurther, IsTopStep, StandsAtFacet, StandsAtTop}
@@ -121,13 +124,13 @@ whole_ends request ask roots buckets grown levels next p domain is more (Err x) 
 -- ---- a top bucket's job
 
 -- a bucket by itself, from the sets of its facet
-abbrev pub bucket_over : definition.Request → World → Node → Key → Stats → Sets → Partials
-bucket_over r V n k stats domain = partial k stats (set_rows r V (inner_view n) (bucket_sets V (kind_view (kind_of n)) k domain)) no_partials
+abbrev pub bucket_over : Scope → World → Node → Key → Stats → Sets → Partials
+bucket_over o V n k stats domain = partial k stats (set_rows (inside o (facet_view n) k) V (inner_view n) (bucket_sets V (kind_view (kind_of n)) k domain)) no_partials
 
 -- what the levels make of its end
 pub record TopEnded (old after : List Level) (job : TopJob) (next : Next) : Type 0 where
-  pub goes : (r : definition.Request) (V : World) → stats_view job.over ≡ stats_over (stats_of (inner_view job.node.now)) (places_at V (bucket_sets V (kind_view (kind_of job.node.now)) (key_view job.key) job.domain.items))
-      → Goes r V old after job.domain.items (bucket_over r V job.node.now (key_view job.key) (stats_view job.over) job.domain.items) next
+  pub goes : (o : Scope) (V : World) → stats_view job.over ≡ stats_over (stats_of (inner_view job.node.now)) (places_at V (bucket_sets V (kind_view (kind_of job.node.now)) (key_view job.key) job.domain.items))
+      → Goes o V old after job.domain.items (bucket_over (scope_in o old) V job.node.now (key_view job.key) (stats_view job.over) job.domain.items) next
   pub kept : (s : Schema) (V : World) → All (IsLevel s V) old → IsValidNode s job.node.now → AreSets V job.domain.items → IsTrue (is_key_of (kind_view (kind_of job.node.now)) (key_view job.key)) → All (IsLevel s V) after
   pub next_is : (s : Schema) (V : World) → All (IsLevel s V) old → IsValidNode s job.node.now → AreSets V job.domain.items → IsTrue (is_key_of (kind_view (kind_of job.node.now)) (key_view job.key)) → IsNextOf s V next
 
@@ -139,7 +142,7 @@ top_comes s segments request ask i roots job old after next none told st past =
     let fresh = subst (λ ls. TopEnded ls after job next) none told in
     let sets = top_sets s segments request ask i roots job st past in
     top_ends s segments request ask i roots job st past after next
-    (fresh.goes (request_view request) V (top_stats s segments request ask i roots job st past))
+    (fresh.goes (top_scope (request_view request) ask i) V (top_stats s segments request ask i roots job st past))
     (fresh.kept s V (All-nil (IsLevel s V)) st.is_job.node sets st.is_job.is_key)
     (fresh.next_is s V (All-nil (IsLevel s V)) st.is_job.node sets st.is_job.is_key)
 
@@ -160,57 +163,66 @@ top_goes request ask roots buckets job old after next known none told is (Err x)
 
 -- what the levels make of its end
 pub record FacetEnded (old after : List Level) (job : FacetJob) (list : List PartialBucket) (next : Next) : Type 0 where
-  pub goes : (r : definition.Request) (V : World)
+  pub goes : (o : Scope) (V : World)
       → buckets_view list ≡ bare (map (bucket_entry (kind_view (kind_of job.node.now)) (stats_of (inner_view job.node.now)) (places_at V job.domain.items)) (own_keys (kind_view (kind_of job.node.now)) (inner_view job.node.now) (places_at V job.domain.items)))
-      → Goes r V old after job.domain.items (row_over r V (nested_view job.node.now) job.domain.items) next
+      → Goes o V old after job.domain.items (row_over (scope_in o old) V (nested_view job.node.now) job.domain.items) next
   pub kept : (s : Schema) (V : World) → All (IsLevel s V) old → IsValidNode s job.node.now → AreSets V job.domain.items → AreKeysOf job.node.now list → All (IsLevel s V) after
   pub next_is : (s : Schema) (V : World) → All (IsLevel s V) old → IsValidNode s job.node.now → AreSets V job.domain.items → AreKeysOf job.node.now list → IsNextOf s V next
 
 -- what is listed of it
 pub record FacetListed (job : FacetJob) (list : List PartialBucket) : Type 0 where
   pub ascends : IsTally job.tally
-  pub listed : buckets_view list ≡ bare (listed_of (kind_view (kind_of job.node.now)) job.tally.stats job.tally.entries)
+  pub listed : buckets_view list ≡ bare (listed_of (kind_view (kind_of job.node.now)) (inner_view job.node.now) job.tally.entries)
   pub keys : AreKeysOf job.node.now list
 
 -- the levels, once its list is there, are the bucket under way
 abbrev pub IsUnderWay : Request → Ask → List PartialBucket → List Level → FacetJob → List Segmented → Type 0
-IsUnderWay request ask buckets levels job cut = IsUnder request (blocks_in cut) ask (length buckets) levels (row_under_way (request_view request) (blocks_in cut) levels job)
+IsUnderWay request ask buckets levels job cut = IsUnder request (blocks_in cut) ask (length buckets) levels (row_under_way (top_scope (request_view request) ask (length buckets)) (blocks_in cut) levels job)
 
 -- the jobs that have ended before it
-abbrev pub ended_before : Request → List Level → FacetJob → List Segmented → List ℕ
-ended_before request levels job cut = zeroed (ended_in (request_view request) (blocks_in cut) levels (row_under_way (request_view request) (blocks_in cut) levels job))
+abbrev pub ended_before : Request → Ask → ℕ → List Level → FacetJob → List Segmented → List ℕ
+ended_before request ask i levels job cut = zeroed (ended_in (top_scope (request_view request) ask i) (blocks_in cut) levels (row_under_way (top_scope (request_view request) ask i) (blocks_in cut) levels job))
 
 facet_comes : (s : Schema) (segments : List Segmented) (request : Request) (ask : Ask) (buckets : List PartialBucket) (old after : List Level) (job : FacetJob) (list : List PartialBucket) (next : Next) → FacetListed job list → FacetEnded old after job list next
-    → StandsAtFacet s segments request old job → IsUnderWay request ask buckets old job segments → length segments ≤ length job.domain.items
-    → Ends s segments request ask (length buckets) (ended_before request old job segments) after next
+    → StandsAtFacet s segments request ask (length buckets) old job → IsUnderWay request ask buckets old job segments → length segments ≤ length job.domain.items
+    → Ends s segments request ask (length buckets) (ended_before request ask (length buckets) old job segments) after next
 facet_comes s segments request ask buckets old after job list next l told st under past =
     let V = blocks_in segments in
     let i = length buckets in
     let kind = kind_view (kind_of job.node.now) in
     let sets = facet_sets s segments request ask i old job st.is_job under past in
     let counted = facet_counted s segments request ask i old job st.is_job under past in
-    let all = l.listed ∙ ap (λ ss. bare (listed_of kind ss job.tally.entries)) st.is_job.counted.tally.stats ∙ ap bare (listed_all V job.domain.items kind (inner_view job.node.now) job.tally sets l.ascends counted) in
+    let all = l.listed ∙ ap bare (listed_all V job.domain.items kind (inner_view job.node.now) job.tally sets l.ascends counted) in
     facet_ends s segments request ask i old job st.is_job under past after next
-    (told.goes (request_view request) V all)
+    (told.goes (top_scope (request_view request) ask i) V all)
     (told.kept s V st.is_job.valid st.is_job.node sets l.keys)
     (told.next_is s V st.is_job.valid st.is_job.node sets l.keys)
 
+-- its buckets can be counted
+pub countable_node : (s : Schema) (n : Node) → IsValidNode s n → IsCountable (kind_view (kind_of n))
+countable_node s n valid = countable_kind (kind_view (kind_of n)) (kind_fits s (inner_view n) (kind_view (kind_of n)) valid.valid.1.kind)
+  where
+    countable_kind : (k : definition.Kind) → FitsColumns (texts_held s.fields) k → IsCountable k
+    countable_kind (definition.terms t) fits = tt
+    countable_kind (definition.range g) fits = fits.2
+    countable_kind (definition.query q) fits = tt
+
 -- the keys of its tally are its own
-pub listed_keys_of : (s : Schema) (cut : List Segmented) (request : Request) (levels : List Level) (job : FacetJob) → StandsAtFacet s cut request levels job → All (λ key. IsTrue (is_key_of (kind_view (kind_of job.node.now)) key)) (keys_of job.tally.entries)
-listed_keys_of s cut request levels job st =
-    counted_keys (blocks_in cut) (domain_sets (request_view request) (blocks_in cut) (facet_view job.node.now) (open_in (blocks_in cut) [] levels)) job.domain.items (kind_view (kind_of job.node.now)) (stats_of (inner_view job.node.now)) job.tally st.is_job.counted
+pub listed_keys_of : (s : Schema) (cut : List Segmented) (request : Request) (ask : Ask) (i : ℕ) (levels : List Level) (job : FacetJob) → StandsAtFacet s cut request ask i levels job → All (λ key. IsTrue (is_key_of (kind_view (kind_of job.node.now)) key)) (keys_of job.tally.entries)
+listed_keys_of s cut request ask i levels job st =
+    counted_keys (blocks_in cut) (domain_sets (scope_in (top_scope (request_view request) ask i) levels) (blocks_in cut) (facet_view job.node.now) (open_in (blocks_in cut) [] levels)) job.domain.items (kind_view (kind_of job.node.now)) (stats_of (inner_view job.node.now)) job.tally st.is_job.counted
 
 -- the answer goes on
 abbrev pub GoesFromFacet : Request → Ask → Sets → List PartialBucket → List Level → FacetJob → Gone → Type 0
 GoesFromFacet request ask roots buckets levels job g =
-    (s : Schema) (cut : List Segmented) → StandsAtFacet s cut request levels job → length cut ≤ length job.domain.items → AreFirst (map (base_set (request_view request) []) (blocks_in cut)) roots
+    (s : Schema) (cut : List Segmented) → StandsAtFacet s cut request ask (length buckets) levels job → length cut ≤ length job.domain.items → AreFirst (map (base_set (request_view request) []) (blocks_in cut)) roots
     → AreFront (request_view request) (blocks_in cut) ask buckets → IsUnderWay request ask buckets levels job cut
-    → (k : ℕ) × GoesOn s cut request ask (openings (linked (map bucket_view buckets)) ++ ended_before request levels job cut) k g
+    → (k : ℕ) × GoesOn s cut request ask (openings (linked (map bucket_view buckets)) ++ ended_before request ask (length buckets) levels job cut) k g
 
 pub facet_goes : (request : Request) (ask : Ask) (roots : Sets) (buckets : List PartialBucket) (old after : List Level) (job : FacetJob) (list : List PartialBucket) (next : Next) → FacetListed job list → FacetEnded old after job list next
     → (r : Result Gone WantMemory) → IfOk r (GoesAfter request ask roots buckets after next) → IfOk r (GoesFromFacet request ask roots buckets old job)
 facet_goes request ask roots buckets old after job list next l told (Ok g) goes = λ s cut st past based front under.
-    (opened_by next, goes s cut (ended_before request old job cut) st.can based front (facet_comes s cut request ask buckets old after job list next l told st under past))
+    (opened_by next, goes s cut (ended_before request ask (length buckets) old job cut) st.can based front (facet_comes s cut request ask buckets old after job list next l told st under past))
 facet_goes request ask roots buckets old after job list next l told (Err x) goes = goes
 
 -- ---- one unit more
@@ -224,9 +236,9 @@ top_further s segments request ask roots buckets levels job done none within fur
     (record { can = st.can; roots = st.based; front = front; job = (st.is_job, none) }, inl (record { ended = refl; done = unit.0; within = unit.1; opens = refl }))
 
 pub facet_further : (s : Schema) (segments : List Segmented) (request : Request) (ask : Ask) (roots : Vec (List Bool) Global) (buckets : Vec PartialBucket Global) (levels : Vec Level Global) (job : FacetJob) (done : ℕ)
-    → length job.domain.items < length segments → IsOneFurther (length segments) done (length job.domain.items) → StandsAtFacet s segments request levels.items job
+    → length job.domain.items < length segments → IsOneFurther (length segments) done (length job.domain.items) → StandsAtFacet s segments request ask (length buckets.items) levels.items job
     → AreFirst (map (base_set (request_view request) []) (blocks_in segments)) roots.items → AreFront (request_view request) (blocks_in segments) ask buckets.items → IsUnderWay request ask buckets.items levels.items job segments
-    → UnitDone s segments request ask (openings (linked (map bucket_view buckets.items)) ++ ended_before request levels.items job segments) done (gone.On (record { roots = roots; buckets = buckets; levels = levels; job = Facet job }) 0)
+    → UnitDone s segments request ask (openings (linked (map bucket_view buckets.items)) ++ ended_before request ask (length buckets.items) levels.items job segments) done (gone.On (record { roots = roots; buckets = buckets; levels = levels; job = Facet job }) 0)
 facet_further s segments request ask roots buckets levels job done within further st based front under =
     let unit = within_unit (length segments) done (length job.domain.items) further within in
     (record { can = st.can; roots = based; front = front; job = (st.is_job, under) }, inl (record { ended = refl; done = unit.0; within = unit.1; opens = refl }))
@@ -251,16 +263,16 @@ top_past request ask n roots buckets job past (Err x) goes = goes
 
 abbrev pub FollowsFacet : Request → Ask → ℕ → Sets → List PartialBucket → List Level → FacetJob → Gone → Type 0
 FollowsFacet request ask n roots buckets levels job g =
-    (s : Schema) (cut : List Segmented) (done : ℕ) → length cut ≡ n → done < units_each (length cut) → IsOneFurther (length cut) done (length job.domain.items) → StandsAtFacet s cut request levels job
+    (s : Schema) (cut : List Segmented) (done : ℕ) → length cut ≡ n → done < units_each (length cut) → IsOneFurther (length cut) done (length job.domain.items) → StandsAtFacet s cut request ask (length buckets) levels job
     → AreFirst (map (base_set (request_view request) []) (blocks_in cut)) roots → AreFront (request_view request) (blocks_in cut) ask buckets → IsUnderWay request ask buckets levels job cut
-    → UnitDone s cut request ask (openings (linked (map bucket_view buckets)) ++ ended_before request levels job cut) done g
+    → UnitDone s cut request ask (openings (linked (map bucket_view buckets)) ++ ended_before request ask (length buckets) levels job cut) done g
 
 pub facet_past : (request : Request) (ask : Ask) (n : ℕ) (roots : Sets) (buckets : List PartialBucket) (levels : List Level) (job : FacetJob) → n ≤ length job.domain.items
     → (r : Result Gone WantMemory) → IfOk r (GoesFromFacet request ask roots buckets levels job) → IfOk r (FollowsFacet request ask n roots buckets levels job)
 facet_past request ask n roots buckets levels job past (Ok g) goes = λ s cut done count more further st based front under.
     let over : length cut ≤ length job.domain.items = omega (arith, count, past) in
     let on = goes s cut st over based front under in
-    goes_past s cut request ask (openings (linked (map bucket_view buckets)) ++ ended_before request levels job cut) done on.0 g (last_unit (length cut) done (length job.domain.items) more further over) on.1
+    goes_past s cut request ask (openings (linked (map bucket_view buckets)) ++ ended_before request ask (length buckets) levels job cut) done on.0 g (last_unit (length cut) done (length job.domain.items) more further over) on.1
 facet_past request ask n roots buckets levels job past (Err x) goes = goes
 
 -- ---- a unit
@@ -285,35 +297,35 @@ top_unit_done segments request ask i n roots reached buckets before after number
 top_unit_done segments request ask i n roots reached buckets before after number count within steps (Err x) follows = follows
 
 -- a segment more changes neither the facet nor the bucket that it is in
-same_row : (r : definition.Request) (V : World) (levels : List Level) (before after : FacetJob) → after.node.now ≡ before.node.now → row_under_way r V levels after ≡ row_under_way r V levels before
-same_row r V levels before after same = ap (λ (n : Node). row_in r V (nested_view n) (open_in V [] levels)) same
+same_row : (o : Scope) (V : World) (levels : List Level) (before after : FacetJob) → after.node.now ≡ before.node.now → row_under_way o V levels after ≡ row_under_way o V levels before
+same_row o V levels before after same = ap (λ (n : Node). row_in (scope_in o levels) V (nested_view n) (open_in V [] levels)) same
 
 -- the levels as they are read
-pub stands_in : (segments : List Segmented) (request : Request) (levels read : List Level) (job : FacetJob) → read ≡ levels → (s : Schema) × StandsAtFacet s segments request levels job → (s : Schema) × StandsAtFacet s segments request read job
-stands_in segments request levels read job same st = (st.0, subst (λ ls. StandsAtFacet st.0 segments request ls job) (sym same) st.1)
+pub stands_in : (segments : List Segmented) (request : Request) (ask : Ask) (i : ℕ) (levels read : List Level) (job : FacetJob) → read ≡ levels → (s : Schema) × StandsAtFacet s segments request ask i levels job → (s : Schema) × StandsAtFacet s segments request ask i read job
+stands_in segments request ask i levels read job same st = (st.0, subst (λ ls. StandsAtFacet st.0 segments request ask i ls job) (sym same) st.1)
 
-pub facet_steps : (segments : List Segmented) (request : Request) (levels read : List Level) (before after : FacetJob) → read ≡ levels
-    → ((s : Schema) → StandsAtFacet s segments request read before → IsFacetStep s segments request read before after)
-    → (s : Schema) → StandsAtFacet s segments request levels before → IsFacetStep s segments request levels before after
-facet_steps segments request levels read before after same steps s st = subst (λ ls. IsFacetStep s segments request ls before after) same (steps s (subst (λ ls. StandsAtFacet s segments request ls before) (sym same) st))
+pub facet_steps : (segments : List Segmented) (request : Request) (ask : Ask) (i : ℕ) (levels read : List Level) (before after : FacetJob) → read ≡ levels
+    → ((s : Schema) → StandsAtFacet s segments request ask i read before → IsFacetStep s segments request ask i read before after)
+    → (s : Schema) → StandsAtFacet s segments request ask i levels before → IsFacetStep s segments request ask i levels before after
+facet_steps segments request ask i levels read before after same steps s st = subst (λ ls. IsFacetStep s segments request ask i ls before after) same (steps s (subst (λ ls. StandsAtFacet s segments request ask i ls before) (sym same) st))
 
-pub stepped_facet : (segments : List Segmented) (request : Request) (levels read : List Level) (before after : FacetJob) → read ≡ levels → (s : Schema) × StandsAtFacet s segments request levels before
-    → ((s : Schema) → StandsAtFacet s segments request read before → IsFacetStep s segments request read before after)
-    → (s : Schema) × (cut : List Segmented) × StandsAtFacet s cut request levels after
-stepped_facet segments request levels read before after same st steps = (st.0, segments, record { can = st.1.can; is_job = (facet_steps segments request levels read before after same steps st.0 st.1).job })
+pub stepped_facet : (segments : List Segmented) (request : Request) (ask : Ask) (i : ℕ) (levels read : List Level) (before after : FacetJob) → read ≡ levels → (s : Schema) × StandsAtFacet s segments request ask i levels before
+    → ((s : Schema) → StandsAtFacet s segments request ask i read before → IsFacetStep s segments request ask i read before after)
+    → (s : Schema) × (cut : List Segmented) × StandsAtFacet s cut request ask i levels after
+stepped_facet segments request ask i levels read before after same st steps = (st.0, segments, record { can = st.1.can; is_job = (facet_steps segments request ask i levels read before after same steps st.0 st.1).job })
 
 pub facet_unit_done : (segments : List Segmented) (request : Request) (ask : Ask) (n : ℕ) (roots : Sets) (buckets : List PartialBucket) (levels : List Level) (before after : FacetJob) → length segments ≡ n → length before.domain.items < units_each n
-    → ((s : Schema) → StandsAtFacet s segments request levels before → IsFacetStep s segments request levels before after)
+    → ((s : Schema) → StandsAtFacet s segments request ask (length buckets) levels before → IsFacetStep s segments request ask (length buckets) levels before after)
     → (r : Result Gone WantMemory) → IfOk r (FollowsFacet request ask n roots buckets levels after)
-    → IfOk r (λ g. (s : Schema) → StandsAtFacet s segments request levels before → AreFirst (map (base_set (request_view request) []) (blocks_in segments)) roots → AreFront (request_view request) (blocks_in segments) ask buckets
+    → IfOk r (λ g. (s : Schema) → StandsAtFacet s segments request ask (length buckets) levels before → AreFirst (map (base_set (request_view request) []) (blocks_in segments)) roots → AreFront (request_view request) (blocks_in segments) ask buckets
     → IsUnderWay request ask buckets levels before segments
-    → UnitDone s segments request ask (openings (linked (map bucket_view buckets)) ++ ended_before request levels before segments) (length before.domain.items) g)
+    → UnitDone s segments request ask (openings (linked (map bucket_view buckets)) ++ ended_before request ask (length buckets) levels before segments) (length before.domain.items) g)
 facet_unit_done segments request ask n roots buckets levels before after count within steps (Ok g) follows = λ s st based front under.
-    let r = request_view request in
+    let o = top_scope (request_view request) ask (length buckets) in
     let V = blocks_in segments in
     let step = steps s st in
-    let row = same_row r V levels before after step.same in
-    subst (λ ps. UnitDone s segments request ask (openings (linked (map bucket_view buckets)) ++ zeroed (ended_in r V levels ps)) (length before.domain.items) g) row
+    let row = same_row o V levels before after step.same in
+    subst (λ ps. UnitDone s segments request ask (openings (linked (map bucket_view buckets)) ++ zeroed (ended_in o V levels ps)) (length before.domain.items) g) row
     (follows s segments (length before.domain.items) count (subst (λ m. length before.domain.items < units_each m) (sym count) within) step.further (record { can = st.can; is_job = step.job }) based front (subst (IsUnder request V ask (length buckets) levels) (sym row) under))
 facet_unit_done segments request ask n roots buckets levels before after count within steps (Err x) follows = follows
 
@@ -336,7 +348,12 @@ module _ (s : Schema) (segments : List Segmented) (request : Request) (ask : Ask
   pub top_number : (job : TopJob) → b.job ≡ Top job → length b.buckets.items < asked_count ask
   top_number job is = is_within (request_view request) (blocks_in segments) ask (length b.buckets.items) (nested_view job.node.now) (key_view job.key) (stands_top job is).is_job.top
 
-  pub stands_facet : (job : FacetJob) → b.job ≡ Facet job → StandsAtFacet s segments request b.levels.items job
+  pub facet_number : (job : FacetJob) → b.job ≡ Facet job → length b.buckets.items < asked_count ask
+  facet_number job is =
+      let under = (subst (IsJob s request (blocks_in segments) ask (length b.buckets.items) b.roots.items b.levels.items) is built.job).1 in
+      is_within (request_view request) (blocks_in segments) ask (length b.buckets.items) under.facet under.key under.top
+
+  pub stands_facet : (job : FacetJob) → b.job ≡ Facet job → StandsAtFacet s segments request ask (length b.buckets.items) b.levels.items job
   stands_facet job is = record { can = built.can; is_job = (subst (IsJob s request (blocks_in segments) ask (length b.buckets.items) b.roots.items b.levels.items) is built.job).0 }
 
   pub under_facet : (job : FacetJob) → b.job ≡ Facet job → IsUnderWay request ask b.buckets.items b.levels.items job segments
@@ -345,17 +362,17 @@ module _ (s : Schema) (segments : List Segmented) (request : Request) (ask : Ask
 pub built_top : (segments : List Segmented) (request : Request) (ask : Ask) (b : Building) (job : TopJob) → b.job ≡ Top job → (r : Result Gone WantMemory)
     → IfOk r (λ g. (s : Schema) → StandsAtTop s segments request ask (length b.buckets.items) b.roots.items job → AreFront (request_view request) (blocks_in segments) ask b.buckets.items
     → UnitDone s segments request ask (openings (linked (map bucket_view b.buckets.items))) job.at g)
-    → IfOk r (λ g. (s : Schema) → IsBuilt s segments request ask b → UnitDone s segments request ask (ended_by (request_view request) (blocks_in segments) b) (done_in b.job) g)
+    → IfOk r (λ g. (s : Schema) → IsBuilt s segments request ask b → UnitDone s segments request ask (ended_by (request_view request) (blocks_in segments) ask b) (done_in b.job) g)
 built_top segments request ask b job is (Ok g) done = λ s built.
-    subst (λ j. UnitDone s segments request ask (ended (request_view request) (blocks_in segments) b.buckets.items b.levels.items j) (done_in j) g) (sym is) (done s (stands_top s segments request ask b built job is) built.front)
+    subst (λ j. UnitDone s segments request ask (ended (top_scope (request_view request) ask (length b.buckets.items)) (blocks_in segments) b.buckets.items b.levels.items j) (done_in j) g) (sym is) (done s (stands_top s segments request ask b built job is) built.front)
 built_top segments request ask b job is (Err x) done = done
 
 pub built_facet : (segments : List Segmented) (request : Request) (ask : Ask) (b : Building) (job : FacetJob) → b.job ≡ Facet job → (r : Result Gone WantMemory)
-    → IfOk r (λ g. (s : Schema) → StandsAtFacet s segments request b.levels.items job → AreFirst (map (base_set (request_view request) []) (blocks_in segments)) b.roots.items
+    → IfOk r (λ g. (s : Schema) → StandsAtFacet s segments request ask (length b.buckets.items) b.levels.items job → AreFirst (map (base_set (request_view request) []) (blocks_in segments)) b.roots.items
     → AreFront (request_view request) (blocks_in segments) ask b.buckets.items → IsUnderWay request ask b.buckets.items b.levels.items job segments
-    → UnitDone s segments request ask (openings (linked (map bucket_view b.buckets.items)) ++ ended_before request b.levels.items job segments) (length job.domain.items) g)
-    → IfOk r (λ g. (s : Schema) → IsBuilt s segments request ask b → UnitDone s segments request ask (ended_by (request_view request) (blocks_in segments) b) (done_in b.job) g)
+    → UnitDone s segments request ask (openings (linked (map bucket_view b.buckets.items)) ++ ended_before request ask (length b.buckets.items) b.levels.items job segments) (length job.domain.items) g)
+    → IfOk r (λ g. (s : Schema) → IsBuilt s segments request ask b → UnitDone s segments request ask (ended_by (request_view request) (blocks_in segments) ask b) (done_in b.job) g)
 built_facet segments request ask b job is (Ok g) done = λ s built.
-    subst (λ j. UnitDone s segments request ask (ended (request_view request) (blocks_in segments) b.buckets.items b.levels.items j) (done_in j) g) (sym is)
+    subst (λ j. UnitDone s segments request ask (ended (top_scope (request_view request) ask (length b.buckets.items)) (blocks_in segments) b.buckets.items b.levels.items j) (done_in j) g) (sym is)
     (done s (stands_facet s segments request ask b built job is) built.roots built.front (under_facet s segments request ask b built job is))
 built_facet segments request ask b job is (Err x) done = done

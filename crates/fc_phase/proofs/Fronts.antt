@@ -11,7 +11,7 @@ use Rattle.fc_partial.specs.declared.bucket.PartialBucket.{PartialBucket}
 use Rattle.fc_answers.specs.SetAnswer.{set_answer}
 use Rattle.fc_levels.specs.Jobs.{openings}
 use Rattle.fc_levels.specs.Levels.{put}
-use Rattle.fc_phase.specs.Asked.{IsTop, answer_from, asked_count, followed, top_bucket, top_domain}
+use Rattle.fc_phase.specs.Asked.{IsTop, answer_from, asked_count, followed, top_bucket, top_domain, top_scope}
 use Rattle.fc_phase.specs.Going.{AreFront}
 use Rattle.fc_phase.proofs.Opening.{openings-put}
 use Rattle.fc_phase.proofs.FirstCounts.{past_last}
@@ -42,7 +42,7 @@ one_bucket_there bs k s rows e = sym (length-map bs bucket_view) ∙ one_part (m
 
 -- the next top bucket is whole
 pub next_front : (r : definition.Request) (V : World) (ask : Ask) (n : _) (k : Key) (buckets more : List PartialBucket) → AreFront r V ask buckets → IsTop r V ask (length buckets) n k
-    → linked (map bucket_view more) ≡ top_bucket r V n k (top_domain r V ask (length buckets) n.0) → AreFront r V ask (buckets ++ more) × (length (buckets ++ more) ≡ length buckets + 1)
+    → linked (map bucket_view more) ≡ top_bucket (top_scope r ask (length buckets)) V n k (top_domain r V ask (length buckets) n.0) → AreFront r V ask (buckets ++ more) × (length (buckets ++ more) ≡ length buckets + 1)
 next_front r V ask n k buckets more front top whole = (fronts, count)
   where
     one : length more ≡ 1

@@ -11,6 +11,7 @@ use Rattle.fc_spec.specs.messages.Message.{Ask, first, more, Partials, no_partia
 use Rattle.fc_spec.specs.messages.Target.{facet_at, nodes_in}
 use Rattle.fc_spec.specs.requests.Buckets.{Key}
 use Rattle.fc_spec.specs.requests.DomainSets.{base_set}
+use Rattle.fc_spec.specs.requests.Paths.{at_root}
 use Rattle.fc_spec.specs.requests.Request as definition
 use Rattle.fc_spec.specs.requests.Request.{Facet as DefFacet, Nodes, stats_of}
 use Rattle.fc_spec.specs.requests.Statistics.{stats_over}
@@ -23,20 +24,20 @@ use Rattle.fc_request.specs.NodeView.{inner_view}
 use Rattle.fc_request.specs.RequestView.{request_view}
 use Rattle.fc_request.specs.declared.request.Request.{Request}
 use Rattle.fc_segment.specs.Segmented.{Segmented}
-use Rattle.fc_answers.specs.SetAnswer.{Sets, bucket_sets, domain_sets, set_rows}
+use Rattle.fc_answers.specs.SetAnswer.{Scope, Sets, bucket_sets, domain_sets, inside, scope_on, set_rows}
 use Rattle.fc_levels.specs.Facets.{Nested, nested_view}
 use Rattle.fc_levels.specs.Jobs.{openings, openings_of, units_each}
-use Rattle.fc_levels.specs.Levels.{ended_in, open_in, open_sets, outermost_domain, plug, row_in, row_over}
+use Rattle.fc_levels.specs.Levels.{ended_in, open_in, open_sets, outermost_domain, plug, row_in, row_over, scope_in}
 use Rattle.fc_levels.specs.Steps.{Goes, IsLevel, IsNextOf}
 use Rattle.fc_levels.specs.declared.level.Level.{Level}
 use Rattle.fc_levels.specs.declared.level.Next.{Next}
 use Rattle.fc_levels.specs.declared.level.Next.TheVariants.{Job, Whole}
 use Rattle.fc_jobs.specs.Gathered.{AreFirst, IsCountedSoFar}
-use Rattle.fc_jobs.specs.Walked.{domain_set, set_in, walked}
+use Rattle.fc_jobs.specs.Walked.{domain_set, scope_into, set_in, walked}
 use Rattle.fc_jobs.proofs.KeptLengths.{bucket_length, domain_length}
 use Rattle.fc_jobs.proofs.TopBuckets.{bucket_all}
 use Rattle.fc_jobs.proofs.WalkedSets.{domains_are_sets}
-use Rattle.fc_phase.specs.Asked.{path_at, top_bucket, top_domain, top_set}
+use Rattle.fc_phase.specs.Asked.{path_at, top_bucket, top_domain, top_scope, top_set}
 use Rattle.fc_phase.specs.Built.{IsFacetJob, IsUnder, blocks_in, row_under_way, zeroed}
 use Rattle.fc_phase.specs.Going.{Ends, known_already}
 use Rattle.fc_phase.specs.Stepping.{IsOneFurther, StandsAtTop}
@@ -50,18 +51,21 @@ use Rattle.fc_phase.proofs.Opening.{zeroed-append}
 pub all_there : (D domain : Sets) → AreFirst D domain → length D ≤ length domain → domain ≡ D
 all_there D domain front h = sym (append-nil domain) ∙ ap (λ l. domain ++ l) (sym (drop_all (length domain) D h)) ∙ front
 
-module _ (r : definition.Request) (blocks : List Block) where
-  set_in_length : (key : Key) (set : List Bool) (f : Option (DefFacet × Nodes)) → length set ≡ document_total blocks → length (set_in r blocks key set f) ≡ document_total blocks
-  set_in_length key set None h = length-replicate (document_total blocks) false
-  set_in_length key set (Some f) h = bucket_length f.0.kind key blocks (domain_set r blocks f.0 set) (domain_length r blocks f.0 set h)
+module _ (blocks : List Block) where
+  set_in_length : (o : Scope) (key : Key) (set : List Bool) (f : Option (DefFacet × Nodes)) → length set ≡ document_total blocks → length (set_in o blocks key set f) ≡ document_total blocks
+  set_in_length o key set None h = length-replicate (document_total blocks) false
+  set_in_length o key set (Some f) h = bucket_length f.0.kind key blocks (domain_set o blocks f.0 set) (domain_length o blocks f.0 set h)
 
-  walked_length : (nodes : Nodes) (set : List Bool) (way : Way) → length set ≡ document_total blocks → length (walked r blocks nodes set way) ≡ document_total blocks
-  walked_length nodes set [] h = h
-  walked_length nodes set (step ∷ way) h = walked_length (nodes_in (facet_at step.node nodes)) (set_in r blocks step.key set (facet_at step.node nodes)) way (set_in_length step.key set (facet_at step.node nodes) h)
+  walked_length : (o : Scope) (nodes : Nodes) (set : List Bool) (way : Way) → length set ≡ document_total blocks → length (walked o blocks nodes set way) ≡ document_total blocks
+  walked_length o nodes set [] h = h
+  walked_length o nodes set (step ∷ way) h =
+      walked_length (scope_into o step.key (facet_at step.node nodes)) (nodes_in (facet_at step.node nodes)) (set_in o blocks step.key set (facet_at step.node nodes)) way (set_in_length o step.key set (facet_at step.node nodes) h)
 
-  pub top_length : (ask : Ask) (i : ℕ) (f : DefFacet) → length (top_set r ask i f blocks) ≡ document_total blocks
-  top_length first i f = keep_lengths.base r [] blocks
-  top_length (more wants) i f = domain_length r blocks f (walked r blocks r.nodes (base_set r [] blocks) (path_at wants i)) (walked_length r.nodes (base_set r [] blocks) (path_at wants i) (keep_lengths.base r [] blocks))
+pub top_length : (r : definition.Request) (blocks : List Block) (ask : Ask) (i : ℕ) (f : DefFacet) → length (top_set r ask i f blocks) ≡ document_total blocks
+top_length r blocks first i f = keep_lengths.base r [] blocks
+top_length r blocks (more wants) i f =
+    domain_length (top_scope r (more wants) i) blocks f (walked (scope_on r at_root) blocks r.nodes (base_set r [] blocks) (path_at wants i))
+    (walked_length blocks (scope_on r at_root) r.nodes (base_set r [] blocks) (path_at wants i) (keep_lengths.base r [] blocks))
 
 pub top_are_sets : (r : definition.Request) (V : World) (ask : Ask) (i : ℕ) (f : DefFacet) → AreSets V (top_domain r V ask i f)
 top_are_sets r [] ask i f = refl
@@ -72,21 +76,21 @@ sets_count V sets are = sym (length-map sets length) ∙ ap length are ∙ lengt
 
 -- ---- levels
 
-some_levels : (r : definition.Request) (V : World) (levels : List Level) (ps : Partials) (xs : List ℕ) (k : ℕ) → ended_in r V levels ps ≡ xs ++ k ∷ [] → 0 < length levels
-some_levels r V [] ps xs k e = absurd (omega (arith, ap length e, length-append xs (k ∷ [])))
-some_levels r V (l ∷ levels) ps xs k e = omega arith
+some_levels : (o : Scope) (V : World) (levels : List Level) (ps : Partials) (xs : List ℕ) (k : ℕ) → ended_in o V levels ps ≡ xs ++ k ∷ [] → 0 < length levels
+some_levels o V [] ps xs k e = absurd (omega (arith, ap length e, length-append xs (k ∷ [])))
+some_levels o V (l ∷ levels) ps xs k e = omega arith
 
 same_outermost : (D E : Sets) (levels : List Level) → 0 < length levels → outermost_domain D levels ≡ outermost_domain E levels
 same_outermost D E [] h = absurd (omega (arith, h))
 same_outermost D E (l ∷ levels) h = refl
 
-pub some_ended : (r : definition.Request) (V : World) (levels : List Level) (ps : Partials) → 0 < length levels → 0 < length (ended_in r V levels ps)
-some_ended r V [] ps h = absurd (omega (arith, h))
-some_ended r V (l ∷ levels) ps h = omega arith
+pub some_ended : (o : Scope) (V : World) (levels : List Level) (ps : Partials) → 0 < length levels → 0 < length (ended_in o V levels ps)
+some_ended o V [] ps h = absurd (omega (arith, h))
+some_ended o V (l ∷ levels) ps h = omega arith
 
 -- a top bucket by itself: its own job is the first, and opens none that was not known
-one_zeroed : (r : definition.Request) (V : World) (n : Nested) (k : Key) (D : Sets) (ps : Partials) → ps ≡ top_bucket r V n k D → openings ps ≡ zeroed (openings_of ps)
-one_zeroed r V n k D ps e = ap openings e ∙ ap (λ (qs : Partials). zeroed (openings_of qs)) (sym e)
+one_zeroed : (o : Scope) (V : World) (n : Nested) (k : Key) (D : Sets) (ps : Partials) → ps ≡ top_bucket o V n k D → openings ps ≡ zeroed (openings_of ps)
+one_zeroed o V n k D ps e = ap openings e ∙ ap (λ (qs : Partials). zeroed (openings_of qs)) (sym e)
 
 -- ---- units
 
@@ -103,6 +107,9 @@ module _ (s : Schema) (segments : List Segmented) (request : Request) (ask : Ask
 
   abbrev V : World
   V = blocks_in segments
+
+  abbrev o : Scope
+  o = top_scope r ask i
 
   abbrev n : Nested
   n = nested_view job.node.now
@@ -136,14 +143,14 @@ module _ (s : Schema) (segments : List Segmented) (request : Request) (ask : Ask
 
   -- what the levels are told of
   abbrev bucket : Partials
-  bucket = partial key (stats_view job.over) (set_rows r V n.1 (bucket_sets V n.0.kind key job.domain.items)) no_partials
+  bucket = partial key (stats_view job.over) (set_rows (inside o n.0 key) V n.1 (bucket_sets V n.0.kind key job.domain.items)) no_partials
 
-  bucket_is : bucket ≡ top_bucket r V n key D
-  bucket_is = λ j. partial key (stats j) (set_rows r V n.1 (bucket_sets V n.0.kind key (whole j))) no_partials
+  bucket_is : bucket ≡ top_bucket o V n key D
+  bucket_is = λ j. partial key (stats j) (set_rows (inside o n.0 key) V n.1 (bucket_sets V n.0.kind key (whole j))) no_partials
 
-  pub top_ends : (levels : List Level) (next : Next) → Goes r V [] levels job.domain.items bucket next → All (IsLevel s V) levels → IsNextOf s V next → Ends s segments request ask i [] levels (known_already next)
+  pub top_ends : (levels : List Level) (next : Next) → Goes o V [] levels job.domain.items bucket next → All (IsLevel s V) levels → IsNextOf s V next → Ends s segments request ask i [] levels (known_already next)
   top_ends levels (Job m k) g kept valid =
-      let some = some_levels r V levels (row_in r V (nested_view m.now) (open_in V [] levels)) [] k g.2 in (
+      let some = some_levels o V levels (row_in (scope_in o levels) V (nested_view m.now) (open_in V [] levels)) [] k g.2 in (
         valid,
         kept,
         some,
@@ -157,13 +164,16 @@ module _ (s : Schema) (segments : List Segmented) (request : Request) (ask : Ask
         },
         ap zeroed g.2,
       )
-  top_ends levels (Whole p domain) g kept valid = (n, key, st.is_job.asked, st.is_job.top, g.1 ∙ bucket_is, g.3 ∙ whole, one_zeroed r V n key D (node_view p) (g.1 ∙ bucket_is) ∙ ap zeroed g.2)
+  top_ends levels (Whole p domain) g kept valid = (n, key, st.is_job.asked, st.is_job.top, g.1 ∙ bucket_is, g.3 ∙ whole, one_zeroed o V n key D (node_view p) (g.1 ∙ bucket_is) ∙ ap zeroed g.2)
 
 -- ---- a facet's job has ended
-module _ (s : Schema) (segments : List Segmented) (request : Request) (ask : Ask) (i : ℕ) (levels : List Level) (job : FacetJob) (is : IsFacetJob s request (blocks_in segments) levels job)
-    (under : IsUnder request (blocks_in segments) ask i levels (row_under_way (request_view request) (blocks_in segments) levels job)) (past : length segments ≤ length job.domain.items) where
+module _ (s : Schema) (segments : List Segmented) (request : Request) (ask : Ask) (i : ℕ) (levels : List Level) (job : FacetJob) (is : IsFacetJob s (top_scope (request_view request) ask i) (blocks_in segments) levels job)
+    (under : IsUnder request (blocks_in segments) ask i levels (row_under_way (top_scope (request_view request) ask i) (blocks_in segments) levels job)) (past : length segments ≤ length job.domain.items) where
   abbrev q : definition.Request
   q = request_view request
+
+  abbrev u : Scope
+  u = top_scope q ask i
 
   abbrev W : World
   W = blocks_in segments
@@ -172,7 +182,7 @@ module _ (s : Schema) (segments : List Segmented) (request : Request) (ask : Ask
   m = nested_view job.node.now
 
   abbrev E : Sets
-  E = domain_sets q W m.0 (open_in W [] levels)
+  E = domain_sets (scope_in u levels) W m.0 (open_in W [] levels)
 
   open_are : (ls : List Level) (D : Sets) → AreSets W D → All (IsLevel s W) ls → AreSets W (open_in W D ls)
   open_are [] D are all = are
@@ -183,7 +193,7 @@ module _ (s : Schema) (segments : List Segmented) (request : Request) (ask : Ask
   open_top_are (l ∷ ls) h all = open_are ls (open_sets W l) (are_sets_again.buckets (facet_view l.node.now).kind (key_view l.key) W l.domain.items (All-head (IsLevel s W) l ls all).sets) (All-tail (IsLevel s W) l ls all)
 
   pub facet_are_sets : AreSets W E
-  facet_are_sets = domains_are_sets q W m.0 (open_in W [] levels) (open_top_are levels is.some is.valid)
+  facet_are_sets = domains_are_sets (scope_in u levels) W m.0 (open_in W [] levels) (open_top_are levels is.some is.valid)
 
   facet_whole : job.domain.items ≡ E
   facet_whole = all_there E job.domain.items is.counted.first (omega (arith, sets_count W E facet_are_sets, length-map segments (λ g. g.blocks), past))
@@ -194,13 +204,13 @@ module _ (s : Schema) (segments : List Segmented) (request : Request) (ask : Ask
   pub facet_counted : IsCountedSoFar W job.domain.items (kind_view (kind_of job.node.now)) (stats_of (inner_view job.node.now)) job.domain.items job.tally
   facet_counted = subst (λ D. IsCountedSoFar W D (kind_view (kind_of job.node.now)) (stats_of (inner_view job.node.now)) job.domain.items job.tally) (sym facet_whole) is.counted
 
-  list_is : row_over q W m job.domain.items ≡ row_under_way q W levels job
-  list_is = ap (row_over q W m) facet_whole
+  list_is : row_over (scope_in u levels) W m job.domain.items ≡ row_under_way u W levels job
+  list_is = ap (row_over (scope_in u levels) W m) facet_whole
 
-  pub facet_ends : (after : List Level) (next : Next) → Goes q W levels after job.domain.items (row_over q W m job.domain.items) next → All (IsLevel s W) after → IsNextOf s W next
-      → Ends s segments request ask i (zeroed (ended_in q W levels (row_under_way q W levels job))) after next
+  pub facet_ends : (after : List Level) (next : Next) → Goes u W levels after job.domain.items (row_over (scope_in u levels) W m job.domain.items) next → All (IsLevel s W) after → IsNextOf s W next
+      → Ends s segments request ask i (zeroed (ended_in u W levels (row_under_way u W levels job))) after next
   facet_ends after (Job x k) g kept valid =
-      let some = some_levels q W after (row_in q W (nested_view x.now) (open_in W [] after)) (ended_in q W levels (row_over q W m job.domain.items)) k g.2 in (
+      let some = some_levels u W after (row_in (scope_in u after) W (nested_view x.now) (open_in W [] after)) (ended_in u W levels (row_over (scope_in u levels) W m job.domain.items)) k g.2 in (
         valid,
         kept,
         some,
@@ -209,19 +219,19 @@ module _ (s : Schema) (segments : List Segmented) (request : Request) (ask : Ask
           key = under.key;
           asked = under.asked;
           top = under.top;
-          bucket = g.1 ∙ ap (plug q W levels) list_is ∙ under.bucket;
+          bucket = g.1 ∙ ap (plug u W levels) list_is ∙ under.bucket;
           domain = same_outermost [] job.domain.items after some ∙ g.3 ∙ same_outermost job.domain.items [] levels is.some ∙ under.domain;
         },
-        ap zeroed (g.2 ∙ ap (λ ps. ended_in q W levels ps ++ k ∷ []) list_is) ∙ zeroed-append (ended_in q W levels (row_under_way q W levels job)) (k ∷ []) (some_ended q W levels (row_under_way q W levels job) is.some),
+        ap zeroed (g.2 ∙ ap (λ ps. ended_in u W levels ps ++ k ∷ []) list_is) ∙ zeroed-append (ended_in u W levels (row_under_way u W levels job)) (k ∷ []) (some_ended u W levels (row_under_way u W levels job) is.some),
       )
-  facet_ends after (Whole p domain) g kept valid =
-      let bucket = g.1 ∙ ap (plug q W levels) list_is ∙ under.bucket in (
+  facet_ends after (Whole list domain) g kept valid =
+      let bucket = g.1 ∙ ap (plug u W levels) list_is ∙ under.bucket in (
         under.facet,
         under.key,
         under.asked,
         under.top,
         bucket,
         g.3 ∙ same_outermost job.domain.items [] levels is.some ∙ under.domain,
-        one_zeroed q W under.facet under.key (top_domain q W ask i under.facet.0) (node_view p) bucket
-            ∙ ap zeroed (g.2 ∙ ap (λ ps. ended_in q W levels ps ++ 0 ∷ []) list_is) ∙ zeroed-append (ended_in q W levels (row_under_way q W levels job)) (0 ∷ []) (some_ended q W levels (row_under_way q W levels job) is.some),
+        one_zeroed u W under.facet under.key (top_domain q W ask i under.facet.0) (node_view list) bucket
+            ∙ ap zeroed (g.2 ∙ ap (λ ps. ended_in u W levels ps ++ 0 ∷ []) list_is) ∙ zeroed-append (ended_in u W levels (row_under_way u W levels job)) (0 ∷ []) (some_ended u W levels (row_under_way u W levels job) is.some),
       )

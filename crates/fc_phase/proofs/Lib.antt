@@ -2,6 +2,7 @@ pub mod Turning
 pub mod Opening
 pub mod AskedTops
 pub mod FirstCounts
+pub mod Around
 pub mod AskedNodes
 pub mod Fronts
 pub mod Begun

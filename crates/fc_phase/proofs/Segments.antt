@@ -26,7 +26,7 @@ use Rattle.fc_request.specs.RequestView.{request_view}
 use Rattle.fc_request.specs.declared.node.Node.{Node}
 use Rattle.fc_request.specs.declared.request.Request.{Request}
 use Rattle.fc_segment.specs.Segmented.{Segmented}
-use Rattle.fc_answers.specs.SetAnswer.{Sets, bucket_sets, domain_sets}
+use Rattle.fc_answers.specs.SetAnswer.{Scope, Sets, bucket_sets, domain_sets}
 use Rattle.fc_levels.specs.Levels.{open_in, open_sets}
 use Rattle.fc_levels.specs.Steps.{IsLevel, IsValidNode}
 use Rattle.fc_levels.specs.declared.level.Level.{Level}
@@ -62,6 +62,10 @@ standing : {X : Type 0} (n : ℕ) (x d : X) (xs rest : List X) → drop n xs ≡
 standing zero x d xs rest e = ap (λ l. get_or l 0 d) e
 standing (suc n) x d [] rest e = absurd (cc)
 standing (suc n) x d (y ∷ xs) rest e = standing n x d xs rest e
+
+-- the blocks of a segment are those at its number
+pub blocks_at : (gs : List Segmented) (at : ℕ) (g : Segmented) (rest : List Segmented) → drop at gs ≡ g ∷ rest → get_or (blocks_in gs) at [] ≡ g.blocks
+blocks_at gs at g rest here = standing at g.blocks [] (blocks_in gs) (blocks_in rest) (map_stands (λ (x : Segmented). x.blocks) at g gs rest here)
 
 pub within_list : {X : Type 0} (n : ℕ) (x : X) (xs rest : List X) → drop n xs ≡ x ∷ rest → n < length xs
 within_list zero x [] rest e = absurd (cc)
@@ -149,10 +153,10 @@ module _ (s : Schema) (gs : List Segmented) (request : Request) (at : ℕ) (g : 
         bucket_add_up V (blocks_in rest) (top_domain r V ask number f) (top_domain r (blocks_in rest) ask number f) kind ss key at g.blocks (top_set r ask number f g.blocks) blocks_here top_stands stats
         (top_are_sets r V ask number f) (sets_fit V (bucket_sets V kind key (top_domain r V ask number f)) can.limits) so_far
 
-  -- a facet's domain in the bucket that is open
-  module _ (f : Facet) (levels before : List Level) (l : Level) (is : levels ≡ before ++ l ∷ []) (valid : IsLevel s V l) (set : List Bool) (more : Sets) (next : drop at l.domain.items ≡ set ∷ more) where
+  -- a facet's domain in the bucket that is open, in a scope
+  module _ (o : Scope) (f : Facet) (levels before : List Level) (l : Level) (is : levels ≡ before ++ l ∷ []) (valid : IsLevel s V l) (set : List Bool) (more : Sets) (next : drop at l.domain.items ≡ set ∷ more) where
     abbrev E : Sets
-    E = domain_sets r V f (open_in V [] levels)
+    E = domain_sets o V f (open_in V [] levels)
 
     open_is : open_in V [] levels ≡ open_sets V l
     open_is = ap (open_in V []) is ∙ open_top V [] before l
@@ -164,18 +168,18 @@ module _ (s : Schema) (gs : List Segmented) (request : Request) (at : ℕ) (g : 
     own = bucket_set (facet_view l.node.now).kind (key_view l.key) g.blocks set
 
     abbrev behind : Sets
-    behind = each_set (λ blocks x. domain_set r blocks f x) (blocks_in rest) (bucket_sets (blocks_in rest) (facet_view l.node.now).kind (key_view l.key) more)
+    behind = each_set (λ blocks x. domain_set o blocks f x) (blocks_in rest) (bucket_sets (blocks_in rest) (facet_view l.node.now).kind (key_view l.key) more)
 
-    pub facet_stands : drop at E ≡ domain_set r g.blocks f own ∷ behind
+    pub facet_stands : drop at E ≡ domain_set o g.blocks f own ∷ behind
     facet_stands =
-        ap (λ D. drop at (domain_sets r V f D)) open_is ∙ ap (drop at) (domains_by_segment r V f (open_sets V l) open_are_sets)
-        ∙ drop-each_set (λ blocks x. domain_set r blocks f x) at V (blocks_in rest) (open_sets V l) (bucket_sets (blocks_in rest) (facet_view l.node.now).kind (key_view l.key) more) g.blocks own blocks_here
+        ap (λ D. drop at (domain_sets o V f D)) open_is ∙ ap (drop at) (domains_by_segment o V f (open_sets V l) open_are_sets)
+        ∙ drop-each_set (λ blocks x. domain_set o blocks f x) at V (blocks_in rest) (open_sets V l) (bucket_sets (blocks_in rest) (facet_view l.node.now).kind (key_view l.key) more) g.blocks own blocks_here
         (drop-each_set (bucket_set (facet_view l.node.now).kind (key_view l.key)) at V (blocks_in rest) l.domain.items more g.blocks set blocks_here next)
 
     facet_are_sets : AreSets V E
-    facet_are_sets = domains_are_sets r V f (open_in V [] levels) (subst (AreSets V) (sym open_is) open_are_sets)
+    facet_are_sets = domains_are_sets o V f (open_in V [] levels) (subst (AreSets V) (sym open_is) open_are_sets)
 
-    pub facet_adds_up : (kind : Kind) (ss : List Stat) (domain : Sets) (t : Tallied) → length domain ≡ at → IsCountedSoFar V E kind ss domain t → BucketsAddUp kind ss (places_on 0 g.blocks (domain_set r g.blocks f own)) t.entries
+    pub facet_adds_up : (kind : Kind) (ss : List Stat) (domain : Sets) (t : Tallied) → length domain ≡ at → IsCountedSoFar V E kind ss domain t → BucketsAddUp kind ss (places_on 0 g.blocks (domain_set o g.blocks f own)) t.entries
     facet_adds_up kind ss domain t same so_far =
-        counted_add_up V (blocks_in rest) E domain behind kind ss g.blocks (domain_set r g.blocks f own) t (ap (λ n. drop n V) same ∙ blocks_here) (ap (λ n. drop n E) same ∙ facet_stands) facet_are_sets
+        counted_add_up V (blocks_in rest) E domain behind kind ss g.blocks (domain_set o g.blocks f own) t (ap (λ n. drop n V) same ∙ blocks_here) (ap (λ n. drop n E) same ∙ facet_stands) facet_are_sets
         (sets_fit V E can.limits) so_far

@@ -11,14 +11,16 @@ use Rattle.fc_spec.specs.messages.Target.{facet_at, nodes_in}
 use Rattle.fc_spec.specs.requests.DomainSets.{base_set}
 use Rattle.fc_spec.specs.requests.Request.{Facet, Nodes, Request}
 use Rattle.fc_spec.proofs.requests.SetChanges.{keep_lengths}
+use Rattle.fc_spec.specs.requests.Paths.{at_root}
+use Rattle.fc_answers.specs.SetAnswer.{scope_on}
 use Rattle.fc_refine.specs.AskView.{ask_view, way_view}
 use Rattle.fc_refine.specs.declared.ask.Ask.{Ask}
 use Rattle.fc_refine.specs.declared.ask.Ask.TheVariants.{First, More}
 use Rattle.fc_refine.specs.declared.ask.Step.{Step}
 use Rattle.fc_refine.specs.declared.ask.Want.{Want}
-use Rattle.fc_jobs.specs.Walked.{domain_set, walked}
+use Rattle.fc_jobs.specs.Walked.{domain_set, scope_along, walked}
 use Rattle.fc_refine.specs.Named.{NamesKeys}
-use Rattle.fc_phase.specs.Asked.{asked_count, top_set}
+use Rattle.fc_phase.specs.Asked.{asked_count, top_scope, top_set}
 use Rattle.fc_phase.proofs.AskedNodes.{named_at, path_is, split_named, within_more}
 
 -- the first steps of a way that names keys do
@@ -42,8 +44,15 @@ module _ (r : Request) (ask : Ask) (wants : Vec Want Global) (number : ℕ) (is 
       subst (λ ss. IsTrue (names_keys r.nodes (way_view ss))) (sym same)
       (named_front r.nodes (way_view w.path.items) _ (named_at r.nodes wants.items number w (subst (λ a. NamesKeys r.nodes (ask_view a)) is names) (within_more ask wants number is h) there))
 
-  pub want_set : (f : Facet) (blocks : List Block) (base docs : List Bool) → base ≡ base_set r [] blocks → docs ≡ domain_set r blocks f (walked r blocks r.nodes base (way_view path)) → docs ≡ top_set r (ask_view ask) number f blocks
+  -- its scope is that of the way
+  pub want_scope : scope_along (scope_on r at_root) r.nodes (way_view path) ≡ top_scope r (ask_view ask) number
+  want_scope =
+      ap (λ ss. scope_along (scope_on r at_root) r.nodes (way_view ss)) same
+      ∙ ap (scope_along (scope_on r at_root) r.nodes) (sym (path_is wants.items number w (within_more ask wants number is h) there))
+      ∙ sym (ap (λ a. top_scope r (ask_view a) number) is)
+
+  pub want_set : (f : Facet) (blocks : List Block) (base docs : List Bool) → base ≡ base_set r [] blocks → docs ≡ domain_set (scope_along (scope_on r at_root) r.nodes (way_view path)) blocks f (walked (scope_on r at_root) blocks r.nodes base (way_view path)) → docs ≡ top_set r (ask_view ask) number f blocks
   want_set f blocks base docs base_is docs_are =
-      docs_are ∙ (λ i. domain_set r blocks f (walked r blocks r.nodes (base_is i) (way_view (same i))))
-      ∙ ap (λ way. domain_set r blocks f (walked r blocks r.nodes (base_set r [] blocks) way)) (sym (path_is wants.items number w (within_more ask wants number is h) there))
+      docs_are ∙ (λ i. domain_set (scope_along (scope_on r at_root) r.nodes (way_view (same i))) blocks f (walked (scope_on r at_root) blocks r.nodes (base_is i) (way_view (same i))))
+      ∙ ap (λ way. domain_set (scope_along (scope_on r at_root) r.nodes way) blocks f (walked (scope_on r at_root) blocks r.nodes (base_set r [] blocks) way)) (sym (path_is wants.items number w (within_more ask wants number is h) there))
       ∙ sym (ap (λ a. top_set r (ask_view a) number f blocks) is)

@@ -7,12 +7,13 @@ use Rattle.fc_spec.specs.messages.Message.{Ask, first, more, Partials, no_partia
 use Rattle.fc_spec.specs.messages.Target.{facet_at}
 use Rattle.fc_spec.specs.requests.Buckets.{Key, whole}
 use Rattle.fc_spec.specs.requests.DomainSets.{base_set}
-use Rattle.fc_spec.specs.requests.Request.{Facet, Nodes, Request, stats_of}
+use Rattle.fc_spec.specs.requests.Paths.{at_root}
+use Rattle.fc_spec.specs.requests.Request.{Facet, Request, stats_of}
 use Rattle.fc_spec.specs.requests.Statistics.{stats_over}
-use Rattle.fc_answers.specs.SetAnswer.{Sets, bucket_sets, set_answer, set_rows, set_wants}
+use Rattle.fc_answers.specs.SetAnswer.{Scope, Sets, bucket_sets, inside, scope_on, set_answer, set_rows, set_wants}
 use Rattle.fc_levels.specs.Facets.{Nested}
 use Rattle.fc_jobs.specs.Gathered.{AreFirst}
-use Rattle.fc_jobs.specs.Walked.{domain_set, nodes_from, walked}
+use Rattle.fc_jobs.specs.Walked.{domain_set, nodes_from, scope_along, walked}
 
 abbrev pub asked_count : Ask → ℕ
 asked_count first = 1
@@ -49,10 +50,15 @@ HasSameDomain first i = ⊥
 HasSameDomain (more wants) zero = ⊥
 HasSameDomain (more wants) (suc i) = (path_at wants i ≡ path_at wants (suc i)) × (node_at wants i ≡ node_at wants (suc i))
 
+-- the scope of the bucket around it
+abbrev pub top_scope : Request → Ask → ℕ → Scope
+top_scope r first i = scope_on r at_root
+top_scope r (more wants) i = scope_along (scope_on r at_root) r.nodes (path_at wants i)
+
 -- its domain in a segment, and in each of them
 abbrev pub top_set : Request → Ask → ℕ → Facet → List Block → List Bool
 top_set r first i f blocks = base_set r [] blocks
-top_set r (more wants) i f blocks = domain_set r blocks f (walked r blocks r.nodes (base_set r [] blocks) (path_at wants i))
+top_set r (more wants) i f blocks = domain_set (top_scope r (more wants) i) blocks f (walked (scope_on r at_root) blocks r.nodes (base_set r [] blocks) (path_at wants i))
 
 abbrev pub top_domain : Request → World → Ask → ℕ → Facet → Sets
 top_domain r V ask i f = map (top_set r ask i f) V
@@ -61,10 +67,10 @@ top_domain r V ask i f = map (top_set r ask i f) V
 abbrev pub FitsTop : (root : Nested) → Request → World → Ask → ℕ → Sets → Type 0
 FitsTop root r V ask i domain = (n : Nested) → IsAskedFacet root r ask i n → AreFirst (top_domain r V ask i n.0) domain
 
--- a bucket of a facet by itself, from the facet's domain
-abbrev pub top_bucket : Request → World → Nested → Key → Sets → Partials
-top_bucket r V n k D =
-    partial k (stats_over (stats_of n.1) (places_at V (bucket_sets V n.0.kind k D))) (set_rows r V n.1 (bucket_sets V n.0.kind k D)) no_partials
+-- a bucket of a facet by itself, from the facet's domain, in the scope around the facet
+abbrev pub top_bucket : Scope → World → Nested → Key → Sets → Partials
+top_bucket o V n k D =
+    partial k (stats_over (stats_of n.1) (places_at V (bucket_sets V n.0.kind k D))) (set_rows (inside o n.0 k) V n.1 (bucket_sets V n.0.kind k D)) no_partials
 
 -- buckets, then others
 abbrev pub followed : Partials → Partials → Partials
@@ -79,4 +85,4 @@ answer_from r V (more wants) i = set_wants r V (drop i wants)
 
 -- the top bucket with this number is that of the key of the facet
 abbrev pub IsTop : Request → World → Ask → ℕ → Nested → Key → Type 0
-IsTop r V ask i n k = answer_from r V ask i ≡ followed (top_bucket r V n k (top_domain r V ask i n.0)) (answer_from r V ask (i + 1))
+IsTop r V ask i n k = answer_from r V ask i ≡ followed (top_bucket (top_scope r ask i) V n k (top_domain r V ask i n.0)) (answer_from r V ask (i + 1))

@@ -6,6 +6,7 @@ use Rattle.fc_spec.specs.words.Lists.{joined}
 use Rattle.fc_request.specs.RequestView.{request_view}
 use Rattle.fc_refine.specs.AskView.{ask_view}
 use Rattle.fc_segment.specs.Segmented.{Segmented}
+use Rattle.fc_jobs.specs.BasesKept.{AreBases}
 use Rattle.fc_refine.specs.Named.{NamesKeys}
 use Rattle.fc_phase.specs.Built.{IsBuilt, IsCountedUp, blocks_in}
 use Rattle.fc_phase.specs.Phases.{Phase, left_of}
@@ -22,7 +23,7 @@ phase_in p = record { request = p.request.now; ask = p.ask; blocks = joined (blo
 pub record IsUnderWay (p : Inside) (b : Building) : Type 0 where
   pub schema : Schema
   pub built : IsBuilt schema (segments_in p) p.request.now (ask_view p.ask) b
-  pub counted : IsCountedUp (segments_in p) p.request.now b p.done
+  pub counted : IsCountedUp (segments_in p) p.request.now (ask_view p.ask) b p.done
   pub names : NamesKeys (request_view p.request.now).nodes (ask_view p.ask)
 
 abbrev pub IsUnderWayIn : Inside → Option Building → Type 0
@@ -32,3 +33,4 @@ IsUnderWayIn p (Some b) = IsUnderWay p b
 pub record IsSound (p : Inside) : Type 0 where
   pub under_way : IsUnderWayIn p p.building
   pub left : p.left ≡ left_of (phase_in p)
+  pub bases : AreBases (request_view p.request.now) (blocks_in (segments_in p)) p.bases

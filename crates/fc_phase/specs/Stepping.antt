@@ -9,6 +9,7 @@ use Rattle.fc_segment.specs.Segmented.{Segmented}
 use Rattle.fc_answers.specs.SetAnswer.{Sets}
 use Rattle.fc_jobs.specs.Gathered.{AreFirst}
 use Rattle.fc_levels.specs.declared.level.Level.{Level}
+use Rattle.fc_phase.specs.Asked.{top_scope}
 use Rattle.fc_phase.specs.Built.{CanAnswer, IsFacetJob, IsTopJob, blocks_in}
 use Rattle.fc_phase.specs.declared.jobs.FacetJob.{FacetJob}
 use Rattle.fc_phase.specs.declared.jobs.TopJob.{TopJob}
@@ -29,11 +30,11 @@ pub record IsTopStep (s : Schema) (segments : List Segmented) (request : Request
   pub further : IsOneFurther (length segments) before.at after.at
 
 -- a facet's job in the bucket that is open
-pub record StandsAtFacet (s : Schema) (segments : List Segmented) (request : Request) (levels : List Level) (job : FacetJob) : Type 0 where
+pub record StandsAtFacet (s : Schema) (segments : List Segmented) (request : Request) (ask : message.Ask) (number : ℕ) (levels : List Level) (job : FacetJob) : Type 0 where
   pub can : CanAnswer s segments request
-  pub is_job : IsFacetJob s request (blocks_in segments) levels job
+  pub is_job : IsFacetJob s (top_scope (request_view request) ask number) (blocks_in segments) levels job
 
-pub record IsFacetStep (s : Schema) (segments : List Segmented) (request : Request) (levels : List Level) (before after : FacetJob) : Type 0 where
+pub record IsFacetStep (s : Schema) (segments : List Segmented) (request : Request) (ask : message.Ask) (number : ℕ) (levels : List Level) (before after : FacetJob) : Type 0 where
   pub same : after.node.now ≡ before.node.now
-  pub job : IsFacetJob s request (blocks_in segments) levels after
+  pub job : IsFacetJob s (top_scope (request_view request) ask number) (blocks_in segments) levels after
   pub further : IsOneFurther (length segments) (length before.domain.items) (length after.domain.items)

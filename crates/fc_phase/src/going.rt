@@ -12,13 +12,14 @@ ghost use Rattle.fc_refine.specs.AskView.{ask_view};
 ghost use Rattle.fc_kind.specs.Names.{Covers};
 ghost use Rattle.fc_answers.specs.SetAnswer.{Sets};
 ghost use Rattle.fc_segment.specs.Segmented.{Segmented};
+ghost use Rattle.fc_jobs.specs.BasesKept.{AreBases};
 ghost use Rattle.fc_jobs.specs.Gathered.{AreFirst};
 ghost use Rattle.fc_levels.specs.Facets.{nested_view};
 ghost use Rattle.fc_levels.specs.Jobs.{openings, units_each};
 ghost use Rattle.fc_levels.specs.Levels.{ended_in};
 ghost use Rattle.fc_phase.specs.Asked as asked;
 ghost use Rattle.fc_refine.specs.Named.{NamesKeys};
-ghost use Rattle.fc_phase.specs.Asked.{FitsTop, HasSameDomain};
+ghost use Rattle.fc_phase.specs.Asked.{FitsTop, HasSameDomain, top_scope};
 ghost use Rattle.fc_phase.specs.Built.{CanAnswer, IsBuilt, IsTopJob, IsUnder, blocks_in, done_in, row_under_way, zeroed};
 ghost use Rattle.fc_phase.specs.Going.{AreFront, Begins, Ends, GoesOn, UnitDone, ended_by, known_already, opened_by};
 ghost use Rattle.fc_phase.specs.Stepping.{IsOneFurther, StandsAtFacet, StandsAtTop};
@@ -29,7 +30,7 @@ use crate::jobs::{FacetJob, Job, TopJob};
 use crate::units::{facet_segment, top_segment};
 use fc_base::WantMemory;
 use fc_docset::DocSet;
-use fc_jobs::{listed, tally_of};
+use fc_jobs::{Bases, listed, tally_of};
 use fc_kind::FacetKind;
 use fc_levels::{Level, Next, job_ended, top_ended};
 use fc_partial::{Message, PartialBucket, PartialNode, Stats};
@@ -250,6 +251,7 @@ fn top_unit<'a>(
     kinds: &[Box<dyn FacetKind>],
     request: &'a Request,
     segments: &[Arc<Segment>],
+    bases: &mut Bases,
     ask: &Ask,
     mut roots: Vec<DocSet>,
     buckets: Vec<PartialBucket>,
@@ -260,14 +262,16 @@ fn top_unit<'a>(
     requires names { NamesKeys (request_view request.now).nodes (ask_view ask.now) }
     requires stands { (s : Schema) × StandsAtTop s (map arc_value segments.now) request.now (ask_view ask.now) (length buckets.items) roots.items job }
     requires within { job.at < units_each (length segments.now) }
-    ensures { IfOk result (λ gone. (s : Schema)
+    requires bases { AreBases (request_view request.now) (blocks_in (map arc_value segments.now)) bases.old }
+    ensures gone { IfOk result (λ gone. (s : Schema)
         → StandsAtTop s (map arc_value segments.now) request.now (ask_view ask.now) (length buckets.items) roots.items job.entry
         → AreFront (request_view request.now) (blocks_in (map arc_value segments.now)) (ask_view ask.now) buckets.items
         → UnitDone s (map arc_value segments.now) request.now (ask_view ask.now) (openings (linked (map bucket_view buckets.items))) job.entry.at gone) }
+    ensures bases { AreBases (request_view request.now) (blocks_in (map arc_value segments.now)) bases.new }
 {
     let number = buckets.len();
     top_segment(
-        alloc, kinds, request, segments, ask, number, &mut roots, &mut job,
+        alloc, kinds, request, segments, bases, ask, number, &mut roots, &mut job,
     )?;
     top_followed(alloc, request, ask, segments.len(), roots, buckets, job)
 }
@@ -283,17 +287,17 @@ fn facet_done<'a>(
     job: FacetJob<'a>,
 ) -> Result<Gone<'a>, WantMemory>
     requires names { NamesKeys (request_view request.now).nodes (ask_view ask.now) }
-    requires stands { (s : Schema) × (cut : List Segmented) × StandsAtFacet s cut request.now levels.items job }
+    requires stands { (s : Schema) × (cut : List Segmented) × StandsAtFacet s cut request.now (ask_view ask.now) (length buckets.items) levels.items job }
     ensures { IfOk result (λ gone. (s : Schema) (cut : List Segmented)
-        → StandsAtFacet s cut request.now levels.entry.items job.entry
+        → StandsAtFacet s cut request.now (ask_view ask.now) (length buckets.items) levels.entry.items job.entry
         → length cut ≤ length job.entry.domain.items
         → AreFirst (map (base_set (request_view request.now) []) (blocks_in cut)) roots.items
         → AreFront (request_view request.now) (blocks_in cut) (ask_view ask.now) buckets.items
         → IsUnder request.now (blocks_in cut) (ask_view ask.now) (length buckets.items) levels.entry.items
-        (row_under_way (request_view request.now) (blocks_in cut) levels.entry.items job.entry)
+        (row_under_way (top_scope (request_view request.now) (ask_view ask.now) (length buckets.items)) (blocks_in cut) levels.entry.items job.entry)
         → (k : ℕ) × GoesOn s cut request.now (ask_view ask.now)
-        (openings (linked (map bucket_view buckets.items)) ++ zeroed (ended_in (request_view request.now) (blocks_in cut) levels.entry.items
-        (row_under_way (request_view request.now) (blocks_in cut) levels.entry.items job.entry))) k gone) }
+        (openings (linked (map bucket_view buckets.items)) ++ zeroed (ended_in (top_scope (request_view request.now) (ask_view ask.now) (length buckets.items)) (blocks_in cut) levels.entry.items
+        (row_under_way (top_scope (request_view request.now) (ask_view ask.now) (length buckets.items)) (blocks_in cut) levels.entry.items job.entry))) k gone) }
 {
     let FacetJob {
         node,
@@ -317,17 +321,17 @@ fn facet_followed<'a>(
     job: FacetJob<'a>,
 ) -> Result<Gone<'a>, WantMemory>
     requires names { NamesKeys (request_view request.now).nodes (ask_view ask.now) }
-    requires stands { (s : Schema) × (cut : List Segmented) × StandsAtFacet s cut request.now levels.items job }
+    requires stands { (s : Schema) × (cut : List Segmented) × StandsAtFacet s cut request.now (ask_view ask.now) (length buckets.items) levels.items job }
     ensures { IfOk result (λ gone. (s : Schema) (cut : List Segmented) (done : ℕ) → length cut ≡ segments
         → done < units_each (length cut) → IsOneFurther (length cut) done (length job.entry.domain.items)
-        → StandsAtFacet s cut request.now levels.entry.items job.entry
+        → StandsAtFacet s cut request.now (ask_view ask.now) (length buckets.items) levels.entry.items job.entry
         → AreFirst (map (base_set (request_view request.now) []) (blocks_in cut)) roots.items
         → AreFront (request_view request.now) (blocks_in cut) (ask_view ask.now) buckets.items
         → IsUnder request.now (blocks_in cut) (ask_view ask.now) (length buckets.items) levels.entry.items
-        (row_under_way (request_view request.now) (blocks_in cut) levels.entry.items job.entry)
+        (row_under_way (top_scope (request_view request.now) (ask_view ask.now) (length buckets.items)) (blocks_in cut) levels.entry.items job.entry)
         → UnitDone s cut request.now (ask_view ask.now)
-        (openings (linked (map bucket_view buckets.items)) ++ zeroed (ended_in (request_view request.now) (blocks_in cut) levels.entry.items
-        (row_under_way (request_view request.now) (blocks_in cut) levels.entry.items job.entry))) done gone) }
+        (openings (linked (map bucket_view buckets.items)) ++ zeroed (ended_in (top_scope (request_view request.now) (ask_view ask.now) (length buckets.items)) (blocks_in cut) levels.entry.items
+        (row_under_way (top_scope (request_view request.now) (ask_view ask.now) (length buckets.items)) (blocks_in cut) levels.entry.items job.entry))) done gone) }
 {
     if job.domain.len() < segments {
         let building = Building {
@@ -347,6 +351,7 @@ fn facet_unit_done<'a>(
     kinds: &[Box<dyn FacetKind>],
     request: &'a Request,
     segments: &[Arc<Segment>],
+    bases: &mut Bases,
     ask: &Ask,
     roots: Vec<DocSet>,
     buckets: Vec<PartialBucket>,
@@ -354,21 +359,27 @@ fn facet_unit_done<'a>(
     mut job: FacetJob<'a>,
 ) -> Result<Gone<'a>, WantMemory>
     requires covers { Covers (map name kinds.now) }
+    requires number { length buckets.items < asked.asked_count (ask_view ask.now) }
     requires names { NamesKeys (request_view request.now).nodes (ask_view ask.now) }
-    requires stands { (s : Schema) × StandsAtFacet s (map arc_value segments.now) request.now levels.items job }
+    requires stands { (s : Schema) × StandsAtFacet s (map arc_value segments.now) request.now (ask_view ask.now) (length buckets.items) levels.items job }
     requires within { length job.domain.items < units_each (length segments.now) }
-    ensures { IfOk result (λ gone. (s : Schema)
-        → StandsAtFacet s (map arc_value segments.now) request.now levels.entry.items job.entry
+    requires bases { AreBases (request_view request.now) (blocks_in (map arc_value segments.now)) bases.old }
+    ensures gone { IfOk result (λ gone. (s : Schema)
+        → StandsAtFacet s (map arc_value segments.now) request.now (ask_view ask.now) (length buckets.items) levels.entry.items job.entry
         → AreFirst (map (base_set (request_view request.now) []) (blocks_in (map arc_value segments.now))) roots.items
         → AreFront (request_view request.now) (blocks_in (map arc_value segments.now)) (ask_view ask.now) buckets.items
         → IsUnder request.now (blocks_in (map arc_value segments.now)) (ask_view ask.now) (length buckets.items) levels.entry.items
-        (row_under_way (request_view request.now) (blocks_in (map arc_value segments.now)) levels.entry.items job.entry)
+        (row_under_way (top_scope (request_view request.now) (ask_view ask.now) (length buckets.items)) (blocks_in (map arc_value segments.now)) levels.entry.items job.entry)
         → UnitDone s (map arc_value segments.now) request.now (ask_view ask.now)
-        (openings (linked (map bucket_view buckets.items)) ++ zeroed (ended_in (request_view request.now) (blocks_in (map arc_value segments.now)) levels.entry.items
-        (row_under_way (request_view request.now) (blocks_in (map arc_value segments.now)) levels.entry.items job.entry)))
+        (openings (linked (map bucket_view buckets.items)) ++ zeroed (ended_in (top_scope (request_view request.now) (ask_view ask.now) (length buckets.items)) (blocks_in (map arc_value segments.now)) levels.entry.items
+        (row_under_way (top_scope (request_view request.now) (ask_view ask.now) (length buckets.items)) (blocks_in (map arc_value segments.now)) levels.entry.items job.entry)))
         (length job.entry.domain.items) gone) }
+    ensures bases { AreBases (request_view request.now) (blocks_in (map arc_value segments.now)) bases.new }
 {
-    facet_segment(alloc, kinds, request, segments, &levels, &mut job)?;
+    let number = buckets.len();
+    facet_segment(
+        alloc, kinds, request, segments, bases, ask, number, &levels, &mut job,
+    )?;
     facet_followed(
         alloc,
         request,
@@ -387,6 +398,7 @@ pub(crate) fn unit_done<'a>(
     kinds: &[Box<dyn FacetKind>],
     request: &'a Request,
     segments: &[Arc<Segment>],
+    bases: &mut Bases,
     ask: &Ask,
     building: Building<'a>,
 ) -> Result<Gone<'a>, WantMemory>
@@ -394,9 +406,11 @@ pub(crate) fn unit_done<'a>(
     requires names { NamesKeys (request_view request.now).nodes (ask_view ask.now) }
     requires built { (s : Schema) × IsBuilt s (map arc_value segments.now) request.now (ask_view ask.now) building }
     requires within { done_in building.job < units_each (length segments.now) }
-    ensures { IfOk result (λ gone. (s : Schema) → IsBuilt s (map arc_value segments.now) request.now (ask_view ask.now) building.entry
+    requires bases { AreBases (request_view request.now) (blocks_in (map arc_value segments.now)) bases.old }
+    ensures gone { IfOk result (λ gone. (s : Schema) → IsBuilt s (map arc_value segments.now) request.now (ask_view ask.now) building.entry
         → UnitDone s (map arc_value segments.now) request.now (ask_view ask.now)
-        (ended_by (request_view request.now) (blocks_in (map arc_value segments.now)) building.entry) (done_in building.entry.job) gone) }
+        (ended_by (request_view request.now) (blocks_in (map arc_value segments.now)) (ask_view ask.now) building.entry) (done_in building.entry.job) gone) }
+    ensures bases { AreBases (request_view request.now) (blocks_in (map arc_value segments.now)) bases.new }
 {
     let Building {
         roots,
@@ -405,9 +419,11 @@ pub(crate) fn unit_done<'a>(
         job,
     } = building;
     match job {
-        Job::Top(job) => top_unit(alloc, kinds, request, segments, ask, roots, buckets, job),
+        Job::Top(job) => top_unit(
+            alloc, kinds, request, segments, bases, ask, roots, buckets, job,
+        ),
         Job::Facet(job) => facet_unit_done(
-            alloc, kinds, request, segments, ask, roots, buckets, levels, job,
+            alloc, kinds, request, segments, bases, ask, roots, buckets, levels, job,
         ),
     }
 }

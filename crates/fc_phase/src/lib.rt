@@ -3,6 +3,7 @@
 
 mod asked;
 mod building;
+mod enclosing;
 mod future;
 mod going;
 mod jobs;

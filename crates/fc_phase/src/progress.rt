@@ -19,6 +19,7 @@ use crate::building::Building;
 use crate::going::{Gone, top_job, unit_done};
 use crate::jobs::Job;
 use fc_base::WantMemory;
+use fc_jobs::Bases;
 use fc_kind::FacetKind;
 use fc_levels::facet_count;
 use fc_refine::Ask;
@@ -34,6 +35,8 @@ pub struct Progress<'a> {
     pub(crate) request: &'a Request,
     pub(crate) segments: Vec<Arc<Segment>>,
     pub(crate) ask: Ask,
+    /// Those without some tags, in the segments where a facet excluded tags.
+    pub(crate) bases: Bases,
     pub(crate) done: u64,
     pub(crate) left: u64,
     // There is none once the answer was given, or memory was wanting.
@@ -138,6 +141,7 @@ impl<'a> Progress<'a> {
             request,
             segments,
             ask,
+            bases: Bases::new(alloc),
             done: 0,
             left,
             building: Some(building),
@@ -162,6 +166,7 @@ impl<'a> Progress<'a> {
             kinds,
             self.request,
             &self.segments,
+            &mut self.bases,
             &self.ask,
             building,
         )?;

@@ -8,16 +8,19 @@ ghost use Rattle.fc_request.specs.RequestView.{request_view};
 ghost use Rattle.fc_domain.specs.FieldsFit.{BaseFits, ChangeFits};
 ghost use Rattle.fc_kind.specs.Names.{Covers};
 ghost use Rattle.fc_refine.specs.AskView.{ask_view};
+ghost use Rattle.fc_jobs.specs.BasesKept.{AreBases, AreBasesAt, StayBases};
 ghost use Rattle.fc_jobs.specs.FacetFits.{AllFit};
 ghost use Rattle.fc_refine.specs.Named.{NamesKeys};
 ghost use Rattle.fc_phase.specs.Asked.{asked_count, top_set};
+ghost use Rattle.fc_phase.specs.Built.{blocks_in};
 ghost use Rattle.fc_phase.specs.Stepping.{IsFacetStep, IsTopStep, StandsAtFacet, StandsAtTop};
 
+use crate::enclosing::enclosing_for;
 use crate::jobs::{FacetJob, TopJob};
 use fc_base::WantMemory;
 use fc_docset::DocSet;
 use fc_domain::base;
-use fc_jobs::{bucket_unit, domain_where, facet_unit};
+use fc_jobs::{Bases, bucket_unit, domain_where, facet_unit};
 use fc_kind::FacetKind;
 use fc_levels::Level;
 use fc_refine::Ask;
@@ -70,6 +73,8 @@ fn wanted_domain(
     kinds: &[Box<dyn FacetKind>],
     request: &Request,
     segment: &Segment,
+    at: usize,
+    bases: &mut Bases,
     ask: &Ask,
     number: usize,
     base_docs: &DocSet,
@@ -82,7 +87,9 @@ fn wanted_domain(
     requires number { number < asked_count (ask_view ask.now) }
     requires names { NamesKeys (request_view request.now).nodes (ask_view ask.now) }
     requires change { ChangeFits segment.now.texts (facet_view node.now).change }
-    ensures { IfOk result (λ set. set ≡ top_set (request_view request.now) (ask_view ask.now) number (facet_view node.now) segment.now.blocks) }
+    requires kept { AreBasesAt (request_view request.now) at segment.now.blocks bases.old }
+    ensures set { IfOk result (λ set. set ≡ top_set (request_view request.now) (ask_view ask.now) number (facet_view node.now) segment.now.blocks) }
+    ensures kept { StayBases (request_view request.now) at segment.now.blocks bases.old bases.new }
 {
     match ask {
         Ask::First => Ok(base_docs.copy(alloc)?),
@@ -92,6 +99,8 @@ fn wanted_domain(
                 kinds,
                 request,
                 segment,
+                at,
+                bases,
                 base_docs,
                 &wants[number].path,
                 node,
@@ -108,6 +117,7 @@ fn look_at(
     request: &Request,
     segment: &Segment,
     at: usize,
+    bases: &mut Bases,
     ask: &Ask,
     number: usize,
     node: &Node,
@@ -122,18 +132,20 @@ fn look_at(
     requires change { ChangeFits segment.now.texts (facet_view node.now).change }
     requires there { at < length roots.old.items
         → slice_index_or roots.old.items at [] ≡ base_set (request_view request.now) [] segment.now.blocks }
+    requires kept { AreBasesAt (request_view request.now) at segment.now.blocks bases.old }
     ensures roots { OnOk result ((roots.new.items ≡ roots.old.items)
         ⊎ ((length roots.old.items ≡ at) × (roots.new.items ≡ roots.old.items ++ base_set (request_view request.now) [] segment.now.blocks ∷ []))) }
     ensures domain { OnOk result (((at < length domain.old.items) × (domain.new.items ≡ domain.old.items))
         ⊎ ((length domain.old.items ≤ at) × (domain.new.items ≡ domain.old.items
         ++ top_set (request_view request.now) (ask_view ask.now) number (facet_view node.now) segment.now.blocks ∷ []))) }
+    ensures kept { StayBases (request_view request.now) at segment.now.blocks bases.old bases.new }
 {
     if at < domain.len() {
         return Ok(());
     }
     let base_docs = reach(alloc, request, segment, at, roots)?;
     let docs = wanted_domain(
-        alloc, kinds, request, segment, ask, number, &base_docs, node,
+        alloc, kinds, request, segment, at, bases, ask, number, &base_docs, node,
     )?;
     domain.push(docs)?;
     Ok(())
@@ -164,6 +176,7 @@ pub(crate) fn top_segment(
     kinds: &[Box<dyn FacetKind>],
     request: &Request,
     segments: &[Arc<Segment>],
+    bases: &mut Bases,
     ask: &Ask,
     number: usize,
     roots: &mut Vec<DocSet>,
@@ -173,8 +186,10 @@ pub(crate) fn top_segment(
     requires number { number < asked_count (ask_view ask.now) }
     requires names { NamesKeys (request_view request.now).nodes (ask_view ask.now) }
     requires stands { (s : Schema) × StandsAtTop s (map arc_value segments.now) request.now (ask_view ask.now) number roots.old.items job.old }
-    ensures { OnOk result ((s : Schema) → StandsAtTop s (map arc_value segments.now) request.now (ask_view ask.now) number roots.old.items job.old
+    requires bases { AreBases (request_view request.now) (blocks_in (map arc_value segments.now)) bases.old }
+    ensures stepped { OnOk result ((s : Schema) → StandsAtTop s (map arc_value segments.now) request.now (ask_view ask.now) number roots.old.items job.old
         → IsTopStep s (map arc_value segments.now) request.now (ask_view ask.now) number roots.new.items job.old job.new) }
+    ensures bases { AreBases (request_view request.now) (blocks_in (map arc_value segments.now)) bases.new }
 {
     let at = job.at;
     let Some(segment) = segment_at(segments, at) else {
@@ -186,6 +201,7 @@ pub(crate) fn top_segment(
         request,
         segment,
         at,
+        bases,
         ask,
         number,
         job.node,
@@ -212,24 +228,35 @@ pub(crate) fn facet_segment(
     kinds: &[Box<dyn FacetKind>],
     request: &Request,
     segments: &[Arc<Segment>],
+    bases: &mut Bases,
+    ask: &Ask,
+    number: usize,
     levels: &[Level<'_>],
     job: &mut FacetJob<'_>,
 ) -> Result<(), WantMemory>
     requires covers { Covers (map name kinds.now) }
-    requires stands { (s : Schema) × StandsAtFacet s (map arc_value segments.now) request.now levels.now job.old }
-    ensures { OnOk result ((s : Schema) → StandsAtFacet s (map arc_value segments.now) request.now levels.now job.old
-        → IsFacetStep s (map arc_value segments.now) request.now levels.now job.old job.new) }
+    requires number { number < asked_count (ask_view ask.now) }
+    requires names { NamesKeys (request_view request.now).nodes (ask_view ask.now) }
+    requires stands { (s : Schema) × StandsAtFacet s (map arc_value segments.now) request.now (ask_view ask.now) number levels.now job.old }
+    requires bases { AreBases (request_view request.now) (blocks_in (map arc_value segments.now)) bases.old }
+    ensures stepped { OnOk result ((s : Schema) → StandsAtFacet s (map arc_value segments.now) request.now (ask_view ask.now) number levels.now job.old
+        → IsFacetStep s (map arc_value segments.now) request.now (ask_view ask.now) number levels.now job.old job.new) }
+    ensures bases { AreBases (request_view request.now) (blocks_in (map arc_value segments.now)) bases.new }
 {
     let at = job.domain.len();
     let Some(segment) = segment_at(segments, at) else {
         return Ok(());
     };
     let level = innermost(levels);
+    let enclosing = enclosing_for(alloc, request, ask, number, levels, job.node)?;
     let docs = facet_unit(
         alloc,
         kinds,
         request,
         segment,
+        at,
+        bases,
+        &enclosing,
         level.node,
         &level.key,
         &level.domain[at],

@@ -14,6 +14,7 @@ top_segment-requires g c =
       number = subst (λ i. i < asked_count (ask_view c.args.ask.now)) (sym number) c.requires.number;
       names = c.requires.names;
       stands = stands_numbered (map arc_value c.args.segments.now) c.args.request.now (ask_view c.args.ask.now) c.len-number.result (length c.args.buckets.items) c.args.roots.items c.args.job number c.requires.stands;
+      bases = c.requires.bases;
     }
 
 pub top_followed-requires : goal.top_followed-requires
@@ -21,11 +22,11 @@ top_followed-requires g c =
     let number : c.len-number.result ≡ length c.args.buckets.items = search (rules, c.len-number.ensures) in
     record {
       names = c.requires.names;
-      facet = step_facet (map arc_value c.args.segments.now) c.args.request.now (ask_view c.args.ask.now) c.len-number.result (length c.args.buckets.items) c.args.roots.items c.top_segment.new.roots.items c.args.job c.top_segment.new.job number c.requires.stands c.in_ok-top_segment.ensures;
+      facet = step_facet (map arc_value c.args.segments.now) c.args.request.now (ask_view c.args.ask.now) c.len-number.result (length c.args.buckets.items) c.args.roots.items c.top_segment.new.roots.items c.args.job c.top_segment.new.job number c.requires.stands c.in_ok-top_segment.ensures.stepped;
     }
 
-pub returns : goal.returns
-returns g c =
+pub returns-clause-gone : goal.returns-clause-gone
+returns-clause-gone g c =
     let number : c.len-number.result ≡ length c.args.buckets.items = search (rules, c.len-number.ensures) in
     top_unit_done (map arc_value c.args.segments.now) c.args.request.now (ask_view c.args.ask.now) c.len-number.result (length c.args.segments.now) c.args.roots.items c.top_segment.new.roots.items c.args.buckets.items c.args.job c.top_segment.new.job number
-    (length-map c.args.segments.now arc_value) c.requires.within c.in_ok-top_segment.ensures c.top_followed.result c.top_followed.ensures
+    (length-map c.args.segments.now arc_value) c.requires.within c.in_ok-top_segment.ensures.stepped c.top_followed.result c.top_followed.ensures

@@ -42,4 +42,4 @@ pub returns-clause-roots : goal.returns-clause-roots
 returns-clause-roots g c = grown c.args.at (base_set (request_view c.args.request.now) [] c.args.segment.now.blocks) c.args.roots.now.items c.reach.new.roots.items c.in_ok-base_docs.ensures.same c.in_ok-base_docs.ensures.put
 
 pub returns-clause-domain : goal.returns-clause-domain
-returns-clause-domain g c = inr (vec_past c.args.domain.now c.args.at c.len.result c.if-at-len.false c.len.ensures, c.in_ok-push.ensures.items ∙ ap (λ d. c.args.domain.now.items ++ d ∷ []) c.in_ok-docs.ensures)
+returns-clause-domain g c = inr (vec_past c.args.domain.now c.args.at c.len.result c.if-at-len.false c.len.ensures, c.in_ok-push.ensures.items ∙ ap (λ d. c.args.domain.now.items ++ d ∷ []) c.in_ok-docs.ensures.set)

@@ -1,12 +1,14 @@
 use Rattle.std.proofs.Common.{◌+◌, map, refl, ◌∙◌, ap}
+use Rattle.std.specs.Arc.{arc_value}
 use Rattle.fc_base.specs.StatisticView.{stat_view}
+use Rattle.fc_phase.specs.Built.{blocks_in}
 use Rattle.fc_phase.specs.declared.jobs.TopJob.{TopJob}
-use Rattle.fc_phase.proofs.Segments.{vec_within}
+use Rattle.fc_phase.proofs.Segments.{blocks_at, vec_within}
 use Rattle.fc_phase.proofs.TopSteps.{top_add_up, top_base, top_bound, top_change, top_facet, top_fit, top_kept, top_key, top_limits, top_long, top_shaped, top_stepped, top_there}
 use Rattle.fc_phase.proofs.units.top_segment.Goals as goal
 
-pub returns-in_default : goal.returns-in_default
-returns-in_default g c = λ s st. top_kept s _ _ _ _ _ _ c.in_default.ensures st
+pub returns-in_default-clause-stepped : goal.returns-in_default-clause-stepped
+returns-in_default-clause-stepped g c = λ s st. top_kept s _ _ _ _ _ _ c.in_default.ensures st
 
 pub look_at-requires-clause-covers : goal.look_at-requires-clause-covers
 look_at-requires-clause-covers g c = c.requires.covers
@@ -56,7 +58,19 @@ bucket_unit-requires-clause-shaped g c = top_shaped _ _ _ _ _ _ _ _ _ c.in-Some.
 pub bucket_unit-requires-clause-add_up : goal.bucket_unit-requires-clause-add_up
 bucket_unit-requires-clause-add_up g c = top_add_up _ _ _ _ _ _ _ _ _ c.in-Some.ensures c.requires.stands.1 _ c.in_ok-look_at.ensures.domain _ c.index.ensures _ (ap (map stat_view) c.deref.ensures.value)
 
-pub returns : goal.returns
-returns g c =
+pub look_at-requires-clause-kept : goal.look_at-requires-clause-kept
+look_at-requires-clause-kept g c = (blocks_in (map arc_value c.args.segments.now), blocks_at (map arc_value c.args.segments.now) c.args.job.now.at c.in-Some.segment.now _ c.in-Some.ensures, c.requires.bases)
+
+pub returns-in_err-look_at-clause-bases : goal.returns-in_err-look_at-clause-bases
+returns-in_err-look_at-clause-bases g c = c.look_at.ensures.kept _ (blocks_at (map arc_value c.args.segments.now) c.args.job.now.at c.in-Some.segment.now _ c.in-Some.ensures) c.requires.bases
+
+pub returns-in_err-bucket_unit-clause-bases : goal.returns-in_err-bucket_unit-clause-bases
+returns-in_err-bucket_unit-clause-bases g c = c.look_at.ensures.kept _ (blocks_at (map arc_value c.args.segments.now) c.args.job.now.at c.in-Some.segment.now _ c.in-Some.ensures) c.requires.bases
+
+pub returns-clause-bases : goal.returns-clause-bases
+returns-clause-bases g c = c.look_at.ensures.kept _ (blocks_at (map arc_value c.args.segments.now) c.args.job.now.at c.in-Some.segment.now _ c.in-Some.ensures) c.requires.bases
+
+pub returns-clause-stepped : goal.returns-clause-stepped
+returns-clause-stepped g c =
     let after : TopJob = record c.args.job.now { domain = c.look_at.new.domain; at = c.args.job.now.at + 1; over = c.bucket_unit.new.over } in
     λ s st. top_stepped s _ _ _ _ _ _ _ _ c.in-Some.ensures st _ c.in_ok-look_at.ensures.domain _ c.index.ensures _ (ap (map stat_view) c.deref.ensures.value) _ c.in_ok-look_at.ensures.roots after refl refl refl refl refl c.in_ok-bucket_unit.ensures

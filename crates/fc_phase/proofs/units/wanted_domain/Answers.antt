@@ -26,8 +26,8 @@ domain_where-requires-clause-keys g c = want_named (request_view c.args.request.
 pub domain_where-requires-clause-node : goal.domain_where-requires-clause-node
 domain_where-requires-clause-node g c = c.requires.change
 
-pub returns-in_ok-copy-in-First : goal.returns-in_ok-copy-in-First
-returns-in_ok-copy-in-First g c = first_set (request_view c.args.request.now) c.args.ask.now c.args.number (facet_view c.args.node.now) c.args.segment.now.blocks _ _ c.in-First.is c.requires.docs c.in_ok-copy-in-First.ensures
+pub returns-in_ok-copy-in-First-clause-set : goal.returns-in_ok-copy-in-First-clause-set
+returns-in_ok-copy-in-First-clause-set g c = first_set (request_view c.args.request.now) c.args.ask.now c.args.number (facet_view c.args.node.now) c.args.segment.now.blocks _ _ c.in-First.is c.requires.docs c.in_ok-copy-in-First.ensures
 
-pub returns-in_ok-docs-in-More : goal.returns-in_ok-docs-in-More
-returns-in_ok-docs-in-More g c = want_set (request_view c.args.request.now) _ _ c.args.number c.in-More.is c.requires.number _ c.index.ensures _ c.deref.ensures.value (facet_view c.args.node.now) c.args.segment.now.blocks _ _ c.requires.docs c.in_ok-docs-in-More.ensures
+pub returns-in_ok-docs-in-More-clause-set : goal.returns-in_ok-docs-in-More-clause-set
+returns-in_ok-docs-in-More-clause-set g c = want_set (request_view c.args.request.now) _ _ c.args.number c.in-More.is c.requires.number _ c.index.ensures _ c.deref.ensures.value (facet_view c.args.node.now) c.args.segment.now.blocks _ _ c.requires.docs c.in_ok-docs-in-More.ensures.set

@@ -26,3 +26,4 @@ invariant_of-result c =
     c.in-Some.ensures
     (c.in-Some-checked_mul.ensures.1 ∙ ap (λ k. c.in-Some.jobs * k) (c.units_each.ensures ∙ ap units_each (c.len.ensures ∙ c.args.segments.ok.0)))
     refl
+    c.new-5.ensures
