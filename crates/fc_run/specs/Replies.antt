@@ -1,19 +1,15 @@
 -- What the parts of a script write: each search over the commits that its phase tells.
-use Rattle.std.specs.Prelude.{ℕ, List, map, take}
-use Rattle.std.specs.List.{flat_map, zip}
+use Rattle.std.specs.Prelude.{ℕ, List}
+use Rattle.std.specs.List.{flat_map}
 use Rattle.fc_spec.specs.documents.Document.{Batch}
 use Rattle.fc_spec.specs.documents.Val.{Text}
 use Rattle.fc_spec.specs.documents.World.{World}
-use Rattle.fc_spec.specs.words.Lists.{joined}
 use Rattle.fc_spec.specs.scripts.AskedScripts.{Asked}
 use Rattle.fc_spec.specs.scripts.Outputs.{Replies}
 use Rattle.fc_spec.specs.scripts.PhaseEnds.{line_in}
 use Rattle.fc_spec.specs.scripts.Phases.{Phase, Search}
+use Rattle.fc_spec.specs.scripts.PhaseTexts.{world_at}
 use Rattle.fc_spec.specs.scripts.ScriptParts.{Parts}
-
--- for each shard its first batches, as many as its number, joined
-abbrev pub world_at : List (List Batch) → List ℕ → World
-world_at shards numbers = map (λ x. joined (take x.1 x.0)) (zip shards numbers)
 
 -- the lines of searches over a world and its numbers
 abbrev pub searches_text : Replies → World → List ℕ → List (Search Asked) → Text

@@ -1,6 +1,5 @@
 -- The laws that the promises of a run stand on.
 use Rattle.fc_spec.specs.laws.RefinedPaths.{AreRefinedPathsExact}
-use Rattle.fc_spec.specs.laws.RequestLaws.{ValidExcludeOutermost}
 use Rattle.fc_spec.specs.laws.ScriptLaws.{EndsAreOutputs, IsOnlyOutput, StandByPhase, WorldsAreWithin}
 use Rattle.fc_spec.specs.laws.WithoutLimits.{IsSingleWithoutLimits}
 
@@ -9,6 +8,5 @@ pub record AreRunLaws : Type 0 where
   pub ends : EndsAreOutputs
   pub only : IsOnlyOutput
   pub worlds : WorldsAreWithin
-  pub outermost : ValidExcludeOutermost
   pub single : IsSingleWithoutLimits
   pub refined : AreRefinedPathsExact

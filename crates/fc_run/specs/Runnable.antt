@@ -11,7 +11,7 @@ use Rattle.fc_script.specs.declared.script.Search.{Search}
 use Rattle.fc_search.specs.Askable.{world_of}
 use Rattle.fc_store.specs.Generated.{Generated}
 use Rattle.fc_run.specs.Generations.{AreCommittable}
-use Rattle.fc_run.specs.Replies.{world_at}
+use Rattle.fc_spec.specs.scripts.PhaseTexts.{world_at}
 use Rattle.fc_run.specs.Searches.{lists_in, shards_view}
 
 -- there are some generations, and they are within the limits together

@@ -12,7 +12,7 @@ use Rattle.fc_lines.specs.LineView.{asked_view}
 use Rattle.fc_script.specs.PartsView.{batches_view, session_at}
 use Rattle.fc_script.specs.declared.script.Phase.{Phase}
 use Rattle.fc_script.specs.declared.script.Search.{Search}
-use Rattle.fc_run.specs.Replies.{world_at}
+use Rattle.fc_spec.specs.scripts.PhaseTexts.{world_at}
 
 -- the batches of a shard
 abbrev pub Shard : Type 0

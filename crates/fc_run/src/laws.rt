@@ -2,8 +2,8 @@
 ghost use Rattle.fc_run.specs.RunLaws.{AreRunLaws};
 
 use fc_spec::{
-    phase_ends_are_outputs, refined_paths_are_exact, scripts_have_one_output,
-    valid_requests_exclude_outermost, without_limits, worlds_are_within_limits,
+    phase_ends_are_outputs, refined_paths_are_exact, scripts_have_one_output, without_limits,
+    worlds_are_within_limits,
 };
 
 /// All of them.
@@ -13,7 +13,6 @@ pub(crate) fn run_laws()
     phase_ends_are_outputs();
     scripts_have_one_output();
     worlds_are_within_limits();
-    valid_requests_exclude_outermost();
     without_limits();
     refined_paths_are_exact();
 }

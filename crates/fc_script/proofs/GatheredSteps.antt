@@ -7,7 +7,6 @@ use Rattle.std.proofs.lemmas.List.Elements.{All-nil, All-push}
 use Rattle.fc_spec.specs.documents.Schema.{Schema}
 use Rattle.fc_spec.specs.documents.Val.{Text}
 use Rattle.fc_docs.specs.View.{batch_view}
-use Rattle.fc_docs.specs.declared.block.Batch.{Batch}
 use Rattle.fc_lines.specs.LineView.{asked_view}
 use Rattle.fc_script.specs.Gathered as gathered
 use Rattle.fc_script.specs.GatheredView.{gathered_view, HasSoundSearches, IsSoundSoFar}

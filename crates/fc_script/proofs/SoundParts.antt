@@ -1,5 +1,5 @@
 -- What is known of a script by its parts.
-use Rattle.std.proofs.Common.{◌≡◌, ℕ, zero, suc, ◌<◌, List, [], ◌∷◌, map, length, get_or, All, Vec, Global, refl, sym, ◌∙◌, ap, subst, arith}
+use Rattle.std.proofs.Common.{◌≡◌, ℕ, zero, suc, ◌<◌, List, [], ◌∷◌, map, length, get_or, All, refl, sym, ◌∙◌, ap, subst, arith}
 use Rattle.std.specs.Arc.{arc_value}
 use Rattle.std.specs.List.{enumerate_from}
 use Rattle.std.proofs.lemmas.List.{get_or-map, length-map}
@@ -13,7 +13,6 @@ use Rattle.fc_spec.specs.scripts.ScriptTotals.{Limits}
 use Rattle.fc_spec.specs.scripts.ValidScripts.{IsWithin}
 use Rattle.fc_base.specs.ValidSchema.{IsValidSchema}
 use Rattle.fc_docs.specs.View.{batch_view}
-use Rattle.fc_docs.specs.declared.block.Batch.{Batch}
 use Rattle.fc_script.specs.CutBatches.{CutBatches}
 use Rattle.fc_script.specs.GatheredView.{AreSoundPhases}
 use Rattle.fc_script.specs.PartsView.{batches_view, parts_view, phase_view, phases_view}

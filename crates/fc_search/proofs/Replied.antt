@@ -4,7 +4,7 @@ use Rattle.fc_spec.specs.documents.Schema.{Schema}
 use Rattle.fc_spec.specs.documents.World.{World, single}
 use Rattle.fc_spec.specs.requests.Request.{Request}
 use Rattle.fc_spec.specs.requests.Paths.{at_root}
-use Rattle.fc_spec.specs.requests.Shape.{no_limits, outermost_exclusions}
+use Rattle.fc_spec.specs.requests.Shape.{no_limits}
 use Rattle.fc_spec.specs.requests.ValidRequests.{IsValidRequest}
 use Rattle.fc_spec.specs.replies.Distributed.{distributed}
 use Rattle.fc_spec.specs.replies.Exact.{exact}
@@ -21,13 +21,13 @@ use Rattle.fc_coord.specs.Keeps.{Keeps}
 use Rattle.fc_search.specs.Hearing.{IsHearing, WasTold}
 use Rattle.fc_search.specs.SearchLaws.{AreReplyLaws}
 
-merges_whole : (laws : AreReplyLaws) (r : Request) (W : World) (s : State) (sent : List SentMessage) → WasTold r W s sent → s.ready ≡ true → IsTrue (outermost_exclusions r.nodes) → merged s.request (length s.asks) (told_in r.nodes sent) ≡ distributed r W
-merges_whole laws r W s sent told ready outermost =
+merges_whole : (laws : AreReplyLaws) (r : Request) (W : World) (s : State) (sent : List SentMessage) → WasTold r W s sent → s.ready ≡ true → merged s.request (length s.asks) (told_in r.nodes sent) ≡ distributed r W
+merges_whole laws r W s sent told ready =
     let A = told_in r.nodes sent in
     let ended = told.kept.ended ready in
     let roots : HasRoots (length W) A = subst (λ n. HasRoots n A) told.shards ended.1 in
     let nothing : LacksNothing r (length W) A = subst (λ n. LacksNothing r n A) told.shards (subst (λ x. LacksNothing x (length s.asks) A) told.request ended.2) in
-    (λ j. merged (told.request j) (told.shards j) A) ∙ laws.merges r W sent outermost told.answers roots nothing
+    (λ j. merged (told.request j) (told.shards j) A) ∙ laws.merges r W sent told.answers roots nothing
 
 -- all that is promised of a reply
 pub record IsReply (r : Request) (W : World) (b : Bucket) : Type 0 where
@@ -38,14 +38,13 @@ pub record IsReply (r : Request) (W : World) (b : Bucket) : Type 0 where
 
 pub replied : (laws : AreReplyLaws) (r : Request) (W : World) (s : State) (b : Bucket) → (schema : Schema) × IsValidRequest schema r → IsHearing r W s → s.ready ≡ true → ((A : List Told) → Keeps s A → b ≡ merged s.request (length s.asks) A) → IsReply r W b
 replied laws r W s b (schema, valid) (sent, told) ready is =
-    let outermost = laws.outermost schema r valid in
-    let whole : b ≡ distributed r W = is (told_in r.nodes sent) told.kept ∙ merges_whole laws r W s sent told ready outermost in
-    let refined = laws.refined r W outermost in
+    let whole : b ≡ distributed r W = is (told_in r.nodes sent) told.kept ∙ merges_whole laws r W s sent told ready in
+    let refined = laws.refined r W in
     record {
       distributed_is = whole;
       root = ap val_in whole ∙ refined.0;
       refined = subst (λ x. IsBucketOf r W at_root (AreFacetsOf r W r.nodes at_root) x) (sym whole) refined.1;
-      single_index = λ none. whole ∙ laws.single r W none outermost;
+      single_index = λ none. whole ∙ laws.single r W none;
     }
 
 -- what a coordinator asks of a request, of one that is valid

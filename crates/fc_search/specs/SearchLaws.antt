@@ -4,7 +4,7 @@ use Rattle.fc_spec.specs.requests.Request.{Request}
 use Rattle.fc_spec.specs.requests.ValidRequests.{IsValidRequest}
 use Rattle.fc_spec.specs.laws.Merging.{MergesIntoReply}
 use Rattle.fc_spec.specs.laws.RefinedPaths.{AreRefinedPathsExact}
-use Rattle.fc_spec.specs.laws.RequestLaws.{ValidExcludeOutermost, ValidHaveFewDepths}
+use Rattle.fc_spec.specs.laws.RequestLaws.{ValidHaveFewDepths}
 use Rattle.fc_spec.specs.laws.ShapedAnswers.{AnswersAreShaped}
 use Rattle.fc_spec.specs.laws.ShardAlone.{AnswersFromItsBlocks}
 use Rattle.fc_spec.specs.laws.SumsLaw.{AnswersFit}
@@ -24,7 +24,6 @@ pub record AreTellingLaws : Type 0 where
 pub record AreReplyLaws : Type 0 where
   pub countable : (s : Schema) (r : Request) → IsValidRequest s r → AreCountable r.nodes
   pub few : ValidHaveFewDepths
-  pub outermost : ValidExcludeOutermost
   pub merges : MergesIntoReply
   pub refined : AreRefinedPathsExact
   pub single : IsSingleWithoutLimits

@@ -4,7 +4,7 @@ ghost use Rattle.fc_search.specs.SearchLaws.{AreReplyLaws, AreTellingLaws};
 use fc_reading::valid_requests_are_countable;
 use fc_spec::{
     answers_are_shaped, answers_fit, answers_merge, refined_paths_are_exact, shards_answer_alone,
-    valid_requests_exclude_outermost, valid_requests_have_few_rounds, without_limits,
+    valid_requests_have_few_rounds, without_limits,
 };
 use fc_told::trees_tell;
 
@@ -24,7 +24,6 @@ pub(crate) fn reply_laws()
 {
     valid_requests_are_countable();
     valid_requests_have_few_rounds();
-    valid_requests_exclude_outermost();
     answers_merge();
     refined_paths_are_exact();
     without_limits();

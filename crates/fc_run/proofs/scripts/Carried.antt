@@ -1,7 +1,6 @@
 -- The shards of a script, carried on from phase to phase.
-use Rattle.std.proofs.Common.{◌≡◌, ℕ, suc, ◌<◌, ◌≤◌, List, [], ◌∷◌, length, map, take, get_or, refl, sym, ◌∙◌, ap, subst, arith, Vec, Global}
+use Rattle.std.proofs.Common.{◌≡◌, ℕ, suc, ◌<◌, ◌≤◌, List, [], ◌∷◌, length, map, take, get_or, refl, sym, ◌∙◌, ap, subst, arith}
 use Rattle.std.specs.Prelude.{All, slice_index}
-use Rattle.std.specs.Arc.{arc_value}
 use Rattle.std.specs.List.{zip}
 use Rattle.std.proofs.lemmas.List.{length-map}
 use Rattle.std.proofs.lemmas.Simd.{map-map}
@@ -15,7 +14,7 @@ use Rattle.fc_docs.specs.declared.block.Batch.{Batch}
 use Rattle.fc_script.specs.PartsView.{batches_view}
 use Rattle.fc_script.specs.SoundScripts.{CutLists}
 use Rattle.fc_run.specs.Generations.{AreCommittable, IsCommittable, generations_at}
-use Rattle.fc_run.specs.Replies.{world_at}
+use Rattle.fc_spec.specs.scripts.PhaseTexts.{world_at}
 use Rattle.fc_run.specs.Searches.{lists_in, shards_view, Shard}
 use Rattle.fc_run.specs.Progress.{CanCarry, CanCarryAll, Progress, all_carried, all_progress_at, progress_at, progress_of}
 use Rattle.fc_run.specs.declared.commits.Committed.{Committed}

@@ -17,7 +17,7 @@ use Rattle.fc_spec.specs.scripts.WorldLimits.{IsWithinLimits}
 use Rattle.fc_script.specs.PartsView.{parts_view, phase_view}
 use Rattle.fc_script.specs.declared.script.Phase.{Phase}
 use Rattle.fc_script.specs.declared.script.Script.{Script}
-use Rattle.fc_run.specs.Replies.{world_at}
+use Rattle.fc_spec.specs.scripts.PhaseTexts.{world_at}
 use Rattle.fc_run.specs.Searches.{shards_view}
 use Rattle.fc_run.proofs.scripts.PartsText.{world_here}
 

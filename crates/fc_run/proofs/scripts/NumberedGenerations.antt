@@ -4,7 +4,7 @@ use Rattle.fc_spec.specs.documents.Document.{Batch}
 use Rattle.fc_spec.specs.documents.Schema.{Schema}
 use Rattle.fc_search.specs.Askable.{world_of}
 use Rattle.fc_run.specs.Generations.{generation_at, generations_at, numbers_in}
-use Rattle.fc_run.specs.Replies.{world_at}
+use Rattle.fc_spec.specs.scripts.PhaseTexts.{world_at}
 
 -- their blocks are the world of the first batches
 pub world_is : (s : Schema) (shards : List (List Batch)) (numbers : List ℕ) → world_of (generations_at s shards numbers) ≡ world_at shards numbers

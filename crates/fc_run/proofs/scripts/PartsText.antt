@@ -13,7 +13,8 @@ use Rattle.fc_spec.specs.scripts.Phases.{Search, numbers_at_end, phase, searches
 use Rattle.fc_spec.specs.scripts.Script.{generation, is_sync, stream, world, commits_up_to}
 use Rattle.fc_spec.specs.scripts.ScriptParts.{batches, parts_of}
 use Rattle.fc_spec.specs.laws.ScriptLaws.{StandByPhase}
-use Rattle.fc_run.specs.Replies.{parts_text, phase_text, searches_text, world_at}
+use Rattle.fc_run.specs.Replies.{parts_text, phase_text, searches_text}
+use Rattle.fc_spec.specs.scripts.PhaseTexts.{world_at}
 
 -- ---- the world
 

@@ -19,7 +19,7 @@ use Rattle.fc_script.specs.declared.script.Search.{Search}
 use Rattle.fc_search.specs.Askable.{world_of}
 use Rattle.fc_store.specs.Generated.{Generated}
 use Rattle.fc_run.specs.Generations.{generation_at, generations_at, numbers_in}
-use Rattle.fc_run.specs.Replies.{world_at}
+use Rattle.fc_spec.specs.scripts.PhaseTexts.{world_at}
 use Rattle.fc_run.specs.Runnable.{AreRising, AreSearchable, IsSearchOf, commits_in}
 use Rattle.fc_run.specs.Searches.{search_lines}
 use Rattle.fc_run.proofs.scripts.NumberedGenerations.{count_is, numbers_are, world_is}

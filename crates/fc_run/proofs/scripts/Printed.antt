@@ -23,7 +23,7 @@ printed : AreRunLaws → (S : AskedScript) (s : Script) → parts_of S ≡ parts
 printed laws S s is sound = record {
   output = output;
   single_index = subst (IsOutputBy single_without_limits S) (sym single_text) (laws.ends single_without_limits S);
-  refined = (distributed, λ r W outermost. record { defined = refl; refined = (laws.refined r W outermost).1; single_index = λ unlimited. laws.single r W unlimited outermost }, output);
+  refined = (distributed, λ r W. record { defined = refl; refined = (laws.refined r W).1; single_index = λ unlimited. laws.single r W unlimited }, output);
   one_output = λ apart u is. laws.only distributed S u (parts_text distributed (parts_view s)) apart is output;
 }
   where
@@ -32,7 +32,7 @@ printed laws S s is sound = record {
 
     single_text : parts_text distributed (parts_view s) ≡ text_at_ends single_without_limits S
     single_text =
-        sym (text_is distributed s) ∙ same_text laws.single laws.outermost s sound ∙ text_is single_without_limits s
+        sym (text_is distributed s) ∙ same_text laws.single s ∙ text_is single_without_limits s
         ∙ ap (λ parts. parts_text single_without_limits parts) (sym is) ∙ text_of_parts laws.by_phase single_without_limits S
 
     output : IsOutput S (parts_text distributed (parts_view s))
