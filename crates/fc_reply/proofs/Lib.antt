@@ -1,4 +1,7 @@
+pub mod Appending
+pub mod Bodies
 pub mod ErrorJson
-pub mod NoFloats
 pub mod PutMembers
+pub mod ReplyTokens
 pub mod ReplyViews
+pub mod SlotMembers

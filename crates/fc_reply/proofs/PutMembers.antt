@@ -5,10 +5,14 @@ use Rattle.serde_json.specs.View.{items_of}
 use Rattle.fc_spec.specs.documents.Val.{Text}
 use Rattle.fc_spec.specs.replies.Reply.{Spot, listed, as_missing, as_before, as_between, as_after, Bucket, Row, no_parts}
 use Rattle.fc_spec.specs.replies.Json.{bucket_data, item_at, put_beside, listed_items, put_row}
-use Rattle.fc_reply.specs.PutJson.{put_bucket}
 use Rattle.fc_reply.specs.ReplyView.{bucket_view, buckets_view, part_over, parts_over}
 use Rattle.fc_reply.specs.declared.reply.ReplyBuckets.{ReplyBuckets, out-ReplyBuckets}
 use Rattle.fc_reply.proofs.ReplyViews.{view_of_buckets}
+
+-- the members with a bucket by this name, where it is there
+abbrev pub put_bucket : Text → Option Bucket → Members → Members
+put_bucket name None ms = ms
+put_bucket name (Some b) ms = put name (bucket_data b) ms
 
 put_row-part_over : (spot : Spot) (name : Text) → ((d : Data) (ms : Members) → put_beside spot d ms ≡ put name d ms) → (o : Option Bucket) (more : Row) (ms : Members)
     → put_row (part_over spot o more) ms ≡ put_row more (put_bucket name o ms)

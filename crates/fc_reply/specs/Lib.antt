@@ -1,2 +1,3 @@
-pub mod PutJson
 pub mod ReplyView
+pub mod Slots
+pub mod Tokens

@@ -1,0 +1,49 @@
+-- What facets put at their names.
+use Rattle.std.proofs.Common.{◌≡◌, ℕ, List, ◌∷◌, Some, refl, sym, ap, ◌∙◌, subst}
+use Rattle.std.specs.List.{slice_get}
+use Rattle.serde_json.specs.Data.{Data, Members, put}
+use Rattle.fc_spec.specs.documents.Val.{Text}
+use Rattle.fc_spec.specs.replies.Reply as definition
+use Rattle.fc_spec.specs.replies.Json.{put_facets}
+use Rattle.fc_reply.specs.declared.reply.ReplyBody.{ReplyBody, out-ReplyBody}
+use Rattle.fc_reply.specs.declared.reply.ReplyBody.TheFolds.{fold_out-ReplyBody, fold_out-ReplyFacet, map-ReplyBody}
+use Rattle.fc_reply.specs.declared.reply.ReplyBody.TheOpen.{ReplyBody-F, Number, Many, One}
+use Rattle.fc_reply.specs.declared.reply.ReplyBucket.{ReplyBucket, out-ReplyBucket}
+use Rattle.fc_reply.specs.declared.reply.ReplyBuckets.{ReplyBuckets}
+use Rattle.fc_reply.specs.declared.reply.ReplyFacet.{ReplyFacet, out-ReplyFacet}
+use Rattle.fc_reply.specs.declared.slots.Slot.TheVariants.{Facet}
+use Rattle.fc_reply.specs.ReplyView.{PutBody, PutFacet, body_step, bucket_step, buckets_step, facet_step, bucket_view, facet_view, body_view, buckets_view, facets_view}
+use Rattle.fc_reply.specs.Slots.{body_data, facet_data, slot_data}
+
+abbrev Open : Type 0
+Open = ReplyBody-F ReplyBody ReplyBucket ReplyBuckets ReplyFacet
+
+abbrev seen : Open → PutBody
+seen x = body_step (map-ReplyBody ReplyBody ReplyBucket ReplyBuckets ReplyFacet PutBody definition.Bucket definition.Row PutFacet body_view bucket_view buckets_view facet_view x)
+
+-- a facet with this body puts this at its name, before the facets after it
+abbrev IsBody : Data → PutBody → Type 0
+IsBody d body = (name : Text) (more : definition.Facets) (ms : Members) → put_facets (body name more) ms ≡ put_facets more (put name d ms)
+
+seen_puts : (x : Open) → IsBody (body_data (seen x)) (seen x)
+seen_puts (Number n) = λ name more ms. refl
+seen_puts (Many row) = λ name more ms. refl
+seen_puts (One b) = λ name more ms. refl
+
+body_puts : (r : ReplyBody) → IsBody (body_data (body_view r)) (body_view r)
+body_puts r =
+    subst (λ (b : PutBody). IsBody (body_data b) b)
+    (sym (fold_out-ReplyBody PutBody definition.Bucket definition.Row PutFacet body_step bucket_step buckets_step facet_step r)) (seen_puts (out-ReplyBody r))
+
+-- a facet puts its data at its name, before the facets after it
+pub facet_puts : (f : ReplyFacet) (more : definition.Facets) (ms : Members)
+    → put_facets (facet_view f more) ms ≡ put_facets more (put (out-ReplyFacet f).name (body_data (body_view (out-ReplyFacet f).body)) ms)
+facet_puts f more ms =
+    ap (λ (g : PutFacet). put_facets (g more) ms) (fold_out-ReplyFacet PutBody definition.Bucket definition.Row PutFacet body_step bucket_step buckets_step facet_step f)
+    ∙ body_puts (out-ReplyFacet f).body (out-ReplyFacet f).name more ms
+
+-- the same by the slot of its place
+pub slot_puts : (b : ReplyBucket) (at : ℕ) (f : ReplyFacet) (rest : List ReplyFacet) (ms : Members) → slice_get (out-ReplyBucket b).facets.items at ≡ Some f
+    → put_facets (facets_view (f ∷ rest)) ms ≡ put_facets (facets_view rest) (put (out-ReplyFacet f).name (slot_data b (Facet at)) ms)
+slot_puts b at f rest ms here =
+    facet_puts f (facets_view rest) ms ∙ ap (λ (d : Data). put_facets (facets_view rest) (put (out-ReplyFacet f).name d ms)) (sym (ap facet_data here))
