@@ -10,6 +10,7 @@ mod longs;
 mod missing;
 mod numbers;
 mod prefix;
+mod repeated;
 mod selecting;
 mod text_postings;
 mod text_runs;
