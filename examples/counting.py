@@ -41,6 +41,7 @@ class Search:
 
     def __init__(self, request, places, conditions, types):
         self.request, self.places, self.conditions, self.types = request, places, conditions, types
+        self.found = {}
 
     def matches(self, text, place):
         if text not in self.conditions:
@@ -64,12 +65,25 @@ class Search:
         """The places that match the query and each filter that has none of the tags."""
         texts = [self.request.get("query", "*:*")]
         texts += [text for tags, text in self.filters() if not set(tags) & set(excluded)]
-        return [p for p in self.places if all(self.matches(text, p) for text in texts)]
+        if tuple(texts) not in self.found:
+            self.found[tuple(texts)] = [p for p in self.places if all(self.matches(text, p) for text in texts)]
+        return self.found[tuple(texts)]
 
-    def domain(self, facet, places, shards):
+    def begun_anew(self, facet, around):
+        """The places that a facet begins with which excludes tags: those of the base without its tags and those that the
+        facets around it exclude, where the document matches each filter of each facet around and is in the buckets."""
+        tags = [tag for one in [facet, *(outer for outer, _ in around)] for tag in excluded(one)]
+        places = self.base(tags)
+        for outer, is_inside in around:
+            places = [p for p in places if is_inside(p) and all(self.matches(text, p) for text in domain_filters(outer))]
+        return places
+
+    def domain(self, facet, places, shards, around):
+        """What a facet counts in a bucket of these places on these shards. `around` has the facets around it, from the
+        outermost to the one whose bucket it is, each with the test of the bucket of it that is meant."""
         change = facet.get("domain", {})
         if excluded(facet):
-            places = self.base(excluded(facet))
+            places = self.begun_anew(facet, around)
         kept = {(p.shard, p.block) for p in places}
         if "blockChildren" in change:
             parents = {(p.shard, p.block) for p in places if p.is_parent and self.matches(change["blockChildren"], p)}
@@ -77,12 +91,11 @@ class Search:
         if "blockParent" in change:
             places = [p for p in self.places
                       if p.is_parent and (p.shard, p.block) in kept and self.matches(change["blockParent"], p)]
-        texts = change.get("filter", [])
-        for text in texts if isinstance(texts, list) else [texts]:
+        for text in domain_filters(facet):
             places = [p for p in places if self.matches(text, p)]
         return [p for p in places if p.shard in shards]
 
-    def bucket(self, facets, places, shards, **first):
+    def bucket(self, facets, places, shards, around, **first):
         result = {**first, "count": len(places)}
         for name, command in facets.items():
             text = statistic_text(command)
@@ -91,18 +104,23 @@ class Search:
                 if places and value is not None:
                     result[name] = value
             elif places or excluded(command):
-                result[name] = self.facet(command, self.domain(command, places, shards), shards)
+                result[name] = self.facet(command, self.domain(command, places, shards, around), shards, around)
         return result
 
-    def facet(self, facet, places, shards):
-        nested = facet.get("facet", {})
-        if facet["type"] == "terms":
-            return self.terms(facet, nested, places, shards)
-        if facet["type"] == "range":
-            return self.range(facet, nested, places, shards)
-        return self.bucket(nested, [p for p in places if self.matches(facet["q"], p)], shards)
+    def facet(self, facet, places, shards, around):
+        def bucket_of(is_inside, shards, **first):
+            """The bucket of the places that meet a test, on some shards."""
+            of = [p for p in places if p.shard in shards and is_inside(p)]
+            return self.bucket(facet.get("facet", {}), of, shards, [*around, (facet, is_inside)], **first)
 
-    def terms(self, facet, nested, places, shards):
+        if facet["type"] == "terms":
+            return self.terms(facet, places, shards, bucket_of)
+        if facet["type"] == "range":
+            return self.range(facet, shards, bucket_of)
+        return bucket_of(lambda p: self.matches(facet["q"], p), shards)
+
+    def terms(self, facet, places, shards, bucket_of):
+        nested = facet.get("facet", {})
         field, prefix = facet["field"], facet.get("prefix", "")
         limit, offset = facet.get("limit", 10), facet.get("offset", 0)
         tenth = limit // 10 + 4
@@ -132,16 +150,17 @@ class Search:
         if facet.get("refine") and limit != -1:
             parts = {v: [p for p in places if has(p, v) and p.shard in offering[v]] for v in candidates}
             chosen = ranked(parts)[:offset + limit + more("overrefine")]
-        known = {v: set(shards) if facet.get("refine") else offering[v] for v in chosen}
+        counts_on_all = facet.get("refine") or limit == -1 and holds_exclusion(facet)
+        known = {v: set(shards) if counts_on_all else offering[v] for v in chosen}
         counted = {v: [p for p in places if has(p, v) and p.shard in known[v]] for v in chosen}
         enough = {v: of for v, of in counted.items() if len(of) >= facet.get("mincount", 1)}
         page = ranked(enough)[offset:None if limit == -1 else offset + limit]
-        result = {"buckets": [self.bucket(nested, counted[v], known[v], val=v) for v in page]}
+        result = {"buckets": [bucket_of(lambda p: has(p, v), known[v], val=v) for v in page]}
         if facet.get("missing"):
-            result["missing"] = self.bucket(nested, [p for p in places if not p.document[field]], shards)
+            result["missing"] = bucket_of(lambda p: not p.document[field], shards)
         return result
 
-    def range(self, facet, nested, places, shards):
+    def range(self, facet, shards, bucket_of):
         start, end, gap = facet["start"], facet["end"], facet["gap"]
         words = as_list(facet.get("include", "lower")) or ["lower"]
         words = {"lower", "upper", "edge", "outer"} if "all" in words else set(words)
@@ -152,8 +171,7 @@ class Search:
         last = highs[-1] if highs else end
 
         def held(condition):
-            of = [p for p in places if any(condition(x) for x in p.document[facet["field"]])]
-            return lambda **first: self.bucket(nested, of, shards, **first)
+            return lambda **first: bucket_of(lambda p: any(condition(x) for x in p.document[facet["field"]]), shards, **first)
 
         def between(low, high, with_low, with_high):
             return held(lambda x: low < x < high or x == low and with_low or x == high and with_high)
@@ -181,6 +199,16 @@ def as_list(value):
 def excluded(facet):
     tags = facet.get("domain", {}).get("excludeTags", [])
     return [tag for tag in (tags.split(",") if isinstance(tags, str) else tags) if tag]
+
+
+def domain_filters(facet):
+    return as_list(facet.get("domain", {}).get("filter", []))
+
+
+def holds_exclusion(facet):
+    """Whether a facet inside this one, at any depth, excludes tags."""
+    nested = [one for one in facet.get("facet", {}).values() if statistic_text(one) is None]
+    return any(excluded(one) or holds_exclusion(one) for one in nested)
 
 
 def statistic_text(command):
@@ -267,7 +295,7 @@ class Script:
         """The line of a search that counts these generations."""
         places = [p for s in range(self.shards) for batch in self.batches[s][:numbers[s]] for p in batch]
         asked = Search(search["request"], places, self.conditions, self.types)
-        facets = asked.bucket(search["request"].get("facet", {}), asked.base([]), set(range(self.shards)))
+        facets = asked.bucket(search["request"].get("facet", {}), asked.base([]), set(range(self.shards)), [])
         return ordered({"facets": facets, "generations": numbers, "session": session_of(search)})
 
 

@@ -1,4 +1,6 @@
-"""Faults of requests: a facet with a fault and the number and name of it, as docs/guide.md's table says them."""
+"""Faults of requests: a facet with a fault and the number and name of it, as docs/guide.md's table says them; and, where the fault
+is of a facet inside that one, the names that lead there."""
+EXCLUDING = {"type": "terms", "field": "brand", "domain": {"excludeTags": "A"}}
 BAD_FACETS = [
     (3, "query-syntax", {"type": "query", "q": "red"}),
     (4, "mixed-operators", {"type": "query", "q": "kind:p AND n:5 OR n:12"}),
@@ -12,24 +14,28 @@ BAD_FACETS = [
     (12, "bad-statistic", "avg(n)"),
     (13, "wrong-field-type", {"type": "terms", "field": "n", "prefix": "1"}),
     (13, "wrong-field-type", "sum(brand)"),
+    (15, "nested-exclude", {"type": "query", "q": "*:*", "domain": {"blockParent": "kind:p"}, "facet": {"x": EXCLUDING}}, "x"),
+    (15, "nested-exclude", {"type": "terms", "field": "marks", "domain": {"blockChildren": "*:*"}, "facet": {
+        "n": "sum(n)", "x": {"type": "query", "q": "kind:c", "facet": {"y": EXCLUDING}}}}, "x", "y"),
     (16, "too-large", {"type": "range", "field": "n", "start": 0, "end": 10001, "gap": 1}),
 ]
-NESTED_EXCLUDE = (15, "nested-exclude", {"type": "terms", "field": "brand", "domain": {"excludeTags": "A"}})
+UNDER_A_STEP = (15, "nested-exclude", EXCLUDING)
 RESERVED = "val"
 
 
 def put_fault(chance, request):
     """Puts a facet with a fault among the facets of the request, on some depth. The members of its error line."""
-    around, facets = [], request.setdefault("facet", {})
+    around, facets, is_under_step = [], request.setdefault("facet", {}), False
     while len(around) < 5 and chance.happens(60):
         below = [name for name, facet in facets.items() if isinstance(facet, dict) and "facet" in facet]
         if not below:
             break
         around.append(chance.one(below))
+        is_under_step |= any(change.startswith("block") for change in facets[around[-1]].get("domain", {}))
         facets = facets[around[-1]]["facet"]
-    number, fault, facet = chance.one(BAD_FACETS + [NESTED_EXCLUDE] * 2 if around else BAD_FACETS)
+    number, fault, facet, *inside = chance.one(BAD_FACETS + [UNDER_A_STEP] * 6 if is_under_step else BAD_FACETS)
     name = "bad"
     if chance.happens(15):
-        number, fault, name, facet = 14, "reserved-name", RESERVED, {"type": "terms", "field": "brand"}
+        number, fault, name, facet, inside = 14, "reserved-name", RESERVED, {"type": "terms", "field": "brand"}, []
     facets[name] = facet
-    return {"error": fault, "facet": around + [name], "number": number}
+    return {"error": fault, "facet": [*around, name, *inside], "number": number}

@@ -7,6 +7,7 @@ from worlds.shrinking import without
 PARAMETERS = ["limit", "offset", "mincount", "missing", "prefix", "refine", "overrequest", "overrefine", "sort", "hardend",
               "other", "include"]
 CHANGES = ["excludeTags", "blockChildren", "blockParent", "filter"]
+INSIDE = "excludeTags in facets inside others"
 
 
 def changed(facets, depth, change):
@@ -30,6 +31,10 @@ def removals():
     for at in range(1, 8):
         yield f"refine, depth {at}", in_facets(
             lambda facet, depth, at=at: without(facet, "refine") if depth == at else facet)
+    for at in range(1, 9):
+        yield f"excludeTags, depth {at}", in_facets(
+            lambda facet, depth, at=at: without_change(facet, "excludeTags") if depth == at else facet)
+    yield INSIDE, in_facets(lambda facet, depth: without_change(facet, "excludeTags") if depth > 1 else facet)
 
 
 def in_facets(change):
@@ -57,6 +62,7 @@ class Seen:
         self.there["documents"] += len(documents) + sum(len(one.get("_childDocuments_") or []) for one in documents)
         for _, phase, search in counting.searches(world.lines):
             request, numbers = search["request"], script.ends[phase]
+            self.there["searches"] += 1
             fault = world.faults.get(counting.ordered(request))
             if fault:
                 self.there["fault: " + fault["error"]] += 1
@@ -75,5 +81,6 @@ class Seen:
 
     def table(self):
         for name in sorted(self.there):
+            share = f", {100 * self.there[name] / self.there['searches']:.0f} % of the searches" if name == INSIDE else ""
             matters = f", and changes the reply in {self.matters[name]}" if name in self.matters else ""
-            yield f"  {name}: {self.there[name]}{matters}"
+            yield f"  {name}: {self.there[name]}{share}{matters}"

@@ -36,6 +36,16 @@ class Queries:
         self.conditions[text] = condition
         return text
 
+    def wide(self):
+        """A text that many documents match: a value that is frequent, or all but one value."""
+        is_without = self.chance.happens(50)
+        field = self.chance.one(["brand", "marks", "tags", "ns"] if is_without else ["kind", "marks", "sizes"])
+        wanted = self.chance.one(VALUES[field])
+        has = any_value(lambda value: value == wanted)(field)
+        text = ("-" if is_without else "") + f"{field}:{self.spelled(wanted)}"
+        self.conditions[text] = lambda document: has(document) != is_without
+        return text
+
     def parents(self):
         """A text that finds parents above all."""
         return self.chance.one(["kind:p", "kind:p", "*:*", "-kind:c", None]) or self.text()

@@ -10,21 +10,27 @@ MOST_FACETS = 50
 
 
 class Requests:
-    """Most requests have facets of all kinds; a chain has terms facets with small limits, one in the other."""
+    """Most requests have facets of all kinds; a chain has terms facets with small limits, one in the other, and a row facets of
+    any kind, with tags that the innermost excludes."""
 
     def __init__(self, chance, queries):
         self.chance, self.queries = chance, queries
-        self.left = self.deepest = 0
+        self.left = self.deepest = self.block_steps = 0
+        self.excluded_inside = []
 
     def request(self):
         self.left, self.deepest = MOST_FACETS, self.chance.one([1, 2, 2, 3, 3, 4, 5, 6, DEEPEST])
-        if self.chance.happens(30):
-            return {"facet": self.chain(self.chance.one([2, 3, 4, 5, 6, 7, 7]))}
+        self.excluded_inside = []
         request = {}
-        self.perhaps(request, 35, "query", self.queries.text)
-        self.perhaps(request, 45, "filter", self.filters)
-        self.perhaps(request, 10, "limit", lambda: 0)
+        if self.chance.happens(50):
+            make, lengths = self.chance.one([(self.chain, [2, 3, 4, 5, 6, 7, 7, DEEPEST]), (self.row, [2, 2, 3, 3, 3, 4, 6, DEEPEST])])
+            request["facet"] = {"a": make(self.chance.one(lengths), 1)}
+            self.perhaps(request, 100 if self.excluded_inside else 0, "filter", self.filters)
+            return request
         self.perhaps(request, 97, "facet", lambda: self.facets(1))
+        self.perhaps(request, 35, "query", self.queries.text)
+        self.perhaps(request, 85 if self.excluded_inside else 45, "filter", self.filters)
+        self.perhaps(request, 10, "limit", lambda: 0)
         return request
 
     def perhaps(self, members, percent, name, make):
@@ -34,26 +40,50 @@ class Requests:
     def choose(self, members, percent, name, choices):
         self.perhaps(members, percent, name, lambda: self.chance.one(choices))
 
-    def chain(self, length):
+    def chain(self, length, depth):
         facet = {"type": "terms", "field": self.chance.one(["marks", "marks", "sizes", "sizes", "ns", "tags"])}
         self.choose(facet, 95, "limit", [1, 1, 2, 2, 2, 3])
         self.choose(facet, 80, "refine", [True])
         self.choose(facet, 90, "overrequest", [0, 0, 0, 1])
         self.choose(facet, 80, "overrefine", [0, 0, 1])
-        nested = {"low": self.statistic()} if self.chance.happens(40) else {}
+        if self.chance.happens(10):
+            facet["domain"] = {"excludeTags": self.tags(depth)}
+        nested = {"low": self.statistic()} if self.chance.happens(40) and depth < DEEPEST else {}
         self.perhaps(facet, 50, "sort", lambda: self.sort(nested))
         if length > 1:
-            nested.update(self.chain(length - 1))
+            nested["a"] = self.chain(length - 1, depth + 1)
         if nested:
             facet["facet"] = nested
-        return {"a": facet}
+        return facet
+
+    def row(self, length, depth):
+        """A facet of any kind, with another one in it and so on; the innermost excludes tags."""
+        self.deepest = depth
+        facet = self.chance.one([self.terms, self.terms, self.range, self.query])(depth)
+        if facet["type"] == "terms":
+            self.choose(facet, 50, "missing", [True])
+            if self.chance.happens(65):
+                facet.update(limit=-1, refine=False, field=self.chance.one(["brand", "brand", "tags", "marks"]))
+        elif facet["type"] == "range":
+            self.choose(facet, 50, "other", ["all"])
+        change = {}
+        self.perhaps(change, 40, "filter", lambda: [self.queries.wide() for _ in range(1 + self.chance.below(2))])
+        self.perhaps(change, 100 if length == 1 else 30, "excludeTags", lambda: self.tags(depth))
+        if change:
+            facet["domain"] = change
+        if length > 1:
+            facet.setdefault("facet", {})["a"] = self.row(length - 1, depth + 1)
+        return facet
 
     def filters(self):
-        listed = [self.filter() for _ in range(1 + self.chance.below(3))]
+        listed = [self.filter() for _ in range(1 + self.chance.below(2 if self.excluded_inside else 3))]
         return listed[0] if len(listed) == 1 and self.chance.happens(50) else listed
 
     def filter(self):
-        text, tags = self.queries.text(), ",".join([self.chance.one(TAGS), *self.chance.some(TAGS, 1)])
+        """With tags or without. Where facets inside others exclude some, most filters with tags have one of those, and half find much."""
+        text = self.queries.wide() if self.excluded_inside and self.chance.happens(50) else self.queries.text()
+        tag = self.chance.one(self.excluded_inside if self.excluded_inside and self.chance.happens(70) else TAGS)
+        tags = ",".join([tag, *self.chance.some(TAGS, 1)])
         return self.chance.one([text, "{!tag=" + tags + "}" + text, {"#" + tags: text}])
 
     def facets(self, depth):
@@ -62,7 +92,7 @@ class Requests:
         for _ in range(1 + self.chance.below(3 if depth > 1 else 4)):
             if self.left > 0:
                 self.left -= 1
-                is_statistic = self.chance.happens(30) or depth == DEEPEST
+                is_statistic = self.chance.happens(30 if depth < DEEPEST else 60)
                 found[self.chance.one(NAMES)] = self.statistic() if is_statistic else self.facet(depth)
         return found
 
@@ -78,9 +108,14 @@ class Requests:
         return self.chance.one([text, text, " " + text.replace("(", " ( "), {"type": "func", "func": text}])
 
     def facet(self, depth):
+        """A facet, with a domain change or without; where it steps between parents and children, no facet in it excludes tags."""
+        change = {}
+        self.perhaps(change, 35, "domain", lambda: self.domain(depth))
+        is_step = any(name.startswith("block") for name in change.get("domain", {}))
+        self.block_steps += is_step
         facet = self.chance.one([self.terms, self.terms, self.terms, self.terms, self.range, self.query])(depth)
-        self.perhaps(facet, 35, "domain", lambda: self.domain(depth))
-        return facet
+        self.block_steps -= is_step
+        return {**facet, **change}
 
     def terms(self, depth):
         facet = {"type": "terms"}
@@ -132,11 +167,19 @@ class Requests:
 
     def domain(self, depth):
         change = {}
-        if depth == 1:
-            self.choose(change, 60, "excludeTags", ["A", "B", "A,B", ["A"], ["C.1", "x-_"], ["B", "nowhere"], "", []])
+        if not self.block_steps:
+            self.perhaps(change, 60, "excludeTags", lambda: self.tags(depth))
+        elif self.chance.happens(10):
+            change["excludeTags"] = self.chance.one(["", []])
         self.perhaps(change, 45, self.chance.one(["blockChildren", "blockParent"]), self.queries.parents)
         self.perhaps(change, 45, "filter", self.domain_filter)
         return change
+
+    def tags(self, depth):
+        tags = self.chance.one(["A", "B", "A,B", ["A"], ["C.1", "x-_"], ["B", "nowhere"], "", []])
+        if depth > 1:
+            self.excluded_inside += [tag for tag in TAGS if tag in tags]
+        return tags
 
     def domain_filter(self):
         return self.chance.one([self.queries.text(), [self.queries.text() for _ in range(self.chance.below(3))]])
