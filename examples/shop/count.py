@@ -16,8 +16,8 @@ CONDITIONS = {
     "price:[50 TO *]": lambda d: any(price >= 50 for price in d["price"]),
 }
 
-# The eleventh search sorts by a statistic that it does not ask for.
-ERRORS = {11: {"error": "unknown-sort", "facet": ["brands"], "number": 11}}
+# The twelfth search sorts by a statistic that it does not ask for.
+ERRORS = {12: {"error": "unknown-sort", "facet": ["brands"], "number": 11}}
 
 lines = counting.read_script(os.path.join(HERE, "script.jsonl"))
 counting.write(counting.replies(lines, CONDITIONS, ERRORS))
