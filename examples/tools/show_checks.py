@@ -143,7 +143,7 @@ def of_the_shop():
     yield "the shop's page is well formed", [], page.wrong
     yield "its names and values", sorted(names), sorted(page.names)
     yield "its counts", sorted(counts), sorted(int(row["count"].replace(",", "")) for row in page.rows)
-    yield "its histograms and what unfolds", (1, 5), (page.elements.count("svg"), page.elements.count("details"))
+    yield "its histograms and what unfolds", (1, 9), (page.elements.count("svg"), page.elements.count("details"))
     # The brands of the first reply: 4, 4 and 3 products, each bar a share of the greatest.
     brands = [("acme", 100), ("zen", 100), ("orb", 75)]
     yield "bars in proportion", brands, [(row["label"], row["share"]) for row in page.rows[:3]]
