@@ -1,8 +1,9 @@
 #!/usr/bin/env python3
 """Measures what terms facets cost in one segment: a search of each kind, as the difference between a script with many of it and
-one with a single one, and what a segment of many fields costs beside one of two. Prints times and, beside the targets, ratios
-of them. Each reply is compared with one that is counted by plain lists."""
+one with a single one, and what a segment of many fields costs beside one of two. Prints the rows of the table in
+docs/performance.md, and on standard error how far it is. Each reply is compared with one that is counted by plain lists."""
 import argparse
+import math
 import os
 import sys
 import tempfile
@@ -31,6 +32,15 @@ REQUESTS = {
     "prices-few": {"query": "hundredth:yes", "facet": {"f": terms("price")}},
     "brands-by-price": {"facet": {"f": terms("price", limit=-1, facet={"b": terms("brand")})}},
 }
+# What the table says of those whose time it has.
+TIMED = {
+    "brands": "13 brands",
+    "brands-statistics": "13 brands with `sum`, `min` and `countvals` of the price",
+    "prices": "1,000 prices",
+    "prices-statistics": "1,000 prices with the same statistics",
+}
+# Of what is less than the difference between two runs.
+UNSEEN = "below what can be seen"
 
 
 def document(i):
@@ -51,44 +61,84 @@ def opening(fields, documents):
     return "".join(lines).encode("utf-8")
 
 
+class Steps:
+    """Says how far it is: which of all that is measured is at work."""
+
+    def __init__(self, all_of_them):
+        self.all, self.begun = all_of_them, 0
+
+    def say(self, what):
+        self.begun += 1
+        print(f"{self.begun} of {self.all}: {what}", file=sys.stderr, flush=True)
+
+
 def least(options, case):
-    print(f"  at work: {os.path.basename(case.path)}", file=sys.stderr, flush=True)
     for _ in range(options.runs):
         case.run(options.program)
     return case.least
 
 
-def seconds_of_searches(options, folder):
+def seconds_of_searches(options, folder, steps):
     """For each request the seconds of one search."""
     documents = [document(i) for i in range(options.documents)]
     lines = [*script_lines(FIELDS, documents), *map(search, REQUESTS.values())]
+    steps.say("the replies are counted")
     said = [(line + "\n").encode("utf-8") for line in counting.replies(lines, CONDITIONS)]
     whole, found = opening(FIELDS, documents), {}
     for (name, request), reply in zip(REQUESTS.items(), said):
+        steps.say(name)
         more = max(options.searches // 20, 1) if name.endswith("-price") else options.searches
         one, many = (least(options, Case(folder, whole, request, count, reply)).seconds for count in (1, 1 + more))
         found[name] = (many - one) / more
     return found
 
 
-def cost_of_fields(options, folder, count):
+def cost_of_fields(options, folder, steps, count):
     """What it costs to read documents with an id alone, where the schema has so many fields with `id`."""
+    steps.say(f"{count} fields")
     fields = {f"f{number}": "string" for number in range(1, count)}
     documents = ({"id": f"d{i}"} for i in range(options.documents))
     return least(options, Case(folder, opening(fields, documents), {}, 0, b""))
 
 
+def rounded(number):
+    """With two digits that tell something."""
+    if number <= 0:
+        return "0"
+    places = 1 - math.floor(math.log10(number))
+    return f"{round(number, places):,.{max(places, 0)}f}"
+
+
+def row_of_time(what, seconds, documents):
+    if seconds <= 0:
+        return f"| {what} | {UNSEEN} | | |"
+    return f"| {what} | {rounded(1e3 * seconds)} ms | {rounded(1e9 * seconds / documents)} ns | |"
+
+
+def row_of_ratio(what, above, below, target, more=""):
+    ratio = above / below if below > 0 else 0
+    shown = rounded(ratio) + more if ratio > 0 else UNSEEN
+    return f"| {what} | {shown} | | at most {target}{', missed' * (ratio > target)} |"
+
+
+def rows(options, seconds, two, many):
+    """The rows of the table in docs/performance.md."""
+    for name, what in TIMED.items():
+        yield row_of_time(what, seconds[name], options.documents)
+    for name in ("brands", "prices"):
+        yield row_of_ratio(f"{name} of every hundredth document, over those of all", seconds[f"{name}-few"], seconds[name], 0.1)
+    each = seconds["brands-by-price"]
+    yield row_of_ratio("the brands in the bucket of each of 1,000 prices, over brands and prices, each once", each,
+                       seconds["brands"] + seconds["prices"], 6, f" ({rounded(1e3 * each)} ms)")
+    yield row_of_ratio("a segment of 256 fields, of documents with an id alone, over one of 2 fields: time", many.seconds, two.seconds, 1.5)
+    yield row_of_ratio("the same: memory", many.peak, two.peak, 1.5)
+
+
 def report(options, seconds, two, many):
-    print(f"{options.documents:,} documents in one segment, one search")
-    for name, each in seconds.items():
-        print(f"  {name:20} {1000 * each:8.3f} ms, {1e9 * each / options.documents:7.2f} ns a document")
-    for few in ("brands", "prices"):
-        print(f"  {few + ', 1 % of them':20} {seconds[few + '-few'] / seconds[few]:8.3f} of the time of all (target: at most 0.1)")
-    side = seconds["brands"] + seconds["prices"]
-    print(f"  brands in 1,000 prices {seconds['brands-by-price'] / side:6.2f} times the two side by side (target: at most 6)")
-    print(f"  256 fields           {many.seconds / two.seconds:8.2f} times the time of 2 (target: at most 1.5)")
-    print(f"                       {many.peak / two.peak:8.2f} times the memory of 2 (target: at most 1.5)")
-    print(f"least of {options.runs} runs; load of the machine {os.getloadavg()[0]:.1f} on {os.cpu_count()} processors")
+    print("| Facet | Once | A document | Target |\n|---|---|---|---|")
+    print("\n".join(rows(options, seconds, two, many)))
+    print(f"\n{options.documents:,} documents in one segment; least of {options.runs} runs; load of the machine {os.getloadavg()[0]:.1f} "
+          f"on {os.cpu_count()} processors", flush=True)
 
 
 def main():
@@ -98,8 +148,11 @@ def main():
     options.add_argument("--runs", type=int, default=3, help="each figure is the least of so many runs")
     options.add_argument("--searches", type=int, default=200, help="a search is timed over so many")
     options = options.parse_args()
+    steps = Steps(len(REQUESTS) + 3)
     with tempfile.TemporaryDirectory() as folder:
-        report(options, seconds_of_searches(options, folder), cost_of_fields(options, folder, 2), cost_of_fields(options, folder, 256))
+        seconds = seconds_of_searches(options, folder, steps)
+        two, many = (cost_of_fields(options, folder, steps, count) for count in (2, 256))
+        report(options, seconds, two, many)
 
 
 if __name__ == "__main__":

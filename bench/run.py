@@ -40,15 +40,62 @@ REQUESTS = {
 Cost = collections.namedtuple("Cost", "seconds peak")
 
 
+# Tags inside the values of another field, beside a filter by a tag: by a name the field, whether the tags leave the filter out,
+# and below which number a document counts, where that is asked.
+Inside = collections.namedtuple("Inside", "field leaves_out below", defaults=(False, None))
+INSIDE = {
+    "13 brands": Inside("brand"),
+    "13 brands, left out": Inside("brand", True),
+    "1,000 prices": Inside("price"),
+    "1,000 prices, left out": Inside("price", True),
+    "1,000 numbers, left out": Inside("number", True, 1000),
+    "2,000 numbers, left out": Inside("number", True, 2000),
+}
+# Of which one takes how many times another at most.
+RATIOS = [("13 brands, left out", "13 brands", 3), ("1,000 prices, left out", "1,000 prices", 4),
+          ("2,000 numbers, left out", "1,000 numbers, left out", 2.2)]
+
+
+def request_inside(asked):
+    tags, around = ({"type": "terms", "field": field, **ALL} for field in ("tags", asked.field))
+    if asked.leaves_out:
+        tags["domain"] = {"excludeTags": "T"}
+    if asked.below:
+        around["domain"] = {"filter": f"number:[0 TO {asked.below - 1}]"}
+    return {"filter": "{!tag=T}tags:t1", "facet": {"around": {**around, "facet": {"tags": tags}}}}
+
+
+def reply_inside(asked, count, every):
+    """The line of such a search, counted in one pass over the documents."""
+    root, found, tags = 0, collections.Counter(), collections.defaultdict(collections.Counter)
+    for made in map(numbered, range(count)):
+        is_found, value = "t1" in made["tags"], made[asked.field]
+        root += is_found
+        if not asked.below or made["number"] < asked.below:
+            found[value] += is_found
+            tags[value].update(set(made["tags"]) if is_found or asked.leaves_out else ())
+    buckets = [{"count": found[value], "tags": {"buckets": counts(tags[value])}, "val": value} for value in sorted(found) if found[value]]
+    facets = {"around": {"buckets": buckets}, "count": root}
+    return (counting.ordered({"facets": facets, "generations": [count // every + 1] * 4, "session": "demo"}) + "\n").encode("utf-8")
+
+
+def counts(counter):
+    return [{"count": counter[value], "val": value} for value in sorted(counter)]
+
+
 def document(i):
     return {"id": f"d{i}", "brand": f"b{7 * i % 13}", "price": 31 * i % 1000, "tags": [f"t{i % 5}", f"t{i % 3}"]}
 
 
-def script_lines(count, shards, every):
+def numbered(i):
+    return {**document(i), "number": 31 * i % 2000}
+
+
+def script_lines(count, shards, every, fields=FIELDS, made=document):
     """Documents dealt out to the shards, with a commit at the end, and behind each `every` of them where that is a number."""
-    yield {"schema": {"shards": shards, "fields": FIELDS}}
+    yield {"schema": {"shards": shards, "fields": fields}}
     for i in range(count):
-        yield {"add": {"shard": i % shards, "doc": document(i)}}
+        yield {"add": {"shard": i % shards, "doc": made(i)}}
         if every and (i + 1) % every == 0:
             yield {"commit": {}}
     yield {"commit": {}}
@@ -98,8 +145,9 @@ class Case:
         self.least = Cost(*map(min, zip(cost, self.least or cost)))
 
 
-def opening(count, shards, every):
-    return "".join(json.dumps(line, separators=(",", ":")) + "\n" for line in script_lines(count, shards, every)).encode("utf-8")
+def opening(count, shards, every, **documents):
+    lines = script_lines(count, shards, every, **documents)
+    return "".join(json.dumps(line, separators=(",", ":")) + "\n" for line in lines).encode("utf-8")
 
 
 def replies(count, shards, every):
@@ -141,17 +189,42 @@ def report(options, fewer, shards, every, whole, part, one, many, thousand):
     sys.stdout.flush()
 
 
+def measure_inside(options, folder):
+    """Searches for tags inside other facets, over four shards with a commit every 1,000."""
+    count = options.documents
+    is_dear = lambda asked: asked.leaves_out and asked.field != "brand"
+    more = {name: max(options.searches // 10, 1) if is_dear(asked) else options.searches for name, asked in INSIDE.items()}
+    whole = opening(count, 4, 1000, fields={**FIELDS, "number": "plong"}, made=numbered)
+    said = {name: reply_inside(asked, count, 1000) for name, asked in INSIDE.items()}
+    one, many = ({name: Case(folder, whole, request_inside(asked), 1 + times * more[name], said[name]) for name, asked in INSIDE.items()}
+                 for times in (0, 1))
+    for number in range(options.runs):
+        print(f"tags inside: run {number + 1} of {options.runs}", file=sys.stderr, flush=True)
+        for case in (*one.values(), *many.values()):
+            case.run(options.program)
+    seconds = {name: (many[name].least.seconds - one[name].least.seconds) / more[name] for name in INSIDE}
+    print(f"{count:,} documents, 4 shards, a commit every 1,000; tags inside, beside a filter by a tag that they leave out or not:")
+    for name, each in seconds.items():
+        print(f"  one search     {1000 * each:.2f} ms: in {name}")
+    for name, other, target in RATIOS:
+        print(f"  ratio          {seconds[name] / seconds[other]:.2f} times {other} (target: at most {target}): {name}")
+    sys.stdout.flush()
+
+
 def main():
     options = argparse.ArgumentParser(description=__doc__)
     options.add_argument("--program", default=os.path.join(TOP, "crates", "fc_main", "out", "fc_main"))
     options.add_argument("--documents", type=int, default=200_000)
     options.add_argument("--runs", type=int, default=3, help="each figure is the least of so many runs")
-    options.add_argument("--searches", type=int, default=100, help="a search is timed over so many")
+    options.add_argument("--searches", type=int, default=100, help="a search is timed over so many, a dear one over a tenth")
+    options.add_argument("--inside", action="store_true", help="only the searches for tags inside other facets")
     options = options.parse_args()
-    for shards, every in ((1, 1000), (1, None), (4, 1000), (64, None)):
+    for shards, every in () if options.inside else ((1, 1000), (1, None), (4, 1000), (64, None)):
         print(f"{shards} shard{'s' * (shards > 1)}: the replies are counted", file=sys.stderr, flush=True)
         with tempfile.TemporaryDirectory() as folder:
             measure(options, folder, shards, every)
+    with tempfile.TemporaryDirectory() as folder:
+        measure_inside(options, folder)
     print(f"least of {options.runs} runs; load of the machine {os.getloadavg()[0]:.1f} on {os.cpu_count()} processors")
 
 
