@@ -39,7 +39,7 @@ REQUEST = {
     "bad-statistic": "the text is no statistic",
     "wrong-field-type": "a field of texts stands where one of integers has to, or the other way round",
     "reserved-name": "a facet or a statistic is named count or val",
-    "nested-exclude": "a facet inside another one excludes tags",
+    "nested-exclude": "a facet excludes tags inside one with blockChildren or blockParent",
     "too-large": "there are too many facets, too many around one another, or too many buckets of a range",
 }
 
