@@ -86,7 +86,7 @@ def refined_in_gaps(size):
     yield search({"f": gaps("price", 10_000, facet={"g": refined("brand", 13)})})
 
 
-@script(40_000, "the brands in the bucket of each of {:,} documents")
+@script(50_000, "the brands in the bucket of each of {:,} documents")
 def brands_in_ids(size):
     yield from filled(1, BRAND, map(brand, range(size)))
     yield search({"f": terms("id", limit=-1, facet={"g": terms("brand")})})
@@ -136,7 +136,7 @@ def sums_for_two_texts(size):
     yield from [search({"f": terms("texts", facet={"s": "sum(integers)"})})] * 10
 
 
-@script(2000, "the same 20 documents with {:,} texts, the sum for a brand in each text")
+@script(3000, "20 documents with {:,} texts and as many integers, the sum for a brand in each text")
 def sums_in_texts(size):
     yield from filled(1, {**LISTS, **BRAND}, [{"texts": texts(size), "integers": list(range(size)), "brand": "b"}] * 20)
     yield search({"f": terms("texts", limit=-1, facet={"g": terms("brand", facet={"s": "sum(integers)"})})})
@@ -159,7 +159,7 @@ def integers_in_texts(size):
     yield search({"f": terms("texts", limit=-1, facet={"g": terms("integers", limit=1)})})
 
 
-@script(4000, "one document with {:,} texts and one with as many integers, the texts in each integer")
+@script(6000, "one document with {:,} texts and one with as many integers, the texts in each integer")
 def texts_beside_integers(size):
     yield from filled(1, LISTS, [{"texts": texts(size)}, {"integers": list(range(size))}])
     yield search({"f": terms("integers", limit=-1, facet={"g": terms("texts")})})
@@ -178,10 +178,10 @@ def statistics(size):
     yield search({"f": terms("n", limit=-1, facet=every)})
 
 
-@script(250, "{:,} texts of 8,000 letters, each with the one before as its front, on four shards, five searches")
+@script(500, "{:,} texts of 8,000 letters, each with the one before as its front, on four shards, three searches")
 def texts_with_one_front(size):
     yield from filled(4, {"text": "string"}, ({"text": "x" * (8000 + i)} for i in range(size)))
-    yield from [search({"f": refined("text", size)})] * 5
+    yield from [search({"f": refined("text", size)})] * 3
 
 
 @script(25_000, "a page of a quarter from the middle of {:,} refined prices on four shards, three searches")
@@ -281,14 +281,14 @@ def small_commits(size):
 # Filters, tags and queries.
 
 
-@script(4000, "a filter with {:,} tags and a facet that excludes as many others")
+@script(6000, "a filter with {:,} tags and a facet that excludes as many others")
 def tags(size):
     yield from filled(1, BRAND, map(brand, range(13)))
     excluding = terms("brand", domain={"excludeTags": ",".join(texts(size, "u"))})
     yield search({"f": excluding}, filter=f"{{!tag={','.join(texts(size))}}}brand:b1")
 
 
-@script(2000, "{:,} tags excluded in each of as many prices")
+@script(3000, "{:,} tags excluded in each of as many prices")
 def tags_in_prices(size):
     yield from filled(1, {**BRAND, **PRICE}, ({**brand(i), "price": i} for i in range(size)))
     excluding = terms("brand", domain={"excludeTags": texts(size)})

@@ -29,7 +29,9 @@ NOT_RUN = (
     ("tools/wrong-bodies fc_reply", "has the prover try each: minutes", "tools/wrong-bodies"),
     ("tools/wrong-bodies --since COMMIT", "has the prover try each: minutes", "tools/wrong-bodies"),
     ("bench/run.py", "measures for half an hour", "bench/run.py --documents 200 --runs 1 --searches 1"),
+    ("bench/run.py --inside", "measures for some minutes", "bench/run.py --inside --documents 200 --runs 1 --searches 1"),
     ("bench/kinds.py", "measures for some minutes", "bench/kinds.py --documents 1000 --runs 1 --searches 1"),
+    ("bench/cliffs.py", "measures for some minutes", "bench/cliffs.py --only faulty-requests small-commits --runs 1"),
 )
 SHELL = ("rt", "cd", "(cd", "cat", "git", "python3", "sh", "bash")
 # A command: the number of its line, its text, what is run, and the status that this is to end with.
