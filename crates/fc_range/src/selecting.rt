@@ -61,6 +61,22 @@ fn pick(positions: &[u32], docs: &DocSet, into: &mut DocSet)
     }
 }
 
+// Whether the documents of the set have fewer integers than so many, where one without any counts as if it had one. It looks at
+// no more documents than that.
+fn have_fewer(column: &LongColumn, docs: &DocSet, many: usize) -> bool
+    requires { length docs.now ≡ length column.now }
+{
+    let mut left = many;
+    for at in docs.iter() {
+        let own = column.values_of(at).len().max(1);
+        if left <= own {
+            return false;
+        }
+        left -= own;
+    }
+    left > 0
+}
+
 // Makes the set those of the documents in the other set that have an integer from `least` to `greatest`, both
 // included.
 fn select_from_to(column: &LongColumn, least: i64, greatest: i64, docs: &DocSet, into: &mut DocSet)
@@ -71,15 +87,15 @@ fn select_from_to(column: &LongColumn, least: i64, greatest: i64, docs: &DocSet,
     ensures kept { length into.new ≡ length into.old }
 {
     let found = column.positions_between(least, greatest);
-    if (docs.count() as usize) < found.len() {
+    if have_fewer(column, docs, found.len()) {
         keep_from_to(column, least, greatest, docs, into);
     } else {
         pick(found, docs, into);
     }
 }
 
-/// Makes the set those of the documents in the other set that are in the bucket. Where the documents are fewer than the
-/// integers of the segment in the bucket, it reads the integers of these documents; else the positions of those integers.
+/// Makes the set those of the documents in the other set that are in the bucket. Where these documents have fewer integers than
+/// the segment has in the bucket, it reads theirs; else the positions of those in the bucket.
 pub fn select_bucket(segment: &Segment, docs: &DocSet, range: &Range, key: &Key, into: &mut DocSet)
     requires fits { FitsColumns segment.now.texts (kind.range (range_view range.now)) }
     requires length { length docs.now ≡ document_total segment.now.blocks }

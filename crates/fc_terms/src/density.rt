@@ -1,4 +1,8 @@
 // Which way of counting costs least. It shows in nothing but time.
+ghost use Rattle.std.specs.Prelude.{◌≡◌, length};
+
+use fc_column::TextColumn;
+use fc_docset::DocSet;
 
 // How many numbers are cleared and read at most where there is no document.
 const SPARE: u64 = 64;
@@ -13,4 +17,20 @@ pub(crate) fn is_dense(numbers: u64, docs: u32) -> bool {
 /// number costs less than reading the numbers of each document.
 pub(crate) fn holds_much(count: u32, len: u32) -> bool {
     4 * u64::from(count) >= u64::from(len)
+}
+
+/// Whether the documents of the set have at least a quarter as many texts as there are terms: else reading the documents of
+/// each term costs more than reading the texts of each document. It looks at no more documents than it needs.
+pub(crate) fn have_many_texts(docs: &DocSet, column: &TextColumn, terms: u32) -> bool
+    requires { length docs.now ≡ length column.now }
+{
+    let mut left = (terms / 4) as usize;
+    for at in docs.iter() {
+        let own = column.ordinals_of(at).len();
+        if left <= own {
+            return true;
+        }
+        left -= own;
+    }
+    left == 0
 }

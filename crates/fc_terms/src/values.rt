@@ -12,7 +12,7 @@ ghost use Rattle.fc_kind.specs.Collecting.{BucketsAddUp, CollectsAmong};
 ghost use Rattle.fc_kind.specs.Columns.{FitsColumns, HaveFields};
 ghost use Rattle.fc_terms.specs.Values.{is_value_key};
 
-use crate::density::{holds_much, is_dense};
+use crate::density::{have_many_texts, holds_much, is_dense};
 use crate::long_values::collect_longs;
 use crate::prefix::prefix_span;
 use crate::repeated::are_repeated;
@@ -28,8 +28,8 @@ use fc_segment::{Column, Segment};
 use std::alloc::Global;
 
 // Combines the statistics of the documents in the set into each text that begins with the prefix: by the documents of
-// each text where the set holds much of the segment and nothing is read anew for each text of a document, else side by
-// side where the terms are not many more than the documents, else in runs.
+// each text where the set holds much of the segment and of its texts and nothing is read anew for each text of a document, else
+// side by side where the terms are not many more than the documents, else in runs.
 fn collect_texts(
     alloc: Global,
     segment: &Segment,
@@ -54,6 +54,7 @@ fn collect_texts(
     let span = prefix_span(column, terms);
     let count = docs.count();
     let by_text = holds_much(count, docs.len())
+        && have_many_texts(docs, column, span.1 - span.0)
         && !are_repeated(alloc, segment, docs, column, stats)?;
     if by_text {
         collect_texts_by_postings(alloc, segment, docs, terms, column, span, stats, into)

@@ -6,8 +6,8 @@ use Rattle.fc_domain.proofs.LongRows.{rows_from_to}
 use Rattle.fc_range.proofs.Selected.{all_picked}
 use Rattle.fc_range.proofs.selecting.select_from_to.Goals as goal
 
-pub returns-then-count-found-clause-set : goal.returns-then-count-found-clause-set
-returns-then-count-found-clause-set c = λ test passes.
+pub returns-then-have_fewer-clause-set : goal.returns-then-have_fewer-clause-set
+returns-then-have_fewer-clause-set c = λ test passes.
     let docs = c.args.docs.now in
     let rows = c.args.column.now in
     let least = to_z-of_z w64 c.args.least c.ranges.least in
@@ -16,8 +16,8 @@ returns-then-count-found-clause-set c = λ test passes.
     ∙ ap₂ (λ (x y : ℤ). zip_with ◌&&◌ docs (map (has_between x y) rows)) least greatest
     ∙ ap (zip_with ◌&&◌ docs) (rows_from_to c.args.least c.args.greatest test passes rows c.positions_between-found.ensures.long)
 
-pub returns-else-count-found-clause-set : goal.returns-else-count-found-clause-set
-returns-else-count-found-clause-set c = λ test passes.
+pub returns-else-have_fewer-clause-set : goal.returns-else-have_fewer-clause-set
+returns-else-have_fewer-clause-set c = λ test passes.
     let docs = c.args.docs.now in
     let rows = c.args.column.now in
     let positions = c.positions_between-found.result.now in
