@@ -1,20 +1,23 @@
 -- The base that is rebuilt inside buckets.
 use Rattle.std.proofs.Common.{◌≡◌, ℕ, suc, ◌+◌, ◌<◌, List, [], ◌∷◌, ◌++◌, drop, drop-cons, length, get_or, Bool, true, false, ◌&&◌, refl, sym, ◌∙◌, ap, ap₂, append_assoc, append-nil, add-one}
 use Rattle.std.specs.List.{list_all}
+use Rattle.std.proofs.Math.Bool.{and-true, and_comm}
+use Rattle.std.proofs.lemmas.List.Folds.{list_all-append}
 use Rattle.fc_spec.specs.documents.Document.{Block, Document}
 use Rattle.fc_spec.specs.documents.Sets.{passing, passing_of}
 use Rattle.fc_spec.specs.documents.Val.{Text}
 use Rattle.fc_spec.specs.queries.Matching.{matches}
 use Rattle.fc_spec.specs.requests.Base.{meets_base}
 use Rattle.fc_spec.specs.requests.Buckets.{in_bucket}
-use Rattle.fc_spec.specs.requests.DomainSets.{base_set, bucket_set, filtered_set}
+use Rattle.fc_spec.specs.requests.DomainSets.{bucket_set}
 use Rattle.fc_spec.specs.requests.Paths.{at_root}
 use Rattle.fc_spec.specs.requests.Request.{Request}
 use Rattle.fc_domain.proofs.StepSets.{passing_of-passing}
 use Rattle.fc_partial.specs.View.{key_view}
 use Rattle.fc_request.specs.FacetNode.{facet_view, kind_of, kind_view}
 use Rattle.fc_answers.specs.SetAnswer.{Scope, base_in, scope_on}
-use Rattle.fc_jobs.specs.Scopes.{kept_inside, scope_from, scope_inside, scope_over, tags_in}
+use Rattle.fc_jobs.specs.BasesKept.{kept_base}
+use Rattle.fc_jobs.specs.Scopes.{filters_in, scope_from, scope_inside, scope_over, selected_inside, tags_in}
 use Rattle.fc_jobs.specs.declared.enclosing.Enclosing.{Enclosing}
 
 -- one more facet around
@@ -37,35 +40,39 @@ tags_push (y ∷ xs) x = ap (λ ts. (facet_view y.node.now).change.exclude ++ ts
 
 -- ---- tests one after another
 
-tests_turned : (m b t u : Bool) → ((m && b) && t) && u ≡ (m && t && u) && b
-tests_turned false b t u = refl
-tests_turned true true true true = refl
-tests_turned true true true false = refl
-tests_turned true true false u = refl
-tests_turned true false true true = refl
-tests_turned true false true false = refl
-tests_turned true false false u = refl
+tests_turned : (m b t w u : Bool) → (m && (b && (t && w))) && u ≡ (m && t && u) && (b && w)
+tests_turned false b t w u = refl
+tests_turned true true true w u = and_comm w u
+tests_turned true true false w u = refl
+tests_turned true false true w true = refl
+tests_turned true false true w false = refl
+tests_turned true false false w u = refl
 
 module _ (blocks : List Block) where
-  kept_one : (m b t u : Document → Bool) → passing_of u blocks (passing_of t blocks (passing (λ d. m d && b d) blocks)) ≡ passing (λ d. (m d && t d && u d) && b d) blocks
-  kept_one m b t u =
-      ap (passing_of u blocks) (passing_of-passing (λ d. m d && b d) t blocks)
-      ∙ passing_of-passing (λ d. (m d && b d) && t d) u blocks
-      ∙ (λ i. passing (λ d. tests_turned (m d) (b d) (t d) (u d) i) blocks)
+  -- the filters of one facet come before the filters of those in it, and then its bucket
+  one_inside : (m b t w u : Document → Bool) → passing_of u blocks (passing (λ d. m d && (b d && (t d && w d))) blocks) ≡ passing (λ d. (m d && t d && u d) && (b d && w d)) blocks
+  one_inside m b t w u =
+      passing_of-passing (λ d. m d && (b d && (t d && w d))) u blocks ∙ (λ i. passing (λ d. tests_turned (m d) (b d) (t d) (w d) (u d) i) blocks)
 
-  kept_is : (b : Document → Bool) (o : Scope) (xs : List Enclosing) → kept_inside blocks xs (passing (λ d. o.meets d && b d) blocks) ≡ passing (λ d. (scope_from o xs).meets d && b d) blocks
-  kept_is b o [] = refl
-  kept_is b o (x ∷ xs) =
+  inside_is : (b : Document → Bool) (o : Scope) (xs : List Enclosing)
+      → selected_inside blocks xs (passing (λ d. o.meets d && (b d && list_all (λ q. matches q d) (filters_in xs))) blocks) ≡ passing (λ d. (scope_from o xs).meets d && b d) blocks
+  inside_is b o [] = λ i. passing (λ d. o.meets d && and-true (b d) i) blocks
+  inside_is b o (x ∷ xs) =
       let f = facet_view x.node.now in
-      ap (kept_inside blocks xs) (kept_one o.meets b (λ d. list_all (λ q. matches q d) f.change.filters) (λ d. in_bucket f.kind (key_view x.key.now) d))
-      ∙ kept_is b (scope_inside o x) xs
+      let own : Document → Bool = λ d. in_bucket f.kind (key_view x.key.now) d in
+      ap (selected_inside blocks xs)
+      ((λ i. passing_of own blocks (passing (λ d. o.meets d && (b d && list_all-append (λ q. matches q d) f.change.filters (filters_in xs) i)) blocks))
+      ∙ one_inside o.meets b (λ d. list_all (λ q. matches q d) f.change.filters) (λ d. list_all (λ q. matches q d) (filters_in xs)) own)
+      ∙ inside_is b (scope_inside o x) xs
 
-  pub rebuilt_is : (r : Request) (xs : List Enclosing) (tags : List Text) → kept_inside blocks xs (base_set r (tags_in xs ++ tags) blocks) ≡ base_in (scope_over r xs) tags blocks
+  -- what is kept by all their filters first, and then by their buckets
+  pub rebuilt_is : (r : Request) (xs : List Enclosing) (tags : List Text) → selected_inside blocks xs (kept_base r (tags_in xs ++ tags) (filters_in xs) blocks) ≡ base_in (scope_over r xs) tags blocks
   rebuilt_is r xs tags =
-      kept_is (meets_base r (tags_in xs ++ tags)) (scope_on r at_root) xs
+      ap (selected_inside blocks xs) (passing_of-passing (meets_base r (tags_in xs ++ tags)) (λ d. list_all (λ q. matches q d) (filters_in xs)) blocks)
+      ∙ inside_is (meets_base r (tags_in xs ++ tags)) (scope_on r at_root) xs
       ∙ ap₂ (λ q ts. passing (λ d. (scope_over r xs).meets d && meets_base q (ts ++ tags) d) blocks) (sym (request_from (scope_on r at_root) xs)) (sym (excluded_from (scope_on r at_root) xs))
 
--- what is left to keep, from one facet on
-pub kept_from : (blocks : List Block) (xs : List Enclosing) (i : ℕ) (x : Enclosing) (set : List Bool) → i < length xs → x ≡ get_or xs i x
-    → kept_inside blocks (drop i xs) set ≡ kept_inside blocks (drop (i + 1) xs) (bucket_set (kind_view (kind_of x.node.now)) (key_view x.key.now) blocks (filtered_set (facet_view x.node.now).change.filters blocks set))
-kept_from blocks xs i x set within is = ap (λ ys. kept_inside blocks ys set) (drop-cons xs i x within ∙ ap (λ y. y ∷ drop (suc i) xs) (sym is) ∙ ap (λ j. x ∷ drop j xs) (sym (add-one i)))
+-- the buckets that are left to take, from one facet on
+pub inside_from : (blocks : List Block) (xs : List Enclosing) (i : ℕ) (x : Enclosing) (set : List Bool) → i < length xs → x ≡ get_or xs i x
+    → selected_inside blocks (drop i xs) set ≡ selected_inside blocks (drop (i + 1) xs) (bucket_set (kind_view (kind_of x.node.now)) (key_view x.key.now) blocks set)
+inside_from blocks xs i x set within is = ap (λ ys. selected_inside blocks ys set) (drop-cons xs i x within ∙ ap (λ y. y ∷ drop (suc i) xs) (sym is) ∙ ap (λ j. x ∷ drop j xs) (sym (add-one i)))

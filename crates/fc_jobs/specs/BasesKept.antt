@@ -1,9 +1,12 @@
 -- The bases that are kept for a request.
-use Rattle.std.specs.Prelude.{◌≡◌, ℕ, List, [], All, slice_index_or}
+use Rattle.std.specs.Prelude.{◌≡◌, ℕ, ◌<◌, List, [], Bool, All, length, slice_index_or}
 use Rattle.fc_spec.specs.documents.Document.{Block}
+use Rattle.fc_spec.specs.documents.Val.{Text}
 use Rattle.fc_spec.specs.documents.World.{World}
-use Rattle.fc_spec.specs.requests.DomainSets.{base_set}
+use Rattle.fc_spec.specs.queries.Query.{Query}
+use Rattle.fc_spec.specs.requests.DomainSets.{base_set, filtered_set}
 use Rattle.fc_spec.specs.requests.Request.{Request}
+use Rattle.fc_jobs.specs.FilterLists.{queries_in}
 use Rattle.fc_jobs.specs.declared.bases.Bases.{Bases}
 use Rattle.fc_jobs.specs.declared.bases.KeptBase.{KeptBase}
 
@@ -11,9 +14,13 @@ use Rattle.fc_jobs.specs.declared.bases.KeptBase.{KeptBase}
 abbrev pub HasNone : Bases → Type 0
 HasNone bases = bases.kept.items ≡ []
 
--- the set is that of the request without the filters that have one of its tags, in the segment with its number
+-- the base without the filters with one of the tags, of which what matches each query is kept
+abbrev pub kept_base : Request → List Text → List Query → List Block → List Bool
+kept_base r tags filters blocks = filtered_set filters blocks (base_set r tags blocks)
+
+-- the set is that of the request without the filters that have one of its tags, in the segment with its number, and of it what matches each of its filters
 abbrev pub IsBase : Request → World → KeptBase → Type 0
-IsBase r V b = b.docs ≡ base_set r b.tags.items (slice_index_or V b.at [])
+IsBase r V b = b.docs ≡ kept_base r b.tags.items (queries_in b.filters.items) (slice_index_or V b.at [])
 
 -- each of them is one, over these segments
 abbrev pub AreBases : Request → World → Bases → Type 0
@@ -26,3 +33,8 @@ AreBasesAt r at blocks bases = (V : World) × (slice_index_or V at [] ≡ blocks
 -- over whatever segments they were bases, of which the one with this number has these blocks, they are afterwards
 abbrev pub StayBases : Request → ℕ → List Block → (before after : Bases) → Type 0
 StayBases r at blocks before after = (V : World) → slice_index_or V at [] ≡ blocks → AreBases r V before → AreBases r V after
+
+-- the one with this number is there, and these are its documents
+pub record Holds (bases : Bases) (number : ℕ) (docs : List Bool) : Type 0 where
+  pub there : number < length bases.kept.items
+  pub held : (b : KeptBase) → b ≡ slice_index_or bases.kept.items number b → b.docs ≡ docs

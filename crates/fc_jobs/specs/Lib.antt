@@ -1,5 +1,6 @@
 pub mod BasesKept
 pub mod FacetFits
+pub mod FilterLists
 pub mod Gathered
 pub mod EmptyMissing
 pub mod Scopes

@@ -1,9 +1,11 @@
 -- The scope of a bucket, by the facets around it.
-use Rattle.std.specs.Prelude.{List, [], ◌∷◌, ◌++◌, Bool, IsTrue, All}
+use Rattle.std.specs.Prelude.{List, [], ◌∷◌, ◌++◌, Bool, IsTrue, All, map}
 use Rattle.fc_spec.specs.documents.Document.{Block}
 use Rattle.fc_spec.specs.documents.Val.{Text}
+use Rattle.fc_spec.specs.words.Lists.{joined}
+use Rattle.fc_spec.specs.queries.Query.{Query}
 use Rattle.fc_spec.specs.requests.Buckets.{Key, is_key_of}
-use Rattle.fc_spec.specs.requests.DomainSets.{bucket_set, filtered_set}
+use Rattle.fc_spec.specs.requests.DomainSets.{bucket_set}
 use Rattle.fc_spec.specs.requests.Paths.{at_root}
 use Rattle.fc_spec.specs.requests.Request.{Request}
 use Rattle.fc_domain.specs.FieldsFit.{ChangeFits}
@@ -31,10 +33,14 @@ abbrev pub tags_in : List Enclosing → List Text
 tags_in [] = []
 tags_in (x ∷ xs) = (facet_view x.node.now).change.exclude ++ tags_in xs
 
--- those of a set that match each filter of their domains, and are in the bucket of each
-abbrev pub kept_inside : List Block → List Enclosing → List Bool → List Bool
-kept_inside blocks [] set = set
-kept_inside blocks (x ∷ xs) set = kept_inside blocks xs (bucket_set (kind_view (kind_of x.node.now)) (key_view x.key.now) blocks (filtered_set (facet_view x.node.now).change.filters blocks set))
+-- the filters of their domains
+abbrev pub filters_in : List Enclosing → List Query
+filters_in xs = joined (map (λ x. (facet_view x.node.now).change.filters) xs)
+
+-- those of a set that are in the bucket of each
+abbrev pub selected_inside : List Block → List Enclosing → List Bool → List Bool
+selected_inside blocks [] set = set
+selected_inside blocks (x ∷ xs) set = selected_inside blocks xs (bucket_set (kind_view (kind_of x.node.now)) (key_view x.key.now) blocks set)
 
 -- the node is a facet, the key is its own, and its work can be done in a segment
 pub record KeyFits (texts : List Bool) (n : Node) (k : Key) : Type 0 where

@@ -1,47 +1,52 @@
 // The bases that were made for an ask.
-ghost use Rattle.std.specs.Prelude.{◌≡◌, [], IfOk, IfSome, IsTrue, length, slice_index_or};
-ghost use Rattle.fc_spec.specs.documents.Totals.{document_total};
+ghost use Rattle.std.specs.Prelude.{◌≡◌, ◌<◌, [], Bool, List, IfOk, IfSome, IsTrue, length, slice_index_or};
 ghost use Rattle.fc_spec.specs.documents.World.{World};
-ghost use Rattle.fc_spec.specs.requests.DomainSets.{base_set};
 ghost use Rattle.fc_spec.specs.requests.Request as definition;
 ghost use Rattle.fc_request.specs.RequestView.{request_view};
 ghost use Rattle.fc_domain.specs.FieldsFit.{BaseFits};
+ghost use Rattle.fc_jobs.specs.BasesKept.{kept_base};
+ghost use Rattle.fc_jobs.specs.FilterLists.{AllQueriesFit, queries_in};
 
+use crate::same_filters::are_same;
 use fc_base::{Name, WantMemory};
 use fc_docset::DocSet;
-use fc_domain::base;
+use fc_domain::{base, keep_matching};
+use fc_query::Query;
 use fc_request::Request;
 use fc_segment::Segment;
 use std::alloc::Global;
 
-/// A base that was made: without the filters that have one of these tags, in the segment with this number.
+/// A base that was made: without the filters that have one of these tags, in the segment with this number, and of it what matches
+/// each query of these lists, which are the filters of domains.
 #[derive(Debug, Drop)]
-pub(crate) struct KeptBase {
+pub(crate) struct KeptBase<'a> {
     pub(crate) at: usize,
     pub(crate) tags: Vec<Name>,
+    pub(crate) filters: Vec<&'a [Query]>,
     pub(crate) docs: DocSet,
 }
 
-impl KeptBase {
-    // Whether it is that of this segment and these tags.
-    fn is_of(&self, at: usize, tags: &[Name]) -> bool
-        ensures { IsTrue result → (self.now.at ≡ at) × (self.now.tags.items ≡ tags.now) }
+impl KeptBase<'_> {
+    // Whether it is that of this segment, these tags and these filters.
+    fn is_of(&self, at: usize, tags: &[Name], filters: &[&[Query]]) -> bool
+        ensures { IsTrue result → (self.now.at ≡ at) × (self.now.tags.items ≡ tags.now)
+            × (queries_in self.now.filters.items ≡ queries_in filters.now) }
     {
-        self.at == at && self.tags.as_slice() == tags
+        self.at == at && self.tags.as_slice() == tags && are_same(&self.filters, filters)
     }
 }
 
 /// The bases that were made for an ask, so that none is made again.
 #[derive(Debug, Drop)]
-pub struct Bases {
-    pub(crate) kept: Vec<KeptBase>,
+pub struct Bases<'a> {
+    pub(crate) kept: Vec<KeptBase<'a>>,
 }
 
-impl Bases {
-    ghost use Rattle.fc_jobs.specs.BasesKept.{AreBases, AreBasesAt, HasNone, StayBases};
+impl<'a> Bases<'a> {
+    ghost use Rattle.fc_jobs.specs.BasesKept.{AreBases, AreBasesAt, HasNone, Holds, StayBases};
 
     /// No base yet.
-    pub fn new(alloc: Global) -> Bases
+    pub fn new(alloc: Global) -> Bases<'a>
         ensures { HasNone result }
     {
         Bases {
@@ -49,21 +54,21 @@ impl Bases {
         }
     }
 
-    // The one of this segment and these tags.
-    fn find(&self, at: usize, tags: &[Name]) -> Option<&DocSet>
-        ensures { IfSome result (λ docs. (r : definition.Request) (V : World) → AreBases r V self.now
-            → docs.now ≡ base_set r tags.now (slice_index_or V at [])) }
+    // The number of the one of this segment, these tags and these filters.
+    fn find(&self, at: usize, tags: &[Name], filters: &[&[Query]]) -> Option<usize>
+        ensures { IfSome result (λ number. (r : definition.Request) (V : World) → AreBases r V self.now
+            → Holds self.now number (kept_base r tags.now (queries_in filters.now) (slice_index_or V at []))) }
     {
-        for base in &self.kept {
-            if base.is_of(at, tags) {
-                return Some(&base.docs);
+        for (number, base) in self.kept.iter().enumerate() {
+            if base.is_of(at, tags, filters) {
+                return Some(number);
             }
         }
         None
     }
 
-    /// The base of the request in a segment, which has this number, without the filters that have one of these tags: the one
-    /// that was made, or else a new one, which is kept.
+    /// The base of the request in a segment, which has this number, without the filters that have one of these tags, and of it what
+    /// matches each query of these lists: the number of the one that was made, or else of a new one, which is kept.
     pub(crate) fn base_at(
         &mut self,
         alloc: Global,
@@ -71,21 +76,35 @@ impl Bases {
         segment: &Segment,
         at: usize,
         tags: Vec<Name>,
-    ) -> Result<DocSet, WantMemory>
+        filters: Vec<&'a [Query]>,
+    ) -> Result<usize, WantMemory>
         requires fits { BaseFits segment.now.texts (request_view request.now) }
+        requires filters { AllQueriesFit segment.now.texts filters.items }
         requires kept { AreBasesAt (request_view request.now) at segment.now.blocks self.old }
-        ensures docs { IfOk result (λ docs. docs ≡ base_set (request_view request.now) tags.items segment.now.blocks) }
-        ensures length { IfOk result (λ docs. length docs ≡ document_total segment.now.blocks) }
+        ensures docs { IfOk result (λ number. Holds self.new number
+            (kept_base (request_view request.now) tags.items (queries_in filters.entry.items) segment.now.blocks)) }
         ensures kept { StayBases (request_view request.now) at segment.now.blocks self.old self.new }
     {
-        if let Some(docs) = self.find(at, &tags) {
-            let copy = docs.copy(alloc)?;
-            return Ok(copy);
+        if let Some(number) = self.find(at, &tags, &filters) {
+            return Ok(number);
         }
-        let docs = made(alloc, request, segment, &tags)?;
-        let copy = docs.copy(alloc)?;
-        self.kept.push(KeptBase { at, tags, docs })?;
-        Ok(copy)
+        let docs = made(alloc, request, segment, &tags, &filters)?;
+        let number = self.kept.len();
+        self.kept.push(KeptBase {
+            at,
+            tags,
+            filters,
+            docs,
+        })?;
+        Ok(number)
+    }
+
+    /// The documents of the base with a number.
+    pub(crate) fn docs(&self, number: usize) -> &DocSet
+        requires { number < length self.now.kept.items }
+        ensures { (docs : List Bool) → Holds self.now number docs → result.now ≡ docs }
+    {
+        &self.kept[number].docs
     }
 }
 
@@ -95,11 +114,16 @@ fn made(
     request: &Request,
     segment: &Segment,
     tags: &[Name],
+    filters: &[&[Query]],
 ) -> Result<DocSet, WantMemory>
-    requires { BaseFits segment.now.texts (request_view request.now) }
-    ensures { IfOk result (λ docs. docs ≡ base_set (request_view request.now) tags.now segment.now.blocks) }
+    requires fits { BaseFits segment.now.texts (request_view request.now) }
+    requires filters { AllQueriesFit segment.now.texts filters.now }
+    ensures { IfOk result (λ docs. docs ≡ kept_base (request_view request.now) tags.now (queries_in filters.now) segment.now.blocks) }
 {
     let mut docs = DocSet::empty(alloc, segment.doc_count())?;
     base(alloc, segment, request, tags, &mut docs)?;
+    for queries in filters {
+        keep_matching(alloc, segment, queries, &mut docs)?;
+    }
     Ok(docs)
 }

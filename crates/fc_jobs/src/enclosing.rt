@@ -4,9 +4,9 @@ use fc_request::Node;
 
 /// A facet around a bucket, with the key of its own bucket there.
 #[derive(Debug, Drop)]
-pub struct Enclosing<'a> {
+pub struct Enclosing<'a, 'b> {
     /// The facet.
     pub node: &'a Node,
     /// Of its bucket there.
-    pub key: &'a Key,
+    pub key: &'b Key,
 }

@@ -34,14 +34,14 @@ use std::alloc::Global;
 /// The domain of a facet in a segment, inside the buckets of these facets, from the documents of the innermost one. Where the change
 /// excludes tags, it begins with the base inside those buckets; where it excludes none, no base is asked for, and where there are no
 /// documents besides, none is looked at.
-pub(crate) fn changed(
+pub(crate) fn changed<'a>(
     alloc: Global,
     kinds: &[Box<dyn FacetKind>],
     request: &Request,
     segment: &Segment,
     at: usize,
-    bases: &mut Bases,
-    enclosing: &[Enclosing<'_>],
+    bases: &mut Bases<'a>,
+    enclosing: &[Enclosing<'a, '_>],
     node: &Node,
     docs: &DocSet,
 ) -> Result<DocSet, WantMemory>
@@ -79,14 +79,14 @@ pub(crate) fn changed(
 /// One segment of a facet's job, inside the buckets of these facets, of which the last is the one around it with this key: the facet's
 /// domain there, whose documents are collected into its tally. The segment has this number; what base it needs is taken from the bases,
 /// and one that is new is kept there.
-pub fn facet_unit(
+pub fn facet_unit<'a>(
     alloc: Global,
     kinds: &[Box<dyn FacetKind>],
     request: &Request,
     segment: &Segment,
     at: usize,
-    bases: &mut Bases,
-    enclosing: &[Enclosing<'_>],
+    bases: &mut Bases<'a>,
+    enclosing: &[Enclosing<'a, '_>],
     around: &Node,
     key: &Key,
     docs: &DocSet,

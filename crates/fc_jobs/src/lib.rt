@@ -10,6 +10,7 @@ mod filling;
 mod law;
 mod listing;
 mod rebuilding;
+mod same_filters;
 mod walking;
 
 pub use bases::Bases;

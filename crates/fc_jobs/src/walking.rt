@@ -33,14 +33,14 @@ use fc_segment::Segment;
 use std::alloc::Global;
 
 // The documents of a facet's bucket, from those of the bucket around the facet.
-fn entered(
+fn entered<'a>(
     alloc: Global,
     kinds: &[Box<dyn FacetKind>],
     request: &Request,
     segment: &Segment,
     at: usize,
-    bases: &mut Bases,
-    enclosing: &[Enclosing<'_>],
+    bases: &mut Bases<'a>,
+    enclosing: &[Enclosing<'a, '_>],
     node: &Node,
     key: &Key,
     docs: &DocSet,
@@ -65,11 +65,11 @@ fn entered(
 }
 
 /// The facets along a way from these nodes on, each with the key of its bucket.
-pub fn enclosing_along<'a>(
+pub fn enclosing_along<'a, 'b>(
     alloc: Global,
     all: &'a [Node],
-    way: &'a [Step],
-) -> Result<Vec<Enclosing<'a>>, WantMemory>
+    way: &'b [Step],
+) -> Result<Vec<Enclosing<'a, 'b>>, WantMemory>
     requires { IsTrue (names_keys (nodes_view all.now) (way_view way.now)) }
     ensures scope { IfOk result (λ enclosing. (o : Scope) → scope_from o enclosing.items ≡ scope_along o (nodes_view all.now) (way_view way.now)) }
     ensures fit { IfOk result (λ enclosing. (texts : List Bool) → AllFit texts (nodes_view all.now) → AllEnclosingFit texts enclosing.items) }
@@ -91,13 +91,13 @@ pub fn enclosing_along<'a>(
 
 /// The domain of a facet in a segment, which has this number, in the bucket where a way leads from the base. What other bases it
 /// needs are taken from those that are there, and new ones are kept there.
-pub fn domain_where(
+pub fn domain_where<'a>(
     alloc: Global,
     kinds: &[Box<dyn FacetKind>],
-    request: &Request,
+    request: &'a Request,
     segment: &Segment,
     at: usize,
-    bases: &mut Bases,
+    bases: &mut Bases<'a>,
     base_docs: &DocSet,
     way: &[Step],
     node: &Node,

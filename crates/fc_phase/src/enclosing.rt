@@ -20,12 +20,12 @@ use fc_request::{Node, Request};
 use std::alloc::Global;
 
 // The facets on the way to a top bucket's own, each with the key of its bucket.
-fn on_the_way<'b>(
+fn on_the_way<'a, 'b>(
     alloc: Global,
-    request: &'b Request,
+    request: &'a Request,
     ask: &'b Ask,
     number: usize,
-) -> Result<Vec<Enclosing<'b>>, WantMemory>
+) -> Result<Vec<Enclosing<'a, 'b>>, WantMemory>
     requires number { number < asked_count (ask_view ask.now) }
     requires names { NamesKeys (request_view request.now).nodes (ask_view ask.now) }
     ensures scope { IfOk result (λ enclosing. scope_over (request_view request.now) enclosing.items
@@ -43,13 +43,13 @@ fn on_the_way<'b>(
 }
 
 // The facets around the bucket that is open: those on the way, and those of the levels.
-fn enclosing_at<'b>(
+fn enclosing_at<'a, 'b>(
     alloc: Global,
-    request: &'b Request,
+    request: &'a Request,
     ask: &'b Ask,
     number: usize,
-    levels: &'b [Level<'_>],
-) -> Result<Vec<Enclosing<'b>>, WantMemory>
+    levels: &'b [Level<'a>],
+) -> Result<Vec<Enclosing<'a, 'b>>, WantMemory>
     requires number { number < asked_count (ask_view ask.now) }
     requires names { NamesKeys (request_view request.now).nodes (ask_view ask.now) }
     ensures scope { IfOk result (λ enclosing. scope_over (request_view request.now) enclosing.items
@@ -68,14 +68,14 @@ fn enclosing_at<'b>(
 }
 
 /// The facets around the bucket that is open, where the domain of a facet there asks for them: none where it excludes no tag.
-pub(crate) fn enclosing_for<'b>(
+pub(crate) fn enclosing_for<'a, 'b>(
     alloc: Global,
-    request: &'b Request,
+    request: &'a Request,
     ask: &'b Ask,
     number: usize,
-    levels: &'b [Level<'_>],
+    levels: &'b [Level<'a>],
     node: &Node,
-) -> Result<Vec<Enclosing<'b>>, WantMemory>
+) -> Result<Vec<Enclosing<'a, 'b>>, WantMemory>
     requires number { number < asked_count (ask_view ask.now) }
     requires names { NamesKeys (request_view request.now).nodes (ask_view ask.now) }
     ensures domain { IfOk result (λ enclosing. (blocks : List Block) (set : List Bool)

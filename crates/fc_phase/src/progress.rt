@@ -36,7 +36,7 @@ pub struct Progress<'a> {
     pub(crate) segments: Vec<Arc<Segment>>,
     pub(crate) ask: Ask,
     /// Those without some tags, in the segments where a facet excluded tags.
-    pub(crate) bases: Bases,
+    pub(crate) bases: Bases<'a>,
     pub(crate) done: u64,
     pub(crate) left: u64,
     // There is none once the answer was given, or memory was wanting.

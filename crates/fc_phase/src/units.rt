@@ -68,13 +68,13 @@ fn reach(
 }
 
 // The domain of a wanted bucket's facet in a segment, from the base there.
-fn wanted_domain(
+fn wanted_domain<'a>(
     alloc: Global,
     kinds: &[Box<dyn FacetKind>],
-    request: &Request,
+    request: &'a Request,
     segment: &Segment,
     at: usize,
-    bases: &mut Bases,
+    bases: &mut Bases<'a>,
     ask: &Ask,
     number: usize,
     base_docs: &DocSet,
@@ -111,13 +111,13 @@ fn wanted_domain(
 }
 
 // The domain of a top bucket's facet in a segment: the one that is there, or else a new one, which is the next.
-fn look_at(
+fn look_at<'a>(
     alloc: Global,
     kinds: &[Box<dyn FacetKind>],
-    request: &Request,
+    request: &'a Request,
     segment: &Segment,
     at: usize,
-    bases: &mut Bases,
+    bases: &mut Bases<'a>,
     ask: &Ask,
     number: usize,
     node: &Node,
@@ -171,12 +171,12 @@ fn innermost<'a, 'b>(levels: &'b [Level<'a>]) -> &'b Level<'a>
 }
 
 /// One segment of a top bucket's job, where there is one left.
-pub(crate) fn top_segment(
+pub(crate) fn top_segment<'a>(
     alloc: Global,
     kinds: &[Box<dyn FacetKind>],
-    request: &Request,
+    request: &'a Request,
     segments: &[Arc<Segment>],
-    bases: &mut Bases,
+    bases: &mut Bases<'a>,
     ask: &Ask,
     number: usize,
     roots: &mut Vec<DocSet>,
@@ -223,15 +223,15 @@ pub(crate) fn top_segment(
 }
 
 /// One segment of a facet's job, where there is one left.
-pub(crate) fn facet_segment(
+pub(crate) fn facet_segment<'a>(
     alloc: Global,
     kinds: &[Box<dyn FacetKind>],
-    request: &Request,
+    request: &'a Request,
     segments: &[Arc<Segment>],
-    bases: &mut Bases,
+    bases: &mut Bases<'a>,
     ask: &Ask,
     number: usize,
-    levels: &[Level<'_>],
+    levels: &[Level<'a>],
     job: &mut FacetJob<'_>,
 ) -> Result<(), WantMemory>
     requires covers { Covers (map name kinds.now) }

@@ -1,33 +1,29 @@
-use Rattle.std.proofs.Common.{◌+◌, drop, length, map, ap, sym, ◌∙◌}
-use Rattle.std.proofs.lemmas.List.{drop_all}
-use Rattle.fc_spec.specs.requests.DomainSets.{bucket_set, filtered_set}
-use Rattle.fc_query.specs.QueryView.{query_view}
-use Rattle.fc_partial.specs.View.{key_view}
-use Rattle.fc_request.specs.FacetNode.{kind_of, kind_view}
+use Rattle.std.proofs.Common.{◌≡◌, ◌++◌, length, ap, ap₂, ◌∙◌}
+use Rattle.fc_spec.specs.documents.Totals.{document_total}
 use Rattle.fc_request.specs.RequestView.{request_view}
-use Rattle.fc_jobs.specs.Scopes.{kept_inside}
-use Rattle.fc_jobs.proofs.KeptLengths.{bucket_length}
-use Rattle.fc_jobs.proofs.RebuiltScopes.{kept_from, rebuilt_is}
+use Rattle.fc_jobs.specs.BasesKept.{kept_base}
+use Rattle.fc_jobs.specs.FilterLists.{queries_in}
+use Rattle.fc_jobs.specs.Scopes.{filters_in, selected_inside, tags_in}
+use Rattle.fc_jobs.proofs.KeptLengths.{base_length, inside_length}
+use Rattle.fc_jobs.proofs.RebuiltScopes.{rebuilt_is}
 use Rattle.fc_jobs.proofs.rebuilding.rebuilt.Goals as goal
 
-pub loop-around-preserved : goal.loop-around-preserved
-loop-around-preserved g c =
-    let blocks = c.args.segment.now.blocks in
-    let enclosing = c.args.enclosing.now in
-    let i = c.loop-around.around-index in
-    let x = c.around-item.result in
-    let kind = kind_view (kind_of x.node.now) in
-    let key = key_view x.key.now in
-    record {
-      kept = ap (kept_inside blocks (drop (i + 1) enclosing)) (c.in_ok-docs-2.ensures
-          ∙ ap (bucket_set kind key blocks) (c.in_ok-keep_matching.ensures.set ∙ ap (λ qs. filtered_set (map query_view qs) blocks c.loop-around.docs) c.deref.ensures.value))
-          ∙ sym (kept_from blocks enclosing i x c.loop-around.docs c.loop-around-test.true c.around-item.is) ∙ c.loop-around.invariant.kept;
-      long = ap length c.in_ok-docs-2.ensures ∙ bucket_length kind key blocks c.keep_matching.new.into (c.in_ok-keep_matching.ensures.length ∙ c.loop-around.invariant.long);
-    }
+pub inside_all-requires-clause-docs : goal.inside_all-requires-clause-docs
+inside_all-requires-clause-docs g c =
+    ap length (c.docs.ensures _ c.in_ok-number.ensures.docs) ∙ base_length (request_view c.args.request.now) c.in_ok-tags.tags.items (queries_in c.in_ok-filters.filters.items) c.args.segment.now.blocks
 
 pub returns-clause-set : goal.returns-clause-set
 returns-clause-set g c =
+    let r = request_view c.args.request.now in
     let blocks = c.args.segment.now.blocks in
-    let enclosing = c.args.enclosing.now in
-    sym (ap (λ xs. kept_inside blocks xs c.loop-around.docs) (drop_all c.loop-around.around-index enclosing c.loop-around-test.false))
-    ∙ c.loop-around.invariant.kept ∙ rebuilt_is blocks (request_view c.args.request.now) enclosing c.args.exclude.now
+    let xs = c.args.enclosing.now in
+    let kept : c.docs.result.now ≡ kept_base r (tags_in xs ++ c.args.exclude.now) (filters_in xs) blocks =
+    c.docs.ensures _ c.in_ok-number.ensures.docs ∙ ap₂ (λ ts fs. kept_base r ts fs blocks) c.in_ok-tags.ensures c.in_ok-filters.ensures.queries in
+    c.in_ok-docs.ensures ∙ ap (selected_inside blocks xs) kept ∙ rebuilt_is blocks r xs c.args.exclude.now
+
+pub returns-clause-length : goal.returns-clause-length
+returns-clause-length g c =
+    let blocks = c.args.segment.now.blocks in
+    let long : length c.docs.result.now ≡ document_total blocks =
+    ap length (c.docs.ensures _ c.in_ok-number.ensures.docs) ∙ base_length (request_view c.args.request.now) c.in_ok-tags.tags.items (queries_in c.in_ok-filters.filters.items) blocks in
+    ap length c.in_ok-docs.ensures ∙ inside_length blocks c.args.enclosing.now c.docs.result.now long

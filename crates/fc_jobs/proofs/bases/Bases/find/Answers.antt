@@ -4,4 +4,4 @@ use Rattle.fc_jobs.proofs.bases.Bases.find.Goals as goal
 pub returns-then-is_of : goal.returns-then-is_of
 returns-then-is_of c =
     let own = c.is_of.ensures c.if-is_of.true in
-    λ r V are. found_is r V c.args.self.now _ _ _ c.args.at c.args.tags.now c.deref-base-items.ensures.value c.loop-base-test.true c.base-item.is own.0 own.1 are
+    λ r V are. found_is r V c.args.self.now _ _ _ c.args.at c.args.tags.now _ c.deref-base-items.ensures.value c.loop-number-test.true c.base-item.is own.0 own.1 own.2 are
