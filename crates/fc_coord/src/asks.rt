@@ -14,6 +14,7 @@ use fc_base::WantMemory;
 use fc_lacks::Lack;
 use fc_refine::{Ask, Want};
 use std::alloc::Global;
+use std::sync::Arc;
 
 /// Whether some shard is asked something.
 pub(crate) fn are_awaited(asks: &[Option<Ask>]) -> bool
@@ -88,14 +89,15 @@ fn wants_by_shard(
 }
 
 // An ask for wants, where there are any.
-fn ask_for(wants: Vec<Want>) -> Option<Ask>
-    ensures { option_map ask_view result ≡ state.ask_for (wants_view wants.items) }
+fn ask_for(alloc: Global, mut wants: Vec<Want>) -> Result<Option<Ask>, WantMemory>
+    ensures { IfOk result (λ ask. option_map ask_view ask ≡ state.ask_for (wants_view wants.items)) }
 {
     if wants.is_empty() {
-        None
-    } else {
-        Some(Ask::More(wants))
+        return Ok(None);
     }
+    wants.shrink_to_fit();
+    let wants = Arc::new(alloc, wants)?;
+    Ok(Some(Ask::More(wants)))
 }
 
 // The asks for the wants of each shard.
@@ -104,7 +106,7 @@ fn asks_of(alloc: Global, wants: Vec<Vec<Want>>) -> Result<Vec<Option<Ask>>, Wan
 {
     let mut asks = Vec::with_capacity(alloc, wants.len())?;
     for list in wants {
-        asks.push(ask_for(list))?;
+        asks.push(ask_for(alloc, list)?)?;
     }
     Ok(asks)
 }

@@ -1,7 +1,9 @@
 -- The facets that the steps of wants name.
 use Rattle.std.proofs.Common.{◌≡◌, ℕ, zero, suc, ◌+◌, ◌<◌, ◌≤◌, List, [], ◌∷◌, length, drop, drop-cons, get_or, Bool, true, false, ◌&&◌, IsTrue, Some, refl, sym, ◌∙◌, ap, subst, arith, add-one}
 use Rattle.std.specs.Prelude.{Result, Ok, Err, IfOk}
+use Rattle.std.specs.Arc.{arc_value}
 use Rattle.std.specs.declared.alloc.Global.{Global}
+use Rattle.std.specs.declared.sync.Arc.{Arc}
 use Rattle.std.specs.declared.vec.Vec.{Vec}
 use Rattle.std.specs.List.{AllByRecursion}
 use Rattle.std.proofs.lemmas.List.{length-map}
@@ -35,9 +37,9 @@ split true true h = (refl, refl)
 split true false h = absurd (cc)
 split false b h = absurd (cc)
 
-pub path_is : (ws : List Want) (i : ℕ) (w : Want) → i < length ws → w ≡ get_or ws i w → path_at (wants_view ws) i ≡ way_view w.path.items
+pub path_is : (ws : List Want) (i : ℕ) (w : Want) → i < length ws → w ≡ get_or ws i w → path_at (wants_view ws) i ≡ way_view (arc_value w.path).items
 path_is [] i w h e = absurd (omega (arith, h))
-path_is (v ∷ ws) zero w h e = ap (λ x. way_view x.path.items) (sym e)
+path_is (v ∷ ws) zero w h e = ap (λ (x : Want). way_view (arc_value x.path).items) (sym e)
 path_is (v ∷ ws) (suc i) w h e = path_is ws i w (omega (arith, h)) e
 
 pub node_is_at : (ws : List Want) (i : ℕ) (w : Want) → i < length ws → w ≡ get_or ws i w → node_at (wants_view ws) i ≡ w.node
@@ -51,15 +53,15 @@ key_is (v ∷ ws) zero w h e = ap (λ x. key_view x.key) (sym e)
 key_is (v ∷ ws) (suc i) w h e = key_is ws i w (omega (arith, h)) e
 
 -- a number of an ask for buckets
-pub within_more : (ask : Ask) (wants : Vec Want Global) (i : ℕ) → ask ≡ More wants → i < asked_count (ask_view ask) → i < length wants.items
-within_more ask wants i is h = omega (arith, subst (λ a. i < asked_count (ask_view a)) is h, length-map wants.items want_view)
+pub within_more : (ask : Ask) (wants : Arc (Vec Want Global) Global) (i : ℕ) → ask ≡ More wants → i < asked_count (ask_view ask) → i < length (arc_value wants).items
+within_more ask wants i is h = omega (arith, subst (λ a. i < asked_count (ask_view a)) is h, length-map (arc_value wants).items want_view)
 
 pub copied_key : {E : Type 0} (r : Result code_key.Key E) (k : code_key.Key) (d : Key) → key_view k ≡ d → IfOk r (λ key. key ≡ k) → IfOk r (λ key. key_view key ≡ d)
 copied_key (Ok key) k d e same = ap key_view same ∙ e
 copied_key (Err x) k d e same = tt
 
 -- two of them that stand behind each other
-pub same_at : (ws : List Want) (i : ℕ) (a b : Want) → i + 1 < length ws → a ≡ get_or ws i a → b ≡ get_or ws (i + 1) b → way_view a.path.items ≡ way_view b.path.items → a.node ≡ b.node → (n : ℕ) → n ≡ suc i
+pub same_at : (ws : List Want) (i : ℕ) (a b : Want) → i + 1 < length ws → a ≡ get_or ws i a → b ≡ get_or ws (i + 1) b → way_view (arc_value a.path).items ≡ way_view (arc_value b.path).items → a.node ≡ b.node → (n : ℕ) → n ≡ suc i
     → HasSameDomain (message.more (wants_view ws)) n
 same_at ws i a b h ea eb path node n e = subst (HasSameDomain (message.more (wants_view ws))) (sym e) (paths, nodes)
   where

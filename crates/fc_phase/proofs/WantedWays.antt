@@ -1,7 +1,9 @@
 -- The domain of a wanted bucket's facet.
 use Rattle.std.proofs.Common.{◌≡◌, ℕ, ◌<◌, List, [], ◌∷◌, ◌++◌, length, get_or, Bool, IsTrue, refl, sym, ◌∙◌, ap, subst}
 use Rattle.std.proofs.lemmas.Bool.{and_from}
+use Rattle.std.specs.Arc.{arc_value}
 use Rattle.std.specs.declared.alloc.Global.{Global}
+use Rattle.std.specs.declared.sync.Arc.{Arc}
 use Rattle.std.specs.declared.vec.Vec.{Vec}
 use Rattle.fc_spec.specs.documents.Document.{Block}
 use Rattle.fc_spec.specs.documents.Totals.{document_total}
@@ -38,21 +40,21 @@ pub first_set : (r : Request) (ask : Ask) (number : ℕ) (f : Facet) (blocks : L
 first_set r ask number f blocks base docs is base_is same = same ∙ base_is ∙ sym (ap (λ a. top_set r (ask_view a) number f blocks) is)
 
 -- of a bucket that is asked for it is the domain where the way to it leads
-module _ (r : Request) (ask : Ask) (wants : Vec Want Global) (number : ℕ) (is : ask ≡ More wants) (h : number < asked_count (ask_view ask)) (w : Want) (there : w ≡ get_or wants.items number w) (path : List Step) (same : path ≡ w.path.items) where
+module _ (r : Request) (ask : Ask) (wants : Arc (Vec Want Global) Global) (number : ℕ) (is : ask ≡ More wants) (h : number < asked_count (ask_view ask)) (w : Want) (there : w ≡ get_or (arc_value wants).items number w) (path : List Step) (same : path ≡ (arc_value w.path).items) where
   pub want_named : NamesKeys r.nodes (ask_view ask) → IsTrue (names_keys r.nodes (way_view path))
   want_named names =
       subst (λ ss. IsTrue (names_keys r.nodes (way_view ss))) (sym same)
-      (named_front r.nodes (way_view w.path.items) _ (named_at r.nodes wants.items number w (subst (λ a. NamesKeys r.nodes (ask_view a)) is names) (within_more ask wants number is h) there))
+      (named_front r.nodes (way_view (arc_value w.path).items) _ (named_at r.nodes (arc_value wants).items number w (subst (λ a. NamesKeys r.nodes (ask_view a)) is names) (within_more ask wants number is h) there))
 
   -- its scope is that of the way
   pub want_scope : scope_along (scope_on r at_root) r.nodes (way_view path) ≡ top_scope r (ask_view ask) number
   want_scope =
       ap (λ ss. scope_along (scope_on r at_root) r.nodes (way_view ss)) same
-      ∙ ap (scope_along (scope_on r at_root) r.nodes) (sym (path_is wants.items number w (within_more ask wants number is h) there))
+      ∙ ap (scope_along (scope_on r at_root) r.nodes) (sym (path_is (arc_value wants).items number w (within_more ask wants number is h) there))
       ∙ sym (ap (λ a. top_scope r (ask_view a) number) is)
 
   pub want_set : (f : Facet) (blocks : List Block) (base docs : List Bool) → base ≡ base_set r [] blocks → docs ≡ domain_set (scope_along (scope_on r at_root) r.nodes (way_view path)) blocks f (walked (scope_on r at_root) blocks r.nodes base (way_view path)) → docs ≡ top_set r (ask_view ask) number f blocks
   want_set f blocks base docs base_is docs_are =
       docs_are ∙ (λ i. domain_set (scope_along (scope_on r at_root) r.nodes (way_view (same i))) blocks f (walked (scope_on r at_root) blocks r.nodes (base_is i) (way_view (same i))))
-      ∙ ap (λ way. domain_set (scope_along (scope_on r at_root) r.nodes way) blocks f (walked (scope_on r at_root) blocks r.nodes (base_set r [] blocks) way)) (sym (path_is wants.items number w (within_more ask wants number is h) there))
+      ∙ ap (λ way. domain_set (scope_along (scope_on r at_root) r.nodes way) blocks f (walked (scope_on r at_root) blocks r.nodes (base_set r [] blocks) way)) (sym (path_is (arc_value wants).items number w (within_more ask wants number is h) there))
       ∙ sym (ap (λ a. top_set r (ask_view a) number f blocks) is)

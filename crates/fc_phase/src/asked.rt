@@ -1,5 +1,6 @@
 // The top buckets of an answer, by their numbers.
-ghost use Rattle.std.specs.Prelude.{◌≡◌, ◌<◌, ◌++◌, ◌∷◌, [], IfOk, IsTrue, Some, map};
+ghost use Rattle.std.specs.Prelude.{◌≡◌, ◌<◌, ◌++◌, ◌∷◌, [], IfOk, IsTrue, Some, length, slice_index_or};
+ghost use Rattle.std.specs.Arc.{arc_value};
 ghost use Rattle.fc_spec.specs.documents.Schema.{Schema};
 ghost use Rattle.fc_spec.specs.laws.LacksLaws.{has_key, names_keys};
 ghost use Rattle.fc_spec.specs.messages.Message.{way_of};
@@ -23,6 +24,7 @@ use fc_partial::Key;
 use fc_refine::{Ask, Step, Want};
 use fc_request::{Node, Request};
 use std::alloc::Global;
+use std::sync::Arc;
 
 /// How many top buckets there are.
 pub(crate) fn asked_count(ask: &Ask) -> usize
@@ -32,6 +34,14 @@ pub(crate) fn asked_count(ask: &Ask) -> usize
         Ask::First => 1,
         Ask::More(wants) => wants.len(),
     }
+}
+
+/// A wanted bucket, by its number.
+pub(crate) fn want_at(wants: &Arc<Vec<Want>>, number: usize) -> &Want
+    requires { number < length (arc_value wants.now).items }
+    ensures { result.now ≡ slice_index_or (arc_value wants.now).items number result.now }
+{
+    &wants[number]
 }
 
 /// The facet of a top bucket.
@@ -44,18 +54,18 @@ pub(crate) fn asked_node<'a>(request: &'a Request, ask: &Ask, number: usize) -> 
 {
     match ask {
         Ask::First => &request.root,
-        Ask::More(wants) => wanted_node(&request.root.nodes, &wants[number]),
+        Ask::More(wants) => wanted_node(&request.root.nodes, want_at(wants, number)),
     }
 }
 
 // The facet of a wanted bucket.
 fn wanted_node<'a>(nodes: &'a [Node], want: &Want) -> &'a Node
     requires { IsTrue (names_keys (nodes_view nodes.now) (way_of (want_view want.now))) }
-    ensures facet { facet_at want.now.node (nodes_from (nodes_view nodes.now) (way_view want.now.path.items)) ≡ Some (nested_view result.now) }
+    ensures facet { facet_at want.now.node (nodes_from (nodes_view nodes.now) (way_view (arc_value want.now.path).items)) ≡ Some (nested_view result.now) }
     ensures valid { (s : Schema) → AreValid s (nodes_view nodes.now) → IsValidNode s result.now }
     ensures key { IsTrue (is_key_of (kind_view (kind_of result.now)) (key_view want.now.key)) }
 {
-    let inside = nodes_along(nodes, &want.path, want.node, &want.key);
+    let inside = nodes_along(nodes, want.way(), want.node, &want.key);
     &inside[want.node as usize]
 }
 
@@ -89,7 +99,7 @@ pub(crate) fn asked_key(alloc: Global, ask: &Ask, number: usize) -> Result<Key, 
 {
     match ask {
         Ask::First => Ok(Key::Whole),
-        Ask::More(wants) => wants[number].key.copy(alloc),
+        Ask::More(wants) => want_at(wants, number).key.copy(alloc),
     }
 }
 
@@ -104,16 +114,18 @@ pub(crate) fn has_same_domain(ask: &Ask, number: usize) -> bool
             if number == 0 {
                 return false;
             }
-            same_domain(&wants[number - 1], &wants[number])
+            let before = want_at(wants, number - 1);
+            let here = want_at(wants, number);
+            same_domain(before, here)
         }
     }
 }
 
 // Whether both are of the same facet, in the same bucket.
 fn same_domain(one: &Want, other: &Want) -> bool
-    ensures { IsTrue result → (way_view one.now.path.items ≡ way_view other.now.path.items) × (one.now.node ≡ other.now.node) }
+    ensures { IsTrue result → (way_view (arc_value one.now.path).items ≡ way_view (arc_value other.now.path).items) × (one.now.node ≡ other.now.node) }
 {
-    one.node == other.node && same_way(&one.path, &other.path)
+    one.node == other.node && same_way(one.way(), other.way())
 }
 
 // Whether both ways have the same steps.
@@ -137,48 +149,15 @@ fn same_step(one: &Step, other: &Step) -> bool
     one.node == other.node && one.key == other.key
 }
 
-/// The same ask.
-pub(crate) fn copied(alloc: Global, ask: &Ask) -> Result<Ask, WantMemory>
+/// The same ask, whose wants are shared.
+pub(crate) fn shared(ask: &Ask) -> Result<Ask, WantMemory>
     ensures { IfOk result (λ copy. ask_view copy ≡ ask_view ask.now) }
 {
     match ask {
         Ask::First => Ok(Ask::First),
         Ask::More(wants) => {
-            let copies = copied_wants(alloc, wants)?;
-            Ok(Ask::More(copies))
+            let wants = Arc::try_clone(wants)?;
+            Ok(Ask::More(wants))
         }
     }
-}
-
-fn copied_wants(alloc: Global, wants: &[Want]) -> Result<Vec<Want>, WantMemory>
-    ensures { IfOk result (λ copies. map want_view copies.items ≡ map want_view wants.now) }
-{
-    let mut copies = Vec::with_capacity(alloc, wants.len())?;
-    for want in wants {
-        copies.push(copied_want(alloc, want)?)?;
-    }
-    Ok(copies)
-}
-
-fn copied_want(alloc: Global, want: &Want) -> Result<Want, WantMemory>
-    ensures { IfOk result (λ copy. want_view copy ≡ want_view want.now) }
-{
-    Ok(Want {
-        path: copied_way(alloc, &want.path)?,
-        node: want.node,
-        key: want.key.copy(alloc)?,
-    })
-}
-
-fn copied_way(alloc: Global, way: &[Step]) -> Result<Vec<Step>, WantMemory>
-    ensures { IfOk result (λ steps. steps.items ≡ way.now) }
-{
-    let mut steps = Vec::with_capacity(alloc, way.len())?;
-    for step in way {
-        steps.push(Step {
-            node: step.node,
-            key: step.key.copy(alloc)?,
-        })?;
-    }
-    Ok(steps)
 }

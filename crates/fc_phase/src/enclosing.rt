@@ -12,6 +12,7 @@ ghost use Rattle.fc_partial.specs.View.{key_view};
 ghost use Rattle.fc_refine.specs.Named.{NamesKeys};
 ghost use Rattle.fc_phase.specs.Asked.{asked_count, top_scope};
 
+use crate::asked::want_at;
 use fc_base::WantMemory;
 use fc_jobs::{Enclosing, enclosing_along};
 use fc_levels::Level;
@@ -36,7 +37,8 @@ fn on_the_way<'a, 'b>(
     match ask {
         Ask::First => Ok(Vec::new(alloc)),
         Ask::More(wants) => {
-            let enclosing = enclosing_along(alloc, &request.root.nodes, &wants[number].path)?;
+            let want = want_at(wants, number);
+            let enclosing = enclosing_along(alloc, &request.root.nodes, want.way())?;
             Ok(enclosing)
         }
     }

@@ -13,7 +13,7 @@ ghost use Rattle.fc_phase.specs.Futures.{IsBegun, phase_of};
 ghost use Rattle.fc_phase.specs.Phases.{Turned, left_of};
 
 use crate::Turn;
-use crate::asked::copied;
+use crate::asked::shared;
 use crate::progress::Progress;
 use fc_base::WantMemory;
 use fc_kind::FacetKind;
@@ -80,8 +80,8 @@ impl<'a> PhaseFuture<'a> {
         ensures kinds { IfOk result (λ future. future.kinds.now ≡ kinds.now) }
     {
         let segments = generation.share(alloc)?;
-        let copies = copied(alloc, ask)?;
-        let progress = Progress::begin(alloc, request, segments, copies)?;
+        let own = shared(ask)?;
+        let progress = Progress::begin(alloc, request, segments, own)?;
         Ok(PhaseFuture {
             alloc,
             kinds,

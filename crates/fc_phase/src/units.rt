@@ -15,6 +15,7 @@ ghost use Rattle.fc_phase.specs.Asked.{asked_count, top_set};
 ghost use Rattle.fc_phase.specs.Built.{blocks_in};
 ghost use Rattle.fc_phase.specs.Stepping.{IsFacetStep, IsTopStep, StandsAtFacet, StandsAtTop};
 
+use crate::asked::want_at;
 use crate::enclosing::enclosing_for;
 use crate::jobs::{FacetJob, TopJob};
 use fc_base::WantMemory;
@@ -102,7 +103,7 @@ fn wanted_domain<'a>(
                 at,
                 bases,
                 base_docs,
-                &wants[number].path,
+                want_at(wants, number).way(),
                 node,
             )?;
             Ok(docs)

@@ -37,6 +37,6 @@ fn nodes_along<'a>(nodes: &'a [Node], way: &[Step]) -> &'a [Node]
 pub(crate) fn wanted_nodes<'a>(nodes: &'a [Node], want: &Want) -> &'a [Node]
     ensures { nodes_view result.now ≡ along.nodes_along (nodes_view nodes.now) (way_of (want_view want.now)) }
 {
-    let around = nodes_along(nodes, &want.path);
+    let around = nodes_along(nodes, want.way());
     nodes_in(around, want.node as usize)
 }

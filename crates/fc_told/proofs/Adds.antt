@@ -1,16 +1,15 @@
 -- Told buckets put into the tree, level by level.
-use Rattle.std.proofs.Common.{◌≡◌, ℕ, zero, suc, ◌+◌, ◌<◌, ◌≤◌, ◌-◌, List, [], ◌∷◌, ◌++◌, length, get_or, drop, map, true, false, cond, Some, None, unwrap_or, IsTrue, BTreeMap, Vec, refl, sym, ap, subst, ◌∙◌, ◌&&◌, arith}
+use Rattle.std.proofs.Common.{◌≡◌, ℕ, zero, suc, ◌+◌, ◌<◌, ◌≤◌, List, [], ◌∷◌, ◌++◌, length, get_or, drop, map, true, cond, Some, None, unwrap_or, IsTrue, BTreeMap, Vec, refl, sym, ap, subst, ◌∙◌, ◌&&◌, arith}
 use Rattle.std.specs.Prelude.{slice_set}
 use Rattle.std.specs.BTreeMap.{insert_entry, is_at}
 use Rattle.std.specs.List.Sorted.{IsStrictlySortedBy}
-use Rattle.std.specs.Map.{lookup, keys_of}
+use Rattle.std.specs.Map.{lookup, keys_of, set_value}
 use Rattle.std.specs.Ordering.{nat_cmp, match_ordering, is_eq}
 use Rattle.std.specs.declared.cmp.Ordering.{Ordering}
 use Rattle.std.specs.declared.cmp.Ordering.TheVariants.{Less, Equal, Greater}
 use Rattle.std.proofs.lemmas.Map.{lookup-none}
 use Rattle.std.proofs.lemmas.Map.Entries.{none_below_head}
 use Rattle.std.proofs.lemmas.Map.Keys.{sorted_tail}
-use Rattle.fc_spec.specs.requests.Buckets as definition
 use Rattle.fc_spec.specs.requests.Request.{Nodes, statistic}
 use Rattle.fc_spec.specs.messages.Message.{Rows, no_rows, row, Step, Way, way_of}
 use Rattle.fc_facet.specs.declared.kind.Kind.TheVariants as k
@@ -28,6 +27,7 @@ use Rattle.fc_request.proofs.Nodes.{before, facet_is, statistic_is}
 use Rattle.fc_refine.proofs.Shapes.{nodes_from, target_along}
 use Rattle.std.specs.declared.alloc.Global.{Global}
 use Rattle.std.proofs.lemmas.Bool.{false≢true}
+use Rattle.std.proofs.lemmas.Option.{same_Some}
 use Rattle.fc_spec.specs.laws.LacksLaws.{has_key, names_keys}
 use Rattle.fc_spec.specs.messages.Held.{told_wants}
 use Rattle.fc_spec.specs.messages.Message as message
@@ -37,8 +37,7 @@ use Rattle.fc_spec.specs.requests.Paths.{at_root}
 use Rattle.fc_spec.specs.requests.RequestReading as reading
 use Rattle.fc_request.specs.NodeView as request
 use Rattle.fc_refine.specs.Along.{nodes_along}
-use Rattle.fc_refine.specs.AskView.{want_view, wants_view, way_view}
-use Rattle.fc_refine.specs.declared.ask.Step as ask
+use Rattle.fc_refine.specs.AskView.{want_view, wants_view}
 use Rattle.fc_refine.specs.declared.ask.Want.{Want}
 use Rattle.fc_refine.specs.Named.{NamesKeys}
 use Rattle.fc_told.specs.Adding.{all_added, bucket_added, changed_at, with_teller, sum_of, sizes_added, changed_branch, changed_fork, numbers_added, forks_of, rows_added, partials_added}
@@ -121,6 +120,41 @@ bucket_written f n m written key there w new sorted none writes found is made =
     ∙ ap (λ (x : BTreeMap Key ToldBucket). branches_view x.entries) made ∙ ap branches_view (writes w)
     ∙ branch_put f es key w new sorted none (is ∙ ap (λ b. f (tree_view b)) found) ∙ ap (changed_branch (key_view key) f) (sym (node_is n))
 
+branch_set : (f : Tree → Tree) (es : List (Key × ToldBucket)) (key : Key) (v w : ToldBucket) → IsStrictlySortedBy code_cmp (keys_of es) → tree_view w ≡ f (tree_view v) → lookup (is_at (code_cmp key)) es ≡ Some v
+    → branches_view (set_value (is_at (code_cmp key)) es w) ≡ changed_branch (key_view key) f (branches_view es)
+branch_set f [] key v w sorted is there = absurd (cc)
+branch_set f (e ∷ es) key v w sorted is there = go (code_cmp key e.0) refl there (branch_set f es key v w (sorted_tail code_cmp e.0 (keys_of es) sorted) is)
+  where
+    go : (o : Ordering) → code_cmp key e.0 ≡ o → cond (is_eq o) (Some e.1) (lookup (is_at (code_cmp key)) es) ≡ Some v
+        → (lookup (is_at (code_cmp key)) es ≡ Some v → branches_view (set_value (is_at (code_cmp key)) es w) ≡ changed_branch (key_view key) f (branches_view es))
+        → branches_view (cond (is_eq o) ((e.0, w) ∷ es) (e ∷ set_value (is_at (code_cmp key)) es w))
+        ≡ match_ordering o (branch (key_view key) (f nothing) (branch (key_view e.0) (tree_view e.1) (branches_view es))) (branch (key_view e.0) (f (tree_view e.1)) (branches_view es)) (branch (key_view e.0) (tree_view e.1) (changed_branch (key_view key) f (branches_view es)))
+    go Less h found ih =
+        let absent : lookup (is_at (code_cmp key)) (e ∷ es) ≡ None = lookup-none (is_at (code_cmp key)) (e ∷ es) (none_below_head keys_total key e es sorted h) in
+        let none : lookup (is_at (code_cmp key)) es ≡ None = sym (ap (λ o. cond (is_eq o) (Some e.1) (lookup (is_at (code_cmp key)) es)) h) ∙ absent in
+        absurd (cc)
+    go Equal h found ih = ap (λ T. branch (key_view e.0) T (branches_view es)) (is ∙ ap (λ b. f (tree_view b)) (sym (same_Some e.1 v found)))
+    go Greater h found ih = ap (branch (key_view e.0) (tree_view e.1)) (ih found)
+
+-- a node with a map of other entries
+node_with : (f : Tree → Tree) (n : ToldNode) (m : BTreeMap Key ToldBucket) (key : Key) (es : List (Key × ToldBucket)) → m.entries ≡ es → branches_view es ≡ changed_branch (key_view key) f (branches_view (out-ToldNode n).by_key.entries)
+    → tree.node_view (roll-ToldNode (record { by_key = m })) ≡ changed_branch (key_view key) f (tree.node_view n)
+node_with f n m key es writes is =
+    node_is (roll-ToldNode (record { by_key = m })) ∙ ap (λ r. branches_view r.by_key.entries) (out-roll-ToldNode (record { by_key = m }))
+    ∙ ap branches_view writes ∙ is ∙ ap (changed_branch (key_view key) f) (sym (node_is n))
+
+module _ (f : Tree → Tree) (n : ToldNode) (m : BTreeMap Key ToldBucket) (key : Key) (w : ToldBucket) (sorted : IsStrictlySortedBy code_cmp (keys_of (out-ToldNode n).by_key.entries)) where
+  -- where the bucket is there
+  pub bucket_changed : (v : ToldBucket) → lookup (is_at (code_cmp key)) (out-ToldNode n).by_key.entries ≡ Some v → tree_view w ≡ f (tree_view v) → m.entries ≡ set_value (is_at (code_cmp key)) (out-ToldNode n).by_key.entries w
+      → tree.node_view (roll-ToldNode (record { by_key = m })) ≡ changed_branch (key_view key) f (tree.node_view n)
+  bucket_changed v there is writes = node_with f n m key _ writes (branch_set f (out-ToldNode n).by_key.entries key v w sorted is there)
+
+  -- where it is not
+  pub bucket_put : (new : ToldBucket) → tree_view new ≡ nothing → lookup (is_at (code_cmp key)) (out-ToldNode n).by_key.entries ≡ None → tree_view w ≡ f (tree_view new) → m.entries ≡ insert_entry code_cmp (out-ToldNode n).by_key.entries key w
+      → tree.node_view (roll-ToldNode (record { by_key = m })) ≡ changed_branch (key_view key) f (tree.node_view n)
+  bucket_put new none absent is writes =
+      node_with f n m key _ writes (branch_put f (out-ToldNode n).by_key.entries key w new sorted none (is ∙ ap (λ o. f (tree_view (unwrap_or o new))) (sym absent)))
+
 -- ---- rows
 
 suc_is : (n : ℕ) → suc n ≡ n + 1
@@ -197,10 +231,10 @@ no_facet (x ∷ xs) zero l = absurd (omega arith)
 no_facet (x ∷ xs) (suc i) l = facet_later i (request.node_view x) (nodes_view xs) ∙ no_facet xs i (omega arith)
 
 -- a way that names keys begins with a node that is there
-pub names_within : (xs : List Node) (ss rest : List ask.Step) (s : ask.Step) → ss ≡ s ∷ rest → IsTrue (names_keys (nodes_view xs) (way_view ss)) → length xs ≤ s.node → ⊥
-names_within xs ss rest s split names l =
-    let first = ap (λ l. names_keys (nodes_view xs) (way_view l)) (sym split) in
-    let none = ap (λ o. has_key o (key_view s.key) && names_keys (target.nodes_in o) (way_view rest)) (no_facet xs s.node l) in
+pub names_within : (xs : List Node) (way rest : Way) (s : Step) → way ≡ s ∷ rest → IsTrue (names_keys (nodes_view xs) way) → length xs ≤ s.node → ⊥
+names_within xs way rest s split names l =
+    let first = ap (names_keys (nodes_view xs)) (sym split) in
+    let none = ap (λ o. has_key o s.key && names_keys (target.nodes_in o) rest) (no_facet xs s.node l) in
     false≢true (sym none ∙ first ∙ names)
 
 -- ---- wants

@@ -20,7 +20,6 @@ use Rattle.fc_refine.specs.Along.{nodes_along}
 use Rattle.fc_refine.specs.AskView.{want_view, wants_view}
 use Rattle.fc_refine.specs.declared.ask.Want.{Want}
 use Rattle.fc_refine.proofs.Shapes.{nodes_from, buckets_from, target_along}
-use Rattle.fc_told.specs.Trees as trees
 use Rattle.fc_told.specs.Trees.{Tree, child, at}
 use Rattle.fc_told.specs.Fitting.{numbers_fit, rows_fit, partials_fit, bucket_fits, all_fit}
 

@@ -13,7 +13,6 @@ use Rattle.fc_spec.specs.documents.Val.{Val, val_cmp}
 use Rattle.fc_spec.specs.messages.KeyOrder.{key_cmp}
 use Rattle.fc_spec.specs.requests.Buckets as definition
 use Rattle.fc_partial.specs.View.{key_view}
-use Rattle.fc_partial.specs.declared.key.Key.{Key}
 use Rattle.fc_partial.proofs.ViewedEntries.{keys_of-seen, sorted_seen}
 use Rattle.fc_told.specs.ListedView.{ShardMap, list_of, listed_once}
 use Rattle.fc_base.specs.declared.value.Val as value

@@ -6,3 +6,4 @@ pub mod TreeView
 pub mod Parts
 pub mod SumTests
 pub mod ListedView
+pub mod Steps

@@ -9,28 +9,29 @@ ghost use Rattle.fc_partial.specs.StatsView.{stats_view};
 ghost use Rattle.fc_partial.specs.View.{key_view};
 ghost use Rattle.fc_partial.specs.declared.bucket.PartialBucket.{out-PartialBucket};
 ghost use Rattle.fc_refine.specs.Along.{nodes_along};
-ghost use Rattle.fc_refine.specs.AskView.{ask_view, want_view, wants_view, way_view};
+ghost use Rattle.fc_refine.specs.AskView.{ask_view, want_view, wants_view};
 ghost use Rattle.fc_request.specs.NodeView.{nodes_view};
 ghost use Rattle.fc_told.specs.Adding as adding;
 ghost use Rattle.fc_told.specs.Adding.{all_added, bucket_added, changed_at, changed_branch, changed_fork, numbers_added, partials_added, rows_added};
 ghost use Rattle.fc_refine.specs.Named.{NamesKeys};
 ghost use Rattle.fc_told.specs.Parts.{forks_view};
+ghost use Rattle.fc_told.specs.Steps.{steps_view};
 ghost use Rattle.fc_told.specs.Trees.{Branches};
 ghost use Rattle.fc_told.specs.TreeView as tree;
 ghost use Rattle.fc_told.specs.TreeView.{teller_view, tree_view};
 
 use crate::ToldBucket;
+use crate::steps::StepsLeft;
 use crate::sums::add_sizes;
 use crate::teller::Teller;
 use crate::tree::ToldNode;
 use crate::ways::nodes_in;
 use fc_base::WantMemory;
 use fc_partial::{Key, Message, PartialBucket, PartialNode};
-use fc_refine::{Ask, Step, Want};
+use fc_refine::{Ask, Want};
 use fc_request::{Kind, Node};
 use std::alloc::Global;
 use std::collections::BTreeMap;
-use std::vec::IntoIter;
 
 // A bucket that a shard told.
 #[derive(Drop)]
@@ -171,24 +172,23 @@ fn add_along(
     alloc: Global,
     nodes: &[Node],
     told: &mut ToldBucket,
-    way: IntoIter<Step>,
+    left: StepsLeft<'_>,
     asked: Asked,
 ) -> Result<(), WantMemory>
-    requires { IsTrue (names_keys (nodes_view nodes.now) (way_view way.rest.items)) }
-    ensures { OnOk result (tree_view told.new ≡ changed_at (way_view way.rest.items)
+    requires { IsTrue (names_keys (nodes_view nodes.now) (steps_view left)) }
+    ensures { OnOk result (tree_view told.new ≡ changed_at (steps_view left.entry)
         (bucket_added asked.shard (stats_view (out-PartialBucket asked.bucket).stats)
-        (rows_view (out-PartialBucket asked.bucket).nodes.items) (nodes_along (nodes_view nodes.now) (way_view way.rest.items)))
+        (rows_view (out-PartialBucket asked.bucket).nodes.items) (nodes_along (nodes_view nodes.now) (steps_view left.entry)))
         (tree_view told.old)) }
 {
-    let mut left = way;
     match left.next() {
-        Some(Step { node, key }) => {
+        Some((node, key, behind)) => {
             let number = node as usize;
             prove!(number < nodes.len());
             let inside = &mut told.nodes;
             make_room(alloc, inside, number)?;
             let there = &mut inside[number];
-            add_below(alloc, nodes_in(nodes, number), there, key, left, asked)?;
+            add_below(alloc, nodes_in(nodes, number), there, key, behind, asked)?;
             Ok(())
         }
         None => {
@@ -204,19 +204,28 @@ fn add_below(
     alloc: Global,
     nodes: &[Node],
     told: &mut ToldNode,
-    key: Key,
-    way: IntoIter<Step>,
+    key: &Key,
+    left: StepsLeft<'_>,
     asked: Asked,
 ) -> Result<(), WantMemory>
-    requires { IsTrue (names_keys (nodes_view nodes.now) (way_view way.rest.items)) }
-    ensures { OnOk result (tree.node_view told.new ≡ changed_branch (key_view key) (changed_at (way_view way.rest.items)
+    requires { IsTrue (names_keys (nodes_view nodes.now) (steps_view left)) }
+    ensures { OnOk result (tree.node_view told.new ≡ changed_branch (key_view key.now) (changed_at (steps_view left.entry)
         (bucket_added asked.shard (stats_view (out-PartialBucket asked.bucket).stats)
-        (rows_view (out-PartialBucket asked.bucket).nodes.items) (nodes_along (nodes_view nodes.now) (way_view way.rest.items))))
+        (rows_view (out-PartialBucket asked.bucket).nodes.items) (nodes_along (nodes_view nodes.now) (steps_view left.entry))))
         (tree.node_view told.old)) }
 {
-    let there = told.by_key.entry(key)?.or_insert(ToldBucket::new(alloc));
-    add_along(alloc, nodes, there, way, asked)?;
-    Ok(())
+    match told.by_key.get_mut(key) {
+        Some(there) => {
+            add_along(alloc, nodes, there, left, asked)?;
+            Ok(())
+        }
+        None => {
+            let mut there = ToldBucket::new(alloc);
+            add_along(alloc, nodes, &mut there, left, asked)?;
+            told.by_key.insert(key.copy(alloc)?, there)?;
+            Ok(())
+        }
+    }
 }
 
 // Adds the bucket of a want.
@@ -224,19 +233,16 @@ fn add_wanted(
     alloc: Global,
     nodes: &[Node],
     told: &mut ToldBucket,
-    want: Want,
+    want: &Want,
     asked: Asked,
 ) -> Result<(), WantMemory>
-    requires { IsTrue (names_keys (nodes_view nodes.now) (way_of (want_view want))) }
-    ensures { OnOk result (tree_view told.new ≡ changed_at (way_of (want_view want))
+    requires { IsTrue (names_keys (nodes_view nodes.now) (way_of (want_view want.now))) }
+    ensures { OnOk result (tree_view told.new ≡ changed_at (way_of (want_view want.now))
         (bucket_added asked.shard (stats_view (out-PartialBucket asked.bucket).stats)
-        (rows_view (out-PartialBucket asked.bucket).nodes.items) (nodes_along (nodes_view nodes.now) (way_of (want_view want))))
+        (rows_view (out-PartialBucket asked.bucket).nodes.items) (nodes_along (nodes_view nodes.now) (way_of (want_view want.now))))
         (tree_view told.old)) }
 {
-    let Want { path, node, key } = want;
-    let mut way = path;
-    way.push(Step { node, key })?;
-    add_along(alloc, nodes, told, way.into_iter(), asked)?;
+    add_along(alloc, nodes, told, StepsLeft::to(want), asked)?;
     Ok(())
 }
 
@@ -246,11 +252,11 @@ fn tell_wants(
     nodes: &[Node],
     told: &mut ToldBucket,
     shard: u32,
-    wants: Vec<Want>,
+    wants: &[Want],
     buckets: Vec<PartialBucket>,
 ) -> Result<(), WantMemory>
-    requires { NamesKeys (nodes_view nodes.now) (definition.more (wants_view wants.items)) }
-    ensures { OnOk result (tree_view told.new ≡ all_added (told_wants (nodes_view nodes.now) shard (wants_view wants.items) (buckets_view buckets.items)) (tree_view told.old)) }
+    requires { NamesKeys (nodes_view nodes.now) (definition.more (wants_view wants.now)) }
+    ensures { OnOk result (tree_view told.new ≡ all_added (told_wants (nodes_view nodes.now) shard (wants_view wants.now) (buckets_view buckets.items)) (tree_view told.old)) }
 {
     let mut left = buckets.into_iter();
     for want in wants {
@@ -302,7 +308,7 @@ impl ToldBucket {
                 Ok(())
             }
             Ask::More(wants) => {
-                tell_wants(alloc, nodes, self, shard, wants, message.buckets)?;
+                tell_wants(alloc, nodes, self, shard, &wants, message.buckets)?;
                 Ok(())
             }
         }

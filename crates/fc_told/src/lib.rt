@@ -5,6 +5,7 @@ mod adding;
 mod fitting;
 mod law;
 mod listing;
+mod steps;
 mod sums;
 mod teller;
 mod tree;

@@ -41,7 +41,7 @@ fn nodes_along<'a>(nodes: &'a [Node], way: &[Step]) -> &'a [Node]
 pub(crate) fn wanted_nodes<'a>(nodes: &'a [Node], want: &Want) -> &'a [Node]
     ensures { nodes_view result.now ≡ along.nodes_along (nodes_view nodes.now) (way_of (want_view want.now)) }
 {
-    let around = nodes_along(nodes, &want.path);
+    let around = nodes_along(nodes, want.way());
     nodes_in(around, want.node as usize)
 }
 
@@ -75,6 +75,6 @@ fn bucket_along<'a>(told: &'a ToldBucket, way: &[Step]) -> Option<&'a ToldBucket
 pub(crate) fn wanted_bucket<'a>(told: &'a ToldBucket, want: &Want) -> Option<&'a ToldBucket>
     ensures { tree_there (option_map (λ bucket. bucket.now) result) ≡ trees.at (way_of (want_view want.now)) (tree_view told.now) }
 {
-    let around = bucket_along(told, &want.path);
+    let around = bucket_along(told, want.way());
     child_of(around, want.node as usize, &want.key)
 }

@@ -16,4 +16,7 @@ loop-one-preserved g c =
     let i = c.loop-one.one-index in
     let item = c.one-item.result in
     let first : drop i xs ≡ item ∷ drop (i + 1) xs = rw add-one (drop-cons xs i item c.loop-one-test.true ∙ ap (λ x. x ∷ drop (suc i) xs) (sym c.one-item.is)) in
-    next_made F (map lack_view c.loop-one.lacks.items) (map lack_view c.push_value.new.lacks.items) item (drop (i + 1) xs) (drop i xs) _ first c.in_ok-push_value.ensures c.loop-one.invariant
+    record {
+      made = c.in_ok-push_value.ensures.made;
+      lacks = next_made F (map lack_view c.loop-one.lacks.items) (map lack_view c.push_value.new.lacks.items) item (drop (i + 1) xs) (drop i xs) _ first c.in_ok-push_value.ensures.lacks c.loop-one.invariant.lacks;
+    }

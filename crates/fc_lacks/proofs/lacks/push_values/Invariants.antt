@@ -1,4 +1,5 @@
-use Rattle.std.proofs.Common.{◌≡◌, ◌++◌, drop, map}
+use Rattle.std.proofs.Common.{◌≡◌, ◌++◌, IfSome, drop, map}
+use Rattle.std.specs.Arc.{arc_value}
 use Rattle.std.specs.List.{flat_map}
 use Rattle.fc_spec.specs.messages.Lacks.{want_of}
 use Rattle.fc_spec.specs.requests.Buckets.{value}
@@ -12,4 +13,7 @@ use Rattle.fc_lacks.proofs.lacks.push_values.Given as goal
 abbrev pub invariant-loop-one : goal.invariant-loop-one
 invariant-loop-one g l =
     let F = λ (one : Candidate g.row.R-Bucket.Denot). lacked_by g.R.BucketReading.has l.shards (g.R.BucketReading.held one.bucket) (want_of (way_view l.way) l.node (value (val_view one.val))) in
-    map lack_view l.lacks.items ++ flat_map F (drop l.one-index l.values) ≡ map lack_view l.fn.lacks.items ++ flat_map F l.values
+    record {
+      made : IfSome l.made (λ path. (arc_value path).items ≡ l.way);
+      lacks : map lack_view l.lacks.items ++ flat_map F (drop l.one-index l.values) ≡ map lack_view l.fn.lacks.items ++ flat_map F l.values;
+    }

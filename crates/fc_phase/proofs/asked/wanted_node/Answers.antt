@@ -13,7 +13,7 @@ bounds-inside-want c = (names c.nodes_along-inside.result.now c.args.want.now.no
 pub returns-clause-facet : goal.returns-clause-facet
 returns-clause-facet c =
     let named = names c.nodes_along-inside.result.now c.args.want.now.node (key_view c.args.want.now.key) c.nodes_along-inside.ensures.named in
-    ap (facet_at c.args.want.now.node) (sym (c.nodes_along-inside.ensures.there ∙ ap (λ ss. nodes_from (nodes_view c.args.nodes.now) (way_view ss)) c.deref.ensures.value))
+    ap (facet_at c.args.want.now.node) (sym (c.nodes_along-inside.ensures.there ∙ ap (λ ss. nodes_from (nodes_view c.args.nodes.now) (way_view ss)) c.way.ensures))
     ∙ (named.there c.index-inside-want.result c.index-inside-want.is).0
 
 pub returns-clause-valid : goal.returns-clause-valid

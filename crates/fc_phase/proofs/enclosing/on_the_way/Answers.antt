@@ -11,17 +11,16 @@ use Rattle.fc_jobs.specs.Scopes.{EnclosingFits, scope_over}
 use Rattle.fc_jobs.specs.Walked.{scope_along}
 use Rattle.fc_phase.specs.Asked.{top_scope}
 use Rattle.fc_phase.proofs.AskedNodes.{within_more}
-use Rattle.fc_phase.proofs.Segments.{vec_within}
 use Rattle.fc_phase.proofs.WantedWays.{want_named, want_scope}
 use Rattle.fc_phase.proofs.enclosing.on_the_way.Goals as goal
 
-pub index-requires : goal.index-requires
-index-requires c = vec_within c.in-More.wants c.args.number (within_more c.args.ask.now c.in-More.wants c.args.number c.in-More.is c.requires.number)
+pub want_at-want-requires : goal.want_at-want-requires
+want_at-want-requires c = within_more c.args.ask.now c.in-More.wants c.args.number c.in-More.is c.requires.number
 
 pub enclosing_along-requires : goal.enclosing_along-requires
 enclosing_along-requires c =
-    subst (λ ns. IsTrue (names_keys (nodes_view ns) (way_view c.deref-in-More.result.now))) (sym c.deref.ensures.value)
-    (want_named (request_view c.args.request.now) _ _ c.args.number c.in-More.is c.requires.number _ c.index.ensures _ c.deref-in-More.ensures.value c.requires.names)
+    subst (λ ns. IsTrue (names_keys (nodes_view ns) (way_view c.way.result.now))) (sym c.deref.ensures.value)
+    (want_named (request_view c.args.request.now) _ _ c.args.number c.in-More.is c.requires.number _ c.want_at-want.ensures _ c.way.ensures c.requires.names)
 
 pub returns-in-First-clause-scope : goal.returns-in-First-clause-scope
 returns-in-First-clause-scope c =
@@ -34,8 +33,8 @@ pub returns-in_ok-enclosing-in-More-clause-scope : goal.returns-in_ok-enclosing-
 returns-in_ok-enclosing-in-More-clause-scope c =
     let o = scope_on (request_view c.args.request.now) at_root in
     c.in_ok-enclosing-in-More.ensures.scope o
-    ∙ ap (λ ns. scope_along o (nodes_view ns) (way_view c.deref-in-More.result.now)) c.deref.ensures.value
-    ∙ want_scope (request_view c.args.request.now) _ _ c.args.number c.in-More.is c.requires.number _ c.index.ensures _ c.deref-in-More.ensures.value
+    ∙ ap (λ ns. scope_along o (nodes_view ns) (way_view c.way.result.now)) c.deref.ensures.value
+    ∙ want_scope (request_view c.args.request.now) _ _ c.args.number c.in-More.is c.requires.number _ c.want_at-want.ensures _ c.way.ensures
 
 pub returns-in_ok-enclosing-in-More-clause-fit : goal.returns-in_ok-enclosing-in-More-clause-fit
 returns-in_ok-enclosing-in-More-clause-fit c = λ texts all. c.in_ok-enclosing-in-More.ensures.fit texts (subst (λ ns. AllFit texts (nodes_view ns)) (sym c.deref.ensures.value) all)

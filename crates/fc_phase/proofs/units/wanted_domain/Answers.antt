@@ -1,12 +1,11 @@
 use Rattle.fc_request.specs.FacetNode.{facet_view}
 use Rattle.fc_request.specs.RequestView.{request_view}
 use Rattle.fc_phase.proofs.AskedNodes.{within_more}
-use Rattle.fc_phase.proofs.Segments.{vec_within}
 use Rattle.fc_phase.proofs.WantedWays.{base_long, first_set, want_named, want_set}
 use Rattle.fc_phase.proofs.units.wanted_domain.Goals as goal
 
-pub index-requires : goal.index-requires
-index-requires g c = vec_within c.in-More.wants c.args.number (within_more c.args.ask.now c.in-More.wants c.args.number c.in-More.is c.requires.number)
+pub want_at-requires : goal.want_at-requires
+want_at-requires g c = within_more c.args.ask.now c.in-More.wants c.args.number c.in-More.is c.requires.number
 
 pub domain_where-requires-clause-covers : goal.domain_where-requires-clause-covers
 domain_where-requires-clause-covers g c = c.requires.covers
@@ -21,7 +20,7 @@ pub domain_where-requires-clause-docs : goal.domain_where-requires-clause-docs
 domain_where-requires-clause-docs g c = base_long (request_view c.args.request.now) c.args.segment.now.blocks _ c.requires.docs
 
 pub domain_where-requires-clause-keys : goal.domain_where-requires-clause-keys
-domain_where-requires-clause-keys g c = want_named (request_view c.args.request.now) _ _ c.args.number c.in-More.is c.requires.number _ c.index.ensures _ c.deref.ensures.value c.requires.names
+domain_where-requires-clause-keys g c = want_named (request_view c.args.request.now) _ _ c.args.number c.in-More.is c.requires.number _ c.want_at.ensures _ c.way.ensures c.requires.names
 
 pub domain_where-requires-clause-node : goal.domain_where-requires-clause-node
 domain_where-requires-clause-node g c = c.requires.change
@@ -30,4 +29,4 @@ pub returns-in_ok-copy-in-First-clause-set : goal.returns-in_ok-copy-in-First-cl
 returns-in_ok-copy-in-First-clause-set g c = first_set (request_view c.args.request.now) c.args.ask.now c.args.number (facet_view c.args.node.now) c.args.segment.now.blocks _ _ c.in-First.is c.requires.docs c.in_ok-copy-in-First.ensures
 
 pub returns-in_ok-docs-in-More-clause-set : goal.returns-in_ok-docs-in-More-clause-set
-returns-in_ok-docs-in-More-clause-set g c = want_set (request_view c.args.request.now) _ _ c.args.number c.in-More.is c.requires.number _ c.index.ensures _ c.deref.ensures.value (facet_view c.args.node.now) c.args.segment.now.blocks _ _ c.requires.docs c.in_ok-docs-in-More.ensures.set
+returns-in_ok-docs-in-More-clause-set g c = want_set (request_view c.args.request.now) _ _ c.args.number c.in-More.is c.requires.number _ c.want_at.ensures _ c.way.ensures (facet_view c.args.node.now) c.args.segment.now.blocks _ _ c.requires.docs c.in_ok-docs-in-More.ensures.set

@@ -1,4 +1,4 @@
-use Rattle.std.proofs.Common.{◌≡◌}
+use Rattle.std.proofs.Common.{◌≡◌, drop}
 use Rattle.fc_spec.specs.messages.Held.{told_wants}
 use Rattle.fc_spec.specs.messages.Message as definition
 use Rattle.fc_partial.specs.BucketView.{buckets_view}
@@ -11,7 +11,7 @@ use Rattle.fc_told.proofs.adding.tell_wants.Given as goal
 
 abbrev pub invariant-loop-want : goal.invariant-loop-want
 invariant-loop-want l = record {
-  added : all_added (told_wants (nodes_view l.nodes) l.shard (wants_view l.fn.wants.items) (buckets_view l.fn.buckets.items)) (tree_view l.fn.told)
-      ≡ all_added (told_wants (nodes_view l.nodes) l.shard (wants_view l.want-iterator.rest.items) (buckets_view l.left.rest.items)) (tree_view l.told);
-  named : NamesKeys (nodes_view l.nodes) (definition.more (wants_view l.want-iterator.rest.items));
+  added : all_added (told_wants (nodes_view l.nodes) l.shard (wants_view l.wants) (buckets_view l.fn.buckets.items)) (tree_view l.fn.told)
+      ≡ all_added (told_wants (nodes_view l.nodes) l.shard (wants_view (drop l.want-index l.wants)) (buckets_view l.left.rest.items)) (tree_view l.told);
+  named : NamesKeys (nodes_view l.nodes) (definition.more (wants_view (drop l.want-index l.wants)));
 }
