@@ -131,9 +131,10 @@ impl<'a> Progress<'a> {
             return Err(WantMemory);
         };
         let job = top_job(alloc, request, &ask, 0, Vec::new(alloc))?;
+        let buckets = Vec::with_capacity(alloc, asked_count(&ask))?;
         let building = Building {
             roots: Vec::new(alloc),
-            buckets: Vec::new(alloc),
+            buckets,
             levels: Vec::new(alloc),
             job: Job::Top(job),
         };

@@ -19,11 +19,11 @@ invariant_of-result c =
     job.begun
     job.at
     c.new-2.ensures.items
+    c.in_ok-buckets.ensures.items
     c.new-3.ensures.items
-    c.new-4.ensures.items
     refl
     refl
     c.in-Some.ensures
     (c.in-Some-checked_mul.ensures.1 ∙ ap (λ k. c.in-Some.jobs * k) (c.units_each.ensures ∙ ap units_each (c.len.ensures ∙ c.args.segments.ok.0)))
     refl
-    c.new-5.ensures
+    c.new-4.ensures
