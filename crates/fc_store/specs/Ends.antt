@@ -1,20 +1,19 @@
 -- What the ends of a store show, and how they change.
-use Rattle.std.specs.Prelude.{◌≡◌, ℕ, ◌≤◌, List}
-use Rattle.fc_spec.specs.documents.Document.{Batch}
+use Rattle.std.specs.Prelude.{◌≡◌, ℕ, ◌≤◌}
 use Rattle.fc_spec.specs.documents.Schema.{Schema}
 use Rattle.fc_store.specs.Generated.{Generated}
-use Rattle.fc_store.specs.Charters.{IsChartered}
+use Rattle.fc_store.specs.Charters.{Chartered, IsChartered}
 
 -- a writer, or a note of it: its charter and the schema of its generations, and the number that was published last
 pub record Writing : Type 0 where
   pub schema : Schema
-  pub charter : List Batch
+  pub charter : Chartered
   pub number : ℕ
 
 -- a reader: the same, and the least number that it pins from now on
 pub record Pinning : Type 0 where
   pub schema : Schema
-  pub charter : List Batch
+  pub charter : Chartered
   pub least : ℕ
 
 -- the reader is of the same charter, and pins no lower numbers than before

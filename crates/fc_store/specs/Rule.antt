@@ -3,9 +3,9 @@ use Rattle.std.specs.Prelude.{◌≡◌, ℕ, ◌+◌, ◌≤◌, true, false, L
 use Rattle.std.specs.Arc.{arc_value}
 use mathlib.Core.Option.{some}
 use lib.ListN.{get_elem?}
-use Rattle.fc_spec.specs.documents.Document.{Batch}
+use Rattle.fc_spec.specs.documents.Schema.{Schema}
 use Rattle.fc_store.specs.Generated.{Generated}
-use Rattle.fc_store.specs.Charters.{IsBatchOf, IsChartered}
+use Rattle.fc_store.specs.Charters.{Chartered, IsBatchOf, IsChartered}
 use Rattle.fc_store.specs.Ends.{Writing, Pinning}
 use Rattle.fc_store.specs.declared.rule.Shown.{Shown}
 use Rattle.fc_store.specs.declared.rule.Known.{Known}
@@ -14,7 +14,7 @@ use Rattle.fc_store.specs.declared.rule.Known.{Known}
 
 -- a charter, and the generation that is published
 abbrev pub Content : Type 0
-Content = List Batch × Generated
+Content = Chartered × Generated
 
 abbrev pub content : Shown → Content
 content s = (s.charter, arc_value s.generation)
@@ -37,7 +37,10 @@ Keeps s views = KeepsAt (content s) views
 
 -- an end that knows nothing yet
 abbrev pub nothing : Known
-nothing = record { bound = false; schema = record { shards = 0; fields = [] }; charter = []; at = 0 }
+nothing =
+    let none : Schema = record { shards = 0; fields = [] } in
+    let start : Generated = record { schema = none; number = 0; blocks = [] } in
+    record { bound = false; schema = none; charter = record { start = start; later = [] }; at = 0 }
 
 -- all that there is to know
 abbrev pub known : Content → Known
@@ -92,4 +95,4 @@ pub record IsLed (x : Content) (v : Known) (waiting : List Generated) : Type 0 w
 
 -- segments can be built of the charter's batches
 abbrev pub CanBuild : Content → Type 0
-CanBuild x = All (IsBatchOf x.1.schema) x.0
+CanBuild x = All (IsBatchOf x.1.schema) x.0.later

@@ -1,69 +1,79 @@
 // What a store may publish.
-ghost use Rattle.std.specs.Prelude.{◌≡◌, ◌^◌, ◌<◌, ◌≤◌, IfOk, length, slice_get, Some};
+ghost use Rattle.std.specs.Prelude.{◌≡◌, ◌+◌, ◌-◌, ◌<◌, ◌≤◌, IfOk, length, map, slice_get, Some};
 ghost use Rattle.std.specs.Arc.{arc_value};
 ghost use Rattle.fc_docs.specs.View.{batch_view};
-ghost use Rattle.fc_store.specs.Charters.{first_batches};
+ghost use Rattle.fc_store.specs.Charters.{last_number, IsBegun};
 
+use crate::Generation;
 use fc_base::WantMemory;
 use fc_docs::Batch;
 use std::marker::Model;
 use std::sync::Arc;
 
-/// The batches that a store may publish, in order: the first ones of a shard's batches.
+/// What a store may publish: the generation that it begins with, and behind it one more for each of some batches, in order.
 #[derive(Debug, Drop)]
 pub struct Charter {
+    start: Arc<Generation>,
     batches: Arc<Vec<Batch>>,
-    last: u32,
 }
 
 impl Model for Charter {
-    ghost use Rattle.std.specs.Prelude.{List, ◌≤◌, length};
+    ghost use Rattle.std.specs.Prelude.{◌+◌, ◌≤◌, length, map};
     ghost use Rattle.std.specs.Arc.{arc_value};
-    ghost use Rattle.fc_spec.specs.documents.Document as definition;
-    ghost use Rattle.fc_store.specs.Charters.{first_batches};
+    ghost use Rattle.fc_docs.specs.View.{batch_view};
+    ghost use Rattle.fc_store.specs.Charters.{Chartered, IsBegun};
 
-    ghost Value = { List definition.Batch };
+    ghost Value = { Chartered };
 
-    ghost view = { λ c. first_batches c.last (arc_value c.batches).items };
+    ghost view = { λ c. record { start = arc_value c.start; later = map batch_view (arc_value c.batches).items } };
 
-    ghost invariant = { λ c. (c.last ≤ length (arc_value c.batches).items) × (c.last ≤ 4096) };
+    ghost invariant = { λ c. ((arc_value c.start).number + length (arc_value c.batches).items ≤ 4096)
+        × IsBegun (arc_value c.start) };
 }
 
 impl Charter {
-    /// The first `last` of the batches.
-    pub fn new(batches: Arc<Vec<Batch>>, last: u32) -> Charter
-        requires there { last ≤ length (arc_value batches).items }
-        requires few { last ≤ 4096 }
-        ensures { result ≡ first_batches last (arc_value batches).items }
+    /// A generation, and the batches behind it.
+    pub fn new(start: Arc<Generation>, batches: Arc<Vec<Batch>>) -> Charter
+        requires few { (arc_value start).number + length (arc_value batches).items ≤ 4096 }
+        requires begun { IsBegun (arc_value start) }
+        ensures { result ≡ record { start = arc_value start; later = map batch_view (arc_value batches).items } }
     {
-        Charter { batches, last }
+        Charter { start, batches }
     }
 
     /// The same charter once more.
     pub(crate) fn share(&self) -> Result<Charter, WantMemory>
         ensures { IfOk result (λ charter. charter ≡ self.now) }
     {
+        let start = Arc::try_clone(&self.start)?;
         let batches = Arc::try_clone(&self.batches)?;
-        Ok(Charter {
-            batches,
-            last: self.last,
-        })
+        Ok(Charter { start, batches })
     }
 
-    /// How many batches there are.
-    pub(crate) fn count(&self) -> u32
-        ensures count { result ≡ length self.now }
+    /// The generation that it begins with.
+    pub fn start(&self) -> Result<Arc<Generation>, WantMemory>
+        ensures start { IfOk result (λ start. arc_value start ≡ self.now.start) }
+        ensures begun { IsBegun self.now.start }
+    {
+        let start = Arc::try_clone(&self.start)?;
+        Ok(start)
+    }
+
+    /// The number of its last generation.
+    pub(crate) fn last(&self) -> u64
+        ensures last { result ≡ last_number self.now }
         ensures few { result ≤ 4096 }
     {
-        self.last
+        self.start.number() + self.batches.len() as u64
     }
 
-    /// A batch by its place, from 0.
+    /// The batch behind the generation of a number.
     pub(crate) fn batch(&self, at: u64) -> &Batch
-        requires { at < length self.now }
-        ensures batch { slice_get self.now at ≡ Some (batch_view result.now) }
-        ensures few { length self.now ≤ 4096 }
+        requires from { self.now.start.number ≤ at }
+        requires below { at < last_number self.now }
+        ensures batch { slice_get self.now.later (at - self.now.start.number) ≡ Some (batch_view result.now) }
+        ensures few { last_number self.now ≤ 4096 }
     {
-        &self.batches[at as usize]
+        &self.batches[(at - self.start.number()) as usize]
     }
 }

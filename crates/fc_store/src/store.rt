@@ -1,40 +1,37 @@
 // Opening a store.
 ghost use Rattle.std.specs.Prelude.{◌≡◌, ◌≤◌, All, IfOk, length};
-ghost use Rattle.std.specs.Arc.{arc_value};
-ghost use Rattle.fc_store.specs.Charters.{IsBatchOf, IsChartered};
+ghost use Rattle.fc_store.specs.Charters.{IsBatchOf};
 
-use crate::{Charter, Generation, ShardReader, ShardWriter};
+use crate::{Charter, ShardReader, ShardWriter};
 use fc_base::WantMemory;
 use std::alloc::Global;
-use std::sync::{Arc, Wait};
+use std::sync::Wait;
 
-/// A store that has published `start`, for the charter's generations behind it: its writer, and from 1
+/// A store that has published the start of its charter, for the generations behind it: its writer, and from 1
 /// to 16 readers.
 pub fn open_shard<R: Wait>(
     rt: &R,
     alloc: Global,
-    start: Arc<Generation>,
     charter: Charter,
     readers: u32,
 ) -> Result<(ShardWriter, Vec<ShardReader>), WantMemory>
     requires readers { (1 ≤ readers) × (readers ≤ 16) }
-    requires start { IsChartered charter (arc_value start) }
-    requires batches { All (IsBatchOf (arc_value start).schema) charter }
+    requires batches { All (IsBatchOf charter.start.schema) charter.later }
     ensures writer { IfOk result (λ store. store.0 ≡ record {
-      schema = (arc_value start).schema;
+      schema = charter.start.schema;
       charter = charter;
-      number = (arc_value start).number;
+      number = charter.start.number;
     }) }
     ensures count { IfOk result (λ store. length store.1.items ≡ readers) }
     ensures readers { IfOk result (λ store. All (λ reader. reader ≡ record {
-      schema = (arc_value start).schema;
+      schema = charter.start.schema;
       charter = charter;
-      least = (arc_value start).number;
+      least = charter.start.number;
     }) store.1.items) }
 {
     // a place for each reader, and one for a note to each
     let places = 2 * readers as usize;
-    let mut writer = ShardWriter::open(rt, alloc, start, charter, places)?;
+    let mut writer = ShardWriter::open(rt, alloc, charter, places)?;
     match make_readers(&mut writer, alloc, readers) {
         Ok(made) => Ok((writer, made)),
         Err(want) => {

@@ -1,8 +1,8 @@
 // What a shard's index worker holds.
-ghost use Rattle.std.specs.Prelude.{◌≡◌, ◌+◌, ◌-◌, ◌^◌, ◌<◌, true, [], map, drop, length, MatchResult, IfOk, All};
+ghost use Rattle.std.specs.Prelude.{◌≡◌, ◌+◌, ◌-◌, ◌^◌, ◌<◌, ◌≤◌, true, [], map, drop, length, MatchResult, IfOk, All};
 ghost use Rattle.std.specs.Arc.{arc_value};
 ghost use Rattle.left_right.specs.Sides.{view as view_of};
-ghost use Rattle.fc_store.specs.Charters.{IsBatchOf, IsChartered};
+ghost use Rattle.fc_store.specs.Charters.{last_number, IsBatchOf, IsChartered};
 ghost use Rattle.fc_store.specs.Rule.{content, known, CanBuild, IsLed, IsNext};
 
 use crate::reader::Seated;
@@ -43,29 +43,27 @@ impl Model for ShardWriter {
 }
 
 impl ShardWriter {
-    /// A writer that has published `start`, with places for so many readers and notes.
+    /// A writer that has published the start of its charter, with places for so many readers and notes.
     pub(crate) fn open<R: Wait>(
         rt: &R,
         alloc: Global,
-        start: Arc<Generation>,
         charter: Charter,
         places: usize,
     ) -> Result<ShardWriter, WantMemory>
         requires places { (0 < places) × (places < 2 ^ 32) }
-        requires start { IsChartered charter (arc_value start) }
-        requires batches { All (IsBatchOf (arc_value start).schema) charter }
+        requires batches { All (IsBatchOf charter.start.schema) charter.later }
         ensures { IfOk result (λ writer. writer ≡ record {
-          schema = (arc_value start).schema;
+          schema = charter.start.schema;
           charter = charter;
-          number = (arc_value start).number;
+          number = charter.start.number;
         }) }
     {
         let second = Shown {
-            generation: Arc::try_clone(&start)?,
+            generation: charter.start()?,
             charter: charter.share()?,
         };
         let first = Shown {
-            generation: start,
+            generation: charter.start()?,
             charter: charter.share()?,
         };
         let writer: Led = Writer::new(alloc, first, second, places)?;
@@ -126,16 +124,17 @@ impl ShardWriter {
 
     /// How many generations of the charter are not published yet.
     pub fn commits_left(&self) -> u32
-        ensures { result ≡ length self.now.charter - self.now.number }
+        ensures left { result ≡ last_number self.now.charter - self.now.number }
+        ensures within { self.now.number ≤ last_number self.now.charter }
     {
-        self.charter.count() - self.number() as u32
+        (self.charter.last() - self.number()) as u32
     }
 
     /// Publishes the charter's next generation, whether its batch is empty or not, and answers its
     /// number. It may wait for a reader that is inside its pin. After want of memory the number and what
     /// readers see are as before.
     pub fn commit_next<R: Wait>(&mut self, rt: &R) -> Result<u64, WantMemory>
-        requires { self.old.number < length self.old.charter }
+        requires { self.old.number < last_number self.old.charter }
         ensures { MatchResult result
             (λ number. (number ≡ self.old.number + 1)
             × (self.new ≡ record self.old { number = number }))
@@ -206,7 +205,7 @@ fn prepare(writer: &mut Led, charter: &Charter, alloc: Global) -> Result<(), Wan
     requires batches { CanBuild (content writer.old.desk.shown.value) }
     requires led { IsLed (content writer.old.desk.shown.value) (view_of writer.old.desk.place)
         (map arc_value (drop writer.old.behind writer.old.log.items)) }
-    requires left { (content writer.old.desk.shown.value).1.number < length charter.now }
+    requires left { (content writer.old.desk.shown.value).1.number < last_number charter.now }
     ensures same { writer.new.desk ≡ writer.old.desk }
     ensures next { IsNext (content writer.new.desk.shown.value)
         (map arc_value (drop writer.new.behind writer.new.log.items)) }
