@@ -3,6 +3,7 @@ pub mod AskedAgain
 pub mod OwnLimits
 pub mod SeatTurns
 pub mod SeatLists
+pub mod SlotLists
 pub mod Untold
 pub mod WaitingSeats
 pub mod Begun

@@ -8,7 +8,10 @@ mod round;
 mod searching;
 mod seat;
 mod seats;
+mod slot;
+mod slots;
 mod turns;
+mod workers;
 
 pub use searching::search;
 pub use turns::{FromList, RoundRobin, Turns};

@@ -1,5 +1,5 @@
 // The reply of a search.
-ghost use Rattle.std.specs.Prelude.{◌≡◌, ◌≤◌, All, IfOk, IsTrue, None, length, map};
+ghost use Rattle.std.specs.Prelude.{◌≡◌, ◌<◌, ◌≤◌, All, IfOk, IsTrue, None, OnOk, false, length, map};
 ghost use Rattle.std.specs.Arc.{arc_value};
 ghost use Rattle.fc_spec.specs.documents.World.{single};
 ghost use Rattle.fc_spec.specs.laws.RefinedPaths.{AreFacetsOf, IsBucketOf, val_in};
@@ -10,13 +10,16 @@ ghost use Rattle.fc_spec.specs.requests.Shape.{no_limits};
 ghost use Rattle.fc_spec.specs.requests.ValidRequests.{IsValidRequest};
 ghost use Rattle.fc_spec.specs.scripts.WorldLimits.{IsWithinLimits};
 ghost use Rattle.fc_request.specs.RequestView.{IsRoot, request_view};
+ghost use Rattle.fc_coord.specs.CoordView.{state_view};
 ghost use Rattle.fc_reply.specs.ReplyView.{reply_view};
 ghost use Rattle.fc_kind.specs.Names.{Covers};
-ghost use Rattle.fc_search.specs.Askable.{world_of};
+ghost use Rattle.fc_search.specs.Askable.{AreAskable, world_of};
+ghost use Rattle.fc_search.specs.Hearing.{IsHearing, rounds_left};
 
 use crate::Turns;
 use crate::laws::reply_laws;
 use crate::round::run_round;
+use crate::workers::run_by_workers;
 use fc_base::WantMemory;
 use fc_coord::Coord;
 use fc_kind::FacetKind;
@@ -25,17 +28,50 @@ use fc_request::Request;
 use fc_store::Generation;
 use std::alloc::Global;
 use std::sync::Arc;
+use std::thread::Threads;
 
-/// The distributed reply to a request over the generations of 1 to 64 shards, in the order of the shards, whatever `turns`
-/// answers. Before each turn of a future `turns` is asked once which of the shards that are not done does it. The buckets on refined paths are exact
-/// over all shards, and without limits the reply is that of a single index with all the blocks.
-pub fn search<T: Turns>(
+// A round, by turns or by workers.
+fn next_round<R: Threads + Sync, T: Turns>(
+    rt: &R,
     alloc: Global,
     generations: &[Arc<Generation>],
     request: &Request,
     kinds: &[Box<dyn FacetKind>],
     turns: &mut T,
+    workers: u32,
+    coord: &mut Coord<'_>,
+) -> Result<(), WantMemory>
+    requires workers { 1 ≤ workers }
+    requires covers { Covers (map name kinds.now) }
+    requires askable { AreAskable request.now (map arc_value generations.now) }
+    requires hearing { IsHearing (request_view request.now) (world_of (map arc_value generations.now)) (state_view coord.old) }
+    requires not_ready { (state_view coord.old).ready ≡ false }
+    ensures hearing { OnOk result
+        (IsHearing (request_view request.now) (world_of (map arc_value generations.now)) (state_view coord.new)) }
+    ensures fewer { OnOk result (rounds_left (state_view coord.new) < rounds_left (state_view coord.old)) }
+{
+    if workers == 1 {
+        run_round(alloc, generations, request, kinds, turns, coord)
+    } else {
+        run_by_workers(rt, alloc, generations, request, kinds, workers, coord)
+    }
+}
+
+/// The distributed reply to a request over the generations of 1 to 64 shards, in the order of the shards, whatever `turns`
+/// answers. With one worker `turns` is asked once before each turn of a future which of the shards that are not done does it.
+/// With more it is never asked: the shards that are awaited in a round are cut into at most so many runs of neighbours, and each
+/// run, where there are more than one, has a thread of its own where one can be made. The buckets on refined paths are exact
+/// over all shards, and without limits the reply is that of a single index with all the blocks.
+pub fn search<R: Threads + Sync, T: Turns>(
+    rt: &R,
+    alloc: Global,
+    generations: &[Arc<Generation>],
+    request: &Request,
+    kinds: &[Box<dyn FacetKind>],
+    turns: &mut T,
+    workers: u32,
 ) -> Result<Reply, WantMemory>
+    requires workers { (1 ≤ workers) × (workers ≤ 64) }
     requires covers { Covers (map name kinds.now) }
     requires some { 1 ≤ length generations.now }
     requires root { IsRoot request.now.root }
@@ -53,7 +89,16 @@ pub fn search<T: Turns>(
     reply_laws();
     let mut coord = Coord::begin(alloc, request, generations.len() as u32)?;
     while !coord.ready() {
-        run_round(alloc, generations, request, kinds, turns, &mut coord)?;
+        next_round(
+            rt,
+            alloc,
+            generations,
+            request,
+            kinds,
+            turns,
+            workers,
+            &mut coord,
+        )?;
     }
     let reply = coord.into_reply()?;
     Ok(reply)

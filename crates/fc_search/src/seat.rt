@@ -1,9 +1,10 @@
 // The future of a shard in a round, and its message.
-ghost use Rattle.std.specs.Prelude.{◌≡◌, IfOk, OnOk, false, is_some, map};
+ghost use Rattle.std.specs.Prelude.{◌≡◌, IfOk, OnErr, OnOk, false, is_some, map};
 ghost use Rattle.fc_kind.specs.Names.{Covers};
 ghost use Rattle.fc_partial.specs.BucketView.{message_view};
 ghost use Rattle.fc_phase.specs.Phases.{answer_of};
-ghost use Rattle.fc_search.specs.Seats.{HasTold, IsTurned, Waits, phase_in};
+ghost use Rattle.fc_search.specs.Finished.{IsFinished};
+ghost use Rattle.fc_search.specs.Seats.{HasTold, IsSat, IsTurned, Waits, phase_in};
 
 use fc_base::WantMemory;
 use fc_partial::Message;
@@ -26,6 +27,7 @@ impl Seat<'_> {
         ensures turned { OnOk result (IsTurned self.old self.new) }
         ensures told { IfOk result (λ told. told ≡ is_some self.new.message) }
         ensures kinds { OnOk result (self.new.future.kinds.now ≡ self.old.future.kinds.now) }
+        ensures over { OnErr result (IsFinished self.old self.new) }
     {
         let turn = self.future.turn()?;
         match turn {
@@ -33,6 +35,19 @@ impl Seat<'_> {
             Turn::Done(message) => {
                 self.message = Some(message);
                 Ok(true)
+            }
+        }
+    }
+
+    /// Its future does turns until its message is there or memory is wanting.
+    pub(crate) fn finish(&mut self)
+        requires covers { Covers (map (λ b. name (b.vtable, b.value)) self.old.future.kinds.now) }
+        requires sat { IsSat self.old }
+        ensures { IsFinished self.old self.new }
+    {
+        while self.message.is_none() {
+            if self.turn().is_err() {
+                return;
             }
         }
     }

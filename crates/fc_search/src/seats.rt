@@ -24,8 +24,8 @@ use fc_store::Generation;
 use std::alloc::Global;
 use std::sync::Arc;
 
-// The future of a shard for what it is asked.
-fn future_of<'a>(
+/// The future of a shard for what it is asked.
+pub(crate) fn future_of<'a>(
     alloc: Global,
     generation: &Arc<Generation>,
     request: &'a Request,
