@@ -1,0 +1,13 @@
+pub mod Added
+pub mod Asking
+pub mod Batches
+pub mod EndedLines
+pub mod Numbered
+pub mod Phases
+pub mod Pins
+pub mod Placed
+pub mod SessionSteps
+pub mod Wholes
+pub mod Works
+pub mod WovenSteps
+pub mod WovenTexts
