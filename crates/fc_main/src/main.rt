@@ -7,13 +7,16 @@ use complaint::complaint;
 use fc_io::{StdSink, StdSource};
 use fc_kind::kinds_of;
 use fc_range::{QueryKind, RangeKind};
-use fc_run::{Status, run};
+use fc_run::{NoGate, Status, run};
 use fc_terms::TermsKind;
 use std::alloc::Global;
 use std::io;
 use std::process::ExitCode;
+use std::rt::Env;
+use std::sync::Wait;
+use std::thread::Threads;
 
-fn words_of(rt: &HostRuntime) -> io::Result<Vec<String>> {
+fn words_of<R: Env + AllocGlobal>(rt: &R) -> io::Result<Vec<String>> {
     let mut words = Vec::new(rt.alloc());
     for word in std::env::args(rt)? {
         words.push(word)?;
@@ -22,7 +25,7 @@ fn words_of(rt: &HostRuntime) -> io::Result<Vec<String>> {
 }
 
 /// Words and kinds that can't be had end as want of memory does.
-fn run_program(rt: &HostRuntime) -> Status {
+fn run_program<R: Threads + Wait + Sync + Env + Input + Print + AllocGlobal>(rt: &R) -> Status {
     let alloc = rt.alloc();
     let Ok(words) = words_of(rt) else {
         return Status::Memory;
@@ -41,7 +44,7 @@ fn run_program(rt: &HostRuntime) -> Status {
     };
     let mut source = StdSource::new(rt.reader());
     let mut sink = StdSink::new(io::writer(rt));
-    run(alloc, &words, &mut source, &mut sink, &kinds)
+    run(rt, alloc, &words, &mut source, &mut sink, &kinds, &NoGate)
 }
 
 fn main(rt: HostRuntime) -> ExitCode {

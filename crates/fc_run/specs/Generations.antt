@@ -15,10 +15,6 @@ generation_at s batches n = record { schema = s; number = n; blocks = joined (ta
 abbrev pub generations_at : Schema → List (List Batch) → List ℕ → List Generated
 generations_at s shards numbers = map (λ x. generation_at s x.0 x.1) (zip shards numbers)
 
--- the numbers of generations
-abbrev pub numbers_in : List Generated → List ℕ
-numbers_in gs = map (λ g. g.number) gs
-
 -- the batches of a shard can be committed: they are of the schema, and no more than 4,096
 pub record IsCommittable (s : Schema) (batches : List Batch) : Type 0 where
   pub valid : All (IsBatchOf s) batches

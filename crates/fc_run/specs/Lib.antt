@@ -1,7 +1,9 @@
+pub mod Ending
 pub mod Generations
 pub mod Outcome
+pub mod Phased
 pub mod Progress
-pub mod Replies
 pub mod RunLaws
 pub mod Runnable
 pub mod Searches
+pub mod Words

@@ -1,23 +1,18 @@
 -- What is known of a script that was read, so that its searches can be run.
-use Rattle.std.specs.Prelude.{ℕ, ◌<◌, ◌≤◌, List, [], ◌∷◌, length, map, All, IfOk, slice_index}
+use Rattle.std.specs.Prelude.{◌≡◌, ℕ, ◌<◌, ◌≤◌, List, [], ◌∷◌, length, map, false, All, AllPairs, IfOk, slice_index}
 use Rattle.std.specs.Arc.{arc_value}
 use Rattle.fc_spec.specs.requests.ValidRequests.{IsValidRequest}
+use Rattle.fc_spec.specs.documents.Val.{same_text}
 use Rattle.fc_spec.specs.scripts.WorldLimits.{IsWithinLimits}
 use Rattle.fc_request.specs.RequestView.{IsRoot, request_view}
 use Rattle.fc_script.specs.SoundScripts.{CutLists, IsSoundSearch}
 use Rattle.fc_script.specs.declared.script.Phase.{Phase}
 use Rattle.fc_script.specs.declared.script.Script.{Script}
 use Rattle.fc_script.specs.declared.script.Search.{Search}
-use Rattle.fc_search.specs.Askable.{world_of}
 use Rattle.fc_store.specs.Generated.{Generated}
 use Rattle.fc_run.specs.Generations.{AreCommittable}
 use Rattle.fc_spec.specs.scripts.PhaseTexts.{world_at}
 use Rattle.fc_run.specs.Searches.{lists_in, shards_view}
-
--- there are some generations, and they are within the limits together
-pub record AreSearchable (gs : List Generated) : Type 0 where
-  pub some : 1 ≤ length gs
-  pub limits : IsWithinLimits (world_of gs)
 
 -- its session is one of so many, and its request, where it has no fault, is valid for the schema of each generation and stands in a root as requests do
 pub record IsSearchOf (gs : List Generated) (sessions : ℕ) (q : Search) : Type 0 where
@@ -40,9 +35,12 @@ AreRising before (commits ∷ later) = ((i : ℕ) → slice_index before i ≤ s
 abbrev pub commits_in : List Phase → List (List ℕ)
 commits_in phases = map (λ p. p.commits.items) phases
 
--- there is a shard, the batches of each can be committed, and the phases can be run, one after another
+-- there is a shard, but no more than 64, and no more than 16 sessions, which differ; the batches of each can be committed, and the phases can be run, one after another
 pub record IsRunnable (s : Script) : Type 0 where
   pub some : 1 ≤ length s.batches.items
+  pub few_shards : length s.batches.items ≤ 64
+  pub few : length s.sessions.items ≤ 16
+  pub different : AllPairs (λ a b. same_text a b ≡ false) s.sessions.items
   pub shards : AreCommittable (arc_value s.schema) (shards_view s.batches.items)
   pub phases : All (IsRunnablePhase s) s.phases.items
   pub rising : AreRising (map (λ shard. 0) s.batches.items) (commits_in s.phases.items)

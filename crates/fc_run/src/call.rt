@@ -1,87 +1,74 @@
 // From the bytes of a script to the bytes of its answer.
-ghost use Rattle.std.specs.Prelude.{◌≡◌, ◌↔◌, ◌≤◌, false, map};
+ghost use Rattle.std.specs.Prelude.{◌≡◌, ◌≤◌, ◌⊎◌, IsTrue, None, false, map};
 ghost use Rattle.std.specs.Io.KnownBytes.{IsAtEnd};
 ghost use Rattle.fc_spec.specs.scripts.AskedScripts.{asked_script};
 ghost use Rattle.fc_spec.specs.scripts.Outputs.{IsOutputBy};
 ghost use Rattle.fc_io.specs.Faults.{Rose};
 ghost use Rattle.fc_kind.specs.Names.{Covers};
-ghost use Rattle.fc_run.specs.Outcome.{single_without_limits, takes, Ends, IfDone, IsOneOutput, IsRefinedOutput, Leaves, OnDone, OnRead, OnUsage, OnWrite, WroteFor};
-ghost use Rattle.fc_run.specs.declared.status.Status.TheVariants.{Usage};
+ghost use Rattle.fc_run.specs.Outcome.{single_without_limits, IfDone, IsOneOutput, IsRefinedOutput, Leaves, OnDone, OnRead, OnWrite, WroteFor};
+ghost use Rattle.fc_run.specs.Words.{asked_in, asks_demo, bytes_for};
+ghost use Rattle.fc_run.specs.declared.status.Status.TheVariants.{Memory, Usage};
 
-use crate::run_text::{RunText, run_text_of, too_long};
-use crate::status::Status;
+use crate::Status;
+use crate::sources::run_asked;
 use fc_base::WantMemory;
-use fc_io::{AllRead, Sink, Source, WriteEnd, read_all, write_all};
+use fc_io::{Sink, Source};
 use fc_kind::FacetKind;
-use fc_script::SCRIPT_BYTES;
-use fc_search::RoundRobin;
+use fc_words::read_words;
+use fc_work::Gate;
 use std::alloc::Global;
-
-// Writes the answer, where there is one.
-fn give<K: Sink>(sink: &mut K, answer: &Result<RunText, WantMemory>) -> Status
-    ensures ends { Ends result answer.now (K.written sink.old) (K.written sink.new) }
-    ensures rose { OnWrite result (Rose (K.faults sink.old) (K.faults sink.new)) }
-    ensures never_falls { K.faults sink.old ≤ K.faults sink.new }
-{
-    let (text, status) = match answer {
-        Ok(RunText::Lines(text)) => (text, Status::Done),
-        Ok(RunText::Fault(text)) => (text, Status::Script),
-        Err(WantMemory) => return Status::Memory,
-    };
-    match write_all(sink, text) {
-        WriteEnd::Whole => status,
-        WriteEnd::WriteFault => Status::Write,
-    }
-}
+use std::sync::Wait;
+use std::thread::Threads;
 
 /// Reads a script from `source` and writes its answer to `sink`: one line for each search, in script order, its reply
 /// or the error of its request; or the one line of the script's first fault, and then nothing else. `words` are those of
-/// the command; the first is the program's name. Exactly the lists of one word are taken. `kinds` holds a kind of facet of
-/// each name.
+/// the command: the program's name, and then `--workers N` and `--demo N`, each at most once. `--workers` tells how many may drive
+/// the shards of a search at once, 1 to 64, and changes no reply; with `--demo` nothing is read, and the script is that of the demo
+/// with so many documents, 0 to 200,000. `kinds` holds a kind of facet of each name.
 ///
-/// Every script is taken. Today each search uses the commits of each shard up to the end of its phase; the clauses
-/// promise legal generations, and which of them a search uses only where `one_output` leaves no choice.
+/// Every script is taken. In a phase with searches each shard's commits and each session's searches go on beside each other, in threads
+/// of their own; the clauses promise legal generations, and which of them a search uses only where `one_output` leaves no choice. The lines
+/// of a phase are written when its threads have ended. `gate` is told of each commit and each reply of such a phase.
 ///
 /// The clauses on bytes hold where the source tells the bytes that it has left, and the sink those that were
 /// written.
-pub fn run<S: Source, K: Sink>(
+pub fn run<R: Threads + Wait + Sync, S: Source, K: Sink, G: Gate>(
+    rt: &R,
     alloc: Global,
     words: &[String],
     source: &mut S,
     sink: &mut K,
     kinds: &[Box<dyn FacetKind>],
+    gate: &G,
 ) -> Status
     requires covers { Covers (map name kinds.now) }
-    ensures usage { (result ≡ Usage) ↔ (takes words.now ≡ false) }
-    ensures unread { OnUsage result (S.left source.new ≡ S.left source.old) }
-    ensures uncounted { OnUsage result (S.faults source.new ≡ S.faults source.old) }
-    ensures unwritten { OnUsage result (K.written sink.new ≡ K.written sink.old) }
+    ensures usage { result ≡ Usage → asked_in words.now ≡ None }
+    ensures not_taken { asked_in words.now ≡ None → (result ≡ Usage) ⊎ (result ≡ Memory) }
+    ensures unread { asked_in words.now ≡ None → S.left source.new ≡ S.left source.old }
+    ensures uncounted { asked_in words.now ≡ None → S.faults source.new ≡ S.faults source.old }
+    ensures unwritten { asked_in words.now ≡ None → K.written sink.new ≡ K.written sink.old }
+    ensures demo_unread { IsTrue (asks_demo (asked_in words.now)) → S.left source.new ≡ S.left source.old }
+    ensures demo_uncounted { IsTrue (asks_demo (asked_in words.now)) → S.faults source.new ≡ S.faults source.old }
     ensures read { OnRead result (Rose (S.faults source.old) (S.faults source.new)) }
+    ensures read_source { OnRead result (asks_demo (asked_in words.now) ≡ false) }
     ensures read_unwritten { OnRead result (K.written sink.new ≡ K.written sink.old) }
-    ensures end { IfDone result (IsAtEnd (S.left source.new)) }
+    ensures end { IfDone result (asks_demo (asked_in words.now) ≡ false → IsAtEnd (S.left source.new)) }
     ensures write { OnWrite result (Rose (K.faults sink.old) (K.faults sink.new)) }
     ensures source_never_falls { S.faults source.old ≤ S.faults source.new }
     ensures sink_never_falls { K.faults sink.old ≤ K.faults sink.new }
 
-    ensures leaves { WroteFor (S.left source.old) (K.written sink.old) (K.written sink.new)
+    ensures leaves { WroteFor (bytes_for (asked_in words.now) (S.left source.old)) (K.written sink.old) (K.written sink.new)
         (λ bytes. Leaves result (asked_script bytes)) }
-    ensures single_index { WroteFor (S.left source.old) (K.written sink.old) (K.written sink.new)
+    ensures single_index { WroteFor (bytes_for (asked_in words.now) (S.left source.old)) (K.written sink.old) (K.written sink.new)
         (λ bytes. OnDone result (asked_script bytes) (IsOutputBy single_without_limits)) }
-    ensures refined { WroteFor (S.left source.old) (K.written sink.old) (K.written sink.new)
+    ensures refined { WroteFor (bytes_for (asked_in words.now) (S.left source.old)) (K.written sink.old) (K.written sink.new)
         (λ bytes. OnDone result (asked_script bytes) IsRefinedOutput) }
-    ensures one_output { WroteFor (S.left source.old) (K.written sink.old) (K.written sink.new)
+    ensures one_output { WroteFor (bytes_for (asked_in words.now) (S.left source.old)) (K.written sink.old) (K.written sink.new)
         (λ bytes. OnDone result (asked_script bytes) IsOneOutput) }
 {
-    if words.len() != 1 {
-        return Status::Usage;
-    }
-    match read_all(alloc, source, SCRIPT_BYTES) {
-        Ok(AllRead::Bytes(bytes)) => {
-            let mut turns = RoundRobin::new();
-            give(sink, &run_text_of(alloc, bytes, kinds, &mut turns))
-        }
-        Ok(AllRead::TooLong) => give(sink, &too_long(alloc)),
-        Ok(AllRead::ReadFault) => Status::Read,
+    match read_words(alloc, words) {
+        Ok(Some(options)) => run_asked(rt, alloc, options, source, sink, kinds, gate),
+        Ok(None) => Status::Usage,
         Err(WantMemory) => Status::Memory,
     }
 }

@@ -2,7 +2,7 @@
 ghost use Rattle.fc_run.specs.RunLaws.{AreRunLaws};
 
 use fc_spec::{
-    phase_ends_are_outputs, refined_paths_are_exact, scripts_have_one_output, without_limits,
+    phases_write_outputs, refined_paths_are_exact, scripts_have_one_output, without_limits,
     worlds_are_within_limits,
 };
 
@@ -10,7 +10,7 @@ use fc_spec::{
 pub(crate) fn run_laws()
     ensures { AreRunLaws }
 {
-    phase_ends_are_outputs();
+    phases_write_outputs();
     scripts_have_one_output();
     worlds_are_within_limits();
     without_limits();

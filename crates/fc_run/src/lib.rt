@@ -4,11 +4,15 @@
 mod call;
 mod commits;
 mod laws;
-mod replies;
-mod run_text;
+mod lines;
+mod openings;
+mod phases;
+mod run_script;
 mod shards;
+mod sources;
 mod status;
+mod stop;
 
 pub use call::run;
-pub use run_text::{RunText, run_text_of};
+pub use fc_work::{Gate, NoGate};
 pub use status::Status;

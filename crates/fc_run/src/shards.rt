@@ -47,17 +47,3 @@ pub(crate) fn later_shards(
     }
     Ok(later)
 }
-
-/// The generation of each shard.
-pub(crate) fn generations_of(
-    alloc: Global,
-    shards: &[Committed],
-) -> Result<Vec<Arc<Generation>>, WantMemory>
-    ensures { IfOk result (λ own. map arc_value own.items ≡ map (λ shard. (progress_of shard).generation) shards.now) }
-{
-    let mut own = Vec::with_capacity(alloc, shards.len())?;
-    for shard in shards {
-        own.push(Arc::try_clone(&shard.generation)?)?;
-    }
-    Ok(own)
-}

@@ -1,9 +1,7 @@
 -- The shards of a script, carried on from phase to phase.
-use Rattle.std.proofs.Common.{◌≡◌, ℕ, suc, ◌<◌, ◌≤◌, List, [], ◌∷◌, length, map, take, get_or, refl, sym, ◌∙◌, ap, subst, arith}
+use Rattle.std.proofs.Common.{◌≡◌, ℕ, suc, ◌<◌, ◌≤◌, List, [], ◌∷◌, length, map, take, get_or, refl, ap, arith}
 use Rattle.std.specs.Prelude.{All, slice_index}
 use Rattle.std.specs.List.{zip}
-use Rattle.std.proofs.lemmas.List.{length-map}
-use Rattle.std.proofs.lemmas.Simd.{map-map}
 use Rattle.std.proofs.lemmas.List.Elements.{All-cons, All-head, All-nil, All-tail}
 use Rattle.fc_spec.specs.documents.Schema.{Schema}
 use Rattle.fc_spec.specs.documents.Totals.{document_total, documents_in}
@@ -16,8 +14,7 @@ use Rattle.fc_script.specs.SoundScripts.{CutLists}
 use Rattle.fc_run.specs.Generations.{AreCommittable, IsCommittable, generations_at}
 use Rattle.fc_spec.specs.scripts.PhaseTexts.{world_at}
 use Rattle.fc_run.specs.Searches.{lists_in, shards_view, Shard}
-use Rattle.fc_run.specs.Progress.{CanCarry, CanCarryAll, Progress, all_carried, all_progress_at, progress_at, progress_of}
-use Rattle.fc_run.specs.declared.commits.Committed.{Committed}
+use Rattle.fc_run.specs.Progress.{CanCarry, CanCarryAll, Progress, all_carried, all_progress_at, progress_at}
 use Rattle.fc_run.proofs.scripts.Commits.{Fits, can_carry, carried_is, few_documents}
 
 -- shard by shard
@@ -80,41 +77,3 @@ progress_numbers s [] [] same = refl
 progress_numbers s [] (n ∷ numbers) same = absurd (omega arith)
 progress_numbers s (l ∷ lists) [] same = absurd (omega arith)
 progress_numbers s (l ∷ lists) (n ∷ numbers) same = ap (λ rest. n ∷ rest) (progress_numbers s lists numbers (omega (arith, same)))
-
--- the shards of a phase, each with its number of commits
-pub record PhaseShards (s : Schema) (shards : List Shard) (own : List Committed) (commits : List ℕ) : Type 0 where
-  pub are : map progress_of own ≡ all_progress_at s (lists_in shards) commits
-  pub count : length own ≡ length shards
-  pub numbers : map (λ c. (progress_of c).generation.number) own ≡ commits
-  pub generations : map (λ c. (progress_of c).generation) own ≡ generations_at s (shards_view shards) commits
-
-pub phase_shards : (s : Schema) (shards : List Shard) (own : List Committed) (commits : List ℕ) → map progress_of own ≡ all_progress_at s (lists_in shards) commits → length commits ≡ length shards
-    → PhaseShards s shards own commits
-phase_shards s shards own commits are same = record {
-  are = are;
-  count = sym (length-map own progress_of) ∙ ap length are ∙ progress_count s (lists_in shards) commits lists ∙ length-map shards items;
-  numbers = sym (map-map (λ (p : Progress). p.generation.number) progress_of own) ∙ ap (map (λ (p : Progress). p.generation.number)) are ∙ progress_numbers s (lists_in shards) commits lists;
-  generations = sym (map-map (λ (p : Progress). p.generation) progress_of own) ∙ ap (map (λ (p : Progress). p.generation)) are ∙ progress_generations s shards commits;
-}
-  where
-    items : Shard → List Batch
-    items x = x.items
-
-    lists : length commits ≡ length (lists_in shards)
-    lists = same ∙ sym (length-map shards items)
-
--- from the shards of the phase before
-module _ (s : Schema) (shards : List Shard) (own : List Committed) (before asked commits : List ℕ) (are : map progress_of own ≡ all_progress_at s (lists_in shards) before)
-    (same : length before ≡ length shards) (fit : AllFit s (lists_in shards) commits) (below : Below before commits) (is : asked ≡ commits) where
-  pub later_can : CanCarryAll (map progress_of own) asked
-  later_can = subst (CanCarryAll (map progress_of own)) (sym is) (subst (λ ps. CanCarryAll ps commits) (sym are) (can_carry_all s (lists_in shards) before commits fit below))
-
-  pub later_are : (after : List Committed) → map progress_of after ≡ all_carried (map progress_of own) asked → length commits ≡ length shards → PhaseShards s shards after commits
-  later_are after made count =
-      phase_shards s shards after commits
-      (
-      made
-      ∙ (λ i. all_carried (are i) (is i))
-      ∙ all_carried_is s (lists_in shards) before commits fit below (same ∙ sym (length-map shards (λ x. x.items)))
-      )
-      count

@@ -79,6 +79,8 @@ module _ (s : Schema) (batches : List Batch) (from commits : ℕ) (below : from 
     below = below;
     there = long;
     number = (let count = length-map batches batch_view in let most = fits.shard.few in let here = fits.there in omega (arith, count, most, here, whole));
+    each = valid;
+    begun = λ none. ap (λ n. joined (take n (batches_view batches))) none;
     all = record { valid = all_joined (IsBlockOf s) (batches_view part) (All-weaker (IsBatchOf s) (All (IsBlockOf s)) (λ b here. here.valid) (batches_view part) valid); few = total };
   }
 

@@ -11,7 +11,6 @@ use Rattle.fc_spec.specs.scripts.ScriptFault.{ScriptFault}
 use Rattle.fc_spec.specs.scripts.ScriptParts.{parts_of}
 use Rattle.fc_spec.specs.scripts.ScriptTotals.{script_limits}
 use Rattle.fc_spec.specs.scripts.ValidScripts.{IsWithin}
-use Rattle.fc_docs.specs.declared.block.Batch.{Batch}
 use Rattle.fc_script.specs.PartsView.{batches_view, parts_view}
 use Rattle.fc_script.specs.SoundScripts as sound
 use Rattle.fc_script.specs.SoundScripts.{AreBatchesOf, IsSound}
@@ -23,6 +22,7 @@ use Rattle.fc_run.specs.Runnable.{IsRunnable}
 use Rattle.fc_run.specs.Searches.{shards_view, Shard}
 use Rattle.fc_run.proofs.scripts.Limits.{read_within}
 use Rattle.fc_run.proofs.scripts.Rising.{few_batches, phases_rise}
+use Rattle.fc_run.proofs.scripts.Sessions.{sessions_differ, sessions_few}
 
 -- as many documents as a script may have, as a commit may bring
 batches_of : (s : Schema) (bs : List documents.Batch) → All (sound.IsBatchOf script_limits s) bs → All (IsBatchOf s) bs
@@ -43,6 +43,9 @@ committable s shards valid few = λ k d below. record { valid = all k d below; f
 runnable : AreRunLaws → (S : AskedScript) (s : Script) → parts_of S ≡ parts_view s → IsWithin script_limits S → IsSound script_limits s → IsRunnable s
 runnable laws S s is within sound = record {
   some = omega (arith, sound.shards, sound.schema.some_shards);
+  few_shards = omega (arith, sound.shards, sound.schema.few_shards);
+  few = sessions_few S s is within;
+  different = sessions_differ S s is;
   shards = committable (arc_value s.schema) s.batches.items sound.batches
       (subst (λ parts. All (λ bs. length bs ≤ 4096) parts.batches) is (few_batches S within));
   phases = λ k d below. record {

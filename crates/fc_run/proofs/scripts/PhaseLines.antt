@@ -1,0 +1,115 @@
+-- The lines of a phase, over the batches of its stores and over those of the script.
+use Rattle.std.proofs.Common.{◌≡◌, ℕ, zero, suc, ◌-◌, ◌≤◌, List, [], ◌∷◌, ◌++◌, Bool, true, false, length, map, take, drop, flat_map, Ok, Err, refl, sym, ◌∙◌, ap, arith}
+use Rattle.std.specs.Prelude.{if◌then◌else◌}
+use Rattle.std.proofs.lemmas.List.{length-map, take-map, take-take, take_all}
+use Rattle.std.proofs.lemmas.List.Folds.{flat_map-map}
+use Rattle.fc_spec.specs.documents.Document as documents
+use Rattle.fc_spec.specs.documents.Schema.{Schema}
+use Rattle.fc_spec.specs.documents.Val.{Text, same_text}
+use Rattle.fc_spec.specs.scripts.AskedScripts.{Asked}
+use Rattle.fc_spec.specs.scripts.Lines.{reply_line}
+use Rattle.fc_spec.specs.scripts.Outputs.{Replies}
+use Rattle.fc_spec.specs.scripts.Phases.{Search}
+use Rattle.fc_spec.specs.scripts.PhaseTexts.{ArePhaseLines, IsLineOver, least_after, world_at}
+use Rattle.fc_spec.specs.words.Lists.{joined}
+use Rattle.fc_docs.specs.View.{batch_view}
+use Rattle.fc_docs.specs.declared.block.Batch.{Batch}
+use Rattle.fc_script.specs.PartsView.{batches_view}
+use Rattle.fc_work.specs.Pinned.{batches_of}
+use Rattle.fc_work.proofs.Batches.{batches_count, held_blocks}
+use Rattle.fc_run.specs.Phased.{chartered_batches}
+use Rattle.fc_run.specs.Progress.{all_progress_at, charter_to, progress_at}
+use Rattle.fc_run.specs.Searches.{Shard, lists_in, shards_view}
+use Rattle.fc_run.proofs.scripts.BatchSteps.{blocks_begin}
+use Rattle.fc_run.proofs.scripts.Carried.{AllFit, Below}
+use Rattle.fc_run.proofs.scripts.Commits.{Fits}
+
+-- ---- one shard
+
+joined_part : (j k : ℕ) (batches : List Batch) → j ≤ k → joined (take j (batches_view (take k batches))) ≡ flat_map batch_view (take j batches)
+joined_part j k batches below =
+    ap joined (take-map batch_view j (take k batches) ∙ ap batches_view (take-take j k batches below))
+    ∙ flat_map-map (λ bs. bs) batch_view (take j batches)
+
+pub front_is : (s : Schema) (batches : List Batch) (from commits n : ℕ) → from ≤ n → n ≤ commits
+    → joined (take n (batches_of (charter_to (progress_at s batches from) commits))) ≡ joined (take n (batches_view batches))
+front_is s batches from commits n above below =
+    let blocks = joined (take from (batches_view batches)) in
+    let later = batches_view (take (commits - from) (drop from batches)) in
+    sym (held_blocks from n blocks later (λ none. ap (λ k. joined (take k (batches_view batches))) none) above)
+    ∙ ap (λ bs. blocks ++ bs) (joined_part (n - from) (commits - from) (drop from batches) (omega (arith, above, below)))
+    ∙ blocks_begin batches from n blocks above refl
+
+-- ---- all shards
+
+pub worlds_same : (s : Schema) (shards : List Shard) (before commits g : List ℕ) → length before ≡ length shards → length commits ≡ length shards
+    → Below before g → Below g commits → world_at (chartered_batches (all_progress_at s (lists_in shards) before) commits) g ≡ world_at (shards_view shards) g
+worlds_same s [] before commits g same count above below = refl
+worlds_same s (shard ∷ shards) [] commits g same count above below = absurd (omega (arith, same))
+worlds_same s (shard ∷ shards) (m ∷ before) [] g same count above below = absurd (omega (arith, count))
+worlds_same s (shard ∷ shards) (m ∷ before) (n ∷ commits) [] same count above below = refl
+worlds_same s (shard ∷ shards) (m ∷ before) (n ∷ commits) (k ∷ g) same count above below =
+    let first = front_is s shard.items m n k (above 0) (below 0) in
+    let rest = worlds_same s shards before commits g (omega (arith, same)) (omega (arith, count)) (λ i. above (suc i)) (λ i. below (suc i)) in
+    λ i. first i ∷ rest i
+
+take_most : (k : ℕ) (bs : List Batch) → length (take k bs) ≤ k
+take_most zero bs = omega arith
+take_most (suc k) [] = omega arith
+take_most (suc k) (b ∷ bs) = let rest = take_most k bs in omega (arith, rest)
+
+-- all that the stores of a phase have
+pub world_whole : (s : Schema) (shards : List Shard) (before commits : List ℕ) → length before ≡ length shards → length commits ≡ length shards → AllFit s (lists_in shards) commits
+    → Below before commits → map joined (chartered_batches (all_progress_at s (lists_in shards) before) commits) ≡ world_at (shards_view shards) commits
+world_whole s [] before commits same count fit below = refl
+world_whole s (shard ∷ shards) [] commits same count fit below = absurd (omega (arith, same))
+world_whole s (shard ∷ shards) (m ∷ before) [] same count fit below = absurd (omega (arith, count))
+world_whole s (shard ∷ shards) (m ∷ before) (n ∷ commits) same count fit below =
+    let first = whole fit.0 in
+    let rest = world_whole s shards before commits (omega (arith, same)) (omega (arith, count)) fit.1 (λ i. below (suc i)) in
+    λ i. first i ∷ rest i
+  where
+    whole : Fits s shard.items n → joined (batches_of (charter_to (progress_at s shard.items m) n)) ≡ joined (take n (batches_view shard.items))
+    whole fits = sym (ap joined (take_all n (batches_of (charter_to (progress_at s shard.items m) n)) long)) ∙ front_is s shard.items m n n (below 0) (omega arith)
+      where
+        long : length (batches_of (charter_to (progress_at s shard.items m) n)) ≤ n
+        long =
+            let all = batches_count (charter_to (progress_at s shard.items m) n) in
+            let views = length-map (take (n - m) (drop m shard.items)) batch_view in
+            let most = take_most (n - m) (drop m shard.items) in
+            let here : m ≤ n = below 0 in
+            omega (arith, all, views, most, here)
+
+-- ---- lines
+
+-- numbers that a session has shown are no lower
+least_above : (low g : List ℕ) (least : Text → List ℕ) (session c : Text) → Below low g → ((c : Text) → Below low (least c)) → Below low (least_after least session g c)
+least_above low g least session c here all = go (same_text session c)
+  where
+    go : (b : Bool) → Below low (if b then g else least c)
+    go true = here
+    go false = all c
+
+-- over shards of the same worlds a phase has the same lines
+module _ (reply : Replies) (A B : List (List documents.Batch)) (low high : List ℕ) (same : (g : List ℕ) → Below low g → Below g high → world_at A g ≡ world_at B g) where
+  same_line : (from : List ℕ) (session : Text) (a : Asked) (Rest Later : List ℕ → Text → Type 0) (t : Text) → Below low from → ((g : List ℕ) (rest : Text) → Below low g → Rest g rest → Later g rest)
+      → IsLineOver reply A from high session a Rest t → IsLineOver reply B from high session a Later t
+  same_line from session (Ok r) Rest Later t least next (g, rest, between, is, more) = (
+    g,
+    rest,
+    between,
+    is ∙ ap (λ W. reply_line (reply r W) g session ++ rest) (same g above between.below),
+    next g rest above more,
+  )
+    where
+      above : Below low g
+      above i = let first = least i in let then_ = between.above i in omega (arith, first, then_)
+  same_line from session (Err f) Rest Later t least next (rest, is, more) = (rest, is, next from rest least more)
+
+  pub same_lines : (least : Text → List ℕ) (qs : List (Search Asked)) (t : Text) → ((c : Text) → Below low (least c)) → ArePhaseLines reply A high least qs t → ArePhaseLines reply B high least qs t
+  same_lines least [] t all are = are
+  same_lines least (q ∷ qs) t all are =
+      same_line (least q.session) q.session q.request (λ g rest. ArePhaseLines reply A high (least_after least q.session g) qs rest)
+      (λ g rest. ArePhaseLines reply B high (least_after least q.session g) qs rest) t (all q.session)
+      (λ g rest above more. same_lines (least_after least q.session g) qs rest (λ c. least_above low g least q.session c above all) more)
+      are
