@@ -2,24 +2,35 @@
 ghost use Rattle.std.specs.Prelude.{map};
 ghost use Rattle.fc_kind.specs.Names.{Covers};
 
+mod answered;
 mod calls;
 mod candidates;
+mod demos;
 mod documents;
 mod faults;
+mod gates;
 mod kinds;
+mod meeting;
 mod messages;
+mod noting;
 mod polls;
 mod rounds;
+mod scripts;
+mod searches;
 mod store;
+mod stores;
 mod streams;
 mod turns;
 mod ways;
+mod words;
 
+use fc_io::{MemSink, MemSource};
 use fc_kind::FacetKind;
-use fc_run::{RunText, run_text_of};
-use fc_search::Turns;
+use fc_run::{Gate, Status, run};
 use std::alloc::Global;
+use std::sync::Wait;
 use std::test::Fail;
+use std::thread::Threads;
 
 // Fails where the texts differ, and shows both.
 fn demand(found: &str, wanted: &str) -> Result<(), Fail> {
@@ -30,18 +41,21 @@ fn demand(found: &str, wanted: &str) -> Result<(), Fail> {
     }
 }
 
-// What is written of a script, in an order of turns.
-fn written_in<T: Turns>(
+// What is written of a script without a fault, where this gate is told how it goes on.
+fn written<R: Threads + Wait + Sync, G: Gate>(
+    rt: &R,
     alloc: Global,
     script: &str,
     kinds: &[Box<dyn FacetKind>],
-    turns: &mut T,
+    gate: &G,
 ) -> Result<String, Fail>
     requires { Covers (map name kinds.now) }
 {
-    let bytes = Vec::from_slice(alloc, script.as_bytes())?;
-    let text = match run_text_of(alloc, bytes, kinds, turns)? {
-        RunText::Lines(text) | RunText::Fault(text) => text,
-    };
-    Ok(String::from_utf8_lossy(alloc, &text)?)
+    let words = vec![in alloc; String::from_str(alloc, "facets")?]?;
+    let mut source = MemSource::new(alloc, script.as_bytes(), 4096, &[])?;
+    let mut sink = MemSink::new(alloc, 65_536, 4096, &[])?;
+    match run(rt, alloc, &words, &mut source, &mut sink, kinds, gate) {
+        Status::Done => Ok(String::from_utf8_lossy(alloc, sink.written())?),
+        status => Err(Fail::new(format_args!("{status:?}"))),
+    }
 }

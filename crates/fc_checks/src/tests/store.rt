@@ -22,17 +22,17 @@ const BATCHES: [&[&str]; 3] = [
     &[r#"{"id":"3","cat":"c"}"#],
 ];
 
-// A charter of batches with these blocks.
-fn charter_of(alloc: Global, schema: &Schema, batches: &[&[&str]]) -> Result<Charter, Fail>
+// A charter of batches with these blocks, from no commit on.
+fn charter_of(alloc: Global, schema: &Arc<Schema>, batches: &[&[&str]]) -> Result<Charter, Fail>
     requires { length batches.now ≤ 4096 }
-    ensures { IfOk result (λ charter. All (IsBatchOf schema.now) charter) }
+    ensures { IfOk result (λ charter. All (IsBatchOf charter.start.schema) charter.later) }
 {
     let mut read = Vec::new(alloc);
     for blocks in batches {
         read.push(batch_of(alloc, schema, blocks)?)?;
     }
-    let last = read.len() as u32;
-    Ok(Charter::new(Arc::new(alloc, read)?, last))
+    let start = Generation::first(alloc, Arc::try_clone(schema)?)?;
+    Ok(Charter::new(start, Arc::new(alloc, read)?))
 }
 
 // A store of these batches with two readers.
@@ -48,8 +48,7 @@ fn open(rt: &(impl Abort + Wait), alloc: Global, batches: &[&[&str]]) -> Result<
 {
     let schema = schema_of(alloc, SCHEMA)?;
     let charter = charter_of(alloc, &schema, batches)?;
-    let start = Generation::first(alloc, schema)?;
-    let (writer, mut readers) = open_shard(rt, alloc, start, charter, 2)?;
+    let (writer, mut readers) = open_shard(rt, alloc, charter, 2)?;
     match (readers.pop(), readers.pop()) {
         (Some(other), Some(one)) => Ok(Opened { writer, one, other }),
         _ => {

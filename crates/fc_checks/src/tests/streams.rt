@@ -1,7 +1,7 @@
 // Sources and sinks that falter: what fails is told, and not tried again.
 use super::kinds::kinds_in;
 use fc_io::{AllRead, MemSink, MemSource, StdSink, StdSource, WriteEnd, read_all, write_all};
-use fc_run::{Status, run};
+use fc_run::{NoGate, Status, run};
 use std::alloc::Global;
 use std::io;
 use std::io::{Read, Write};
@@ -104,7 +104,7 @@ fn runs_over_streams(rt: HostRuntime) -> Result<(), Fail> {
     for (failing_reads, room, failing_writes, status, counted, written) in STREAMS {
         let mut source = MemSource::new(alloc, SCRIPT.as_bytes(), 16, failing_reads)?;
         let mut sink = MemSink::new(alloc, *room, 7, failing_writes)?;
-        let found = run(alloc, &words, &mut source, &mut sink, &kinds);
+        let found = run(&rt, alloc, &words, &mut source, &mut sink, &kinds, &NoGate);
         let faults = (source.faults(), sink.faults());
         assert!(rt;
             found == *status && sink.written() == written.as_bytes() && faults == *counted,

@@ -1,60 +1,23 @@
 // Who is asked for a turn, how often, and every order of four turns.
-ghost use Rattle.std.specs.Prelude.{◌<◌, length};
-
+use super::demand;
 use super::kinds::{counted_kinds, kinds_in};
-use super::{demand, written_in};
-use fc_search::{FromList, Turns};
+use super::noting::Noting;
+use super::searches::{Asked, lines_of};
+use fc_search::FromList;
 use std::alloc::Global;
 use std::sync::Arc;
-use std::sync::atomic::{AtomicU64, Ordering};
+use std::sync::atomic::AtomicU64;
 use std::test::Fail;
 
-// Always the first one that waits. It notes who waits, a digit for each turn, and how many turns called no kind.
-#[derive(Drop)]
-struct Noting {
-    kinds: Arc<AtomicU64>,
-    calls: u64,
-    noted: u64,
-    idle: u64,
-}
-
-impl Noting {
-    // Looks behind a turn.
-    fn look(&mut self) {
-        let calls = self.kinds.load(Ordering::SeqCst);
-        if calls == self.calls {
-            self.idle = self.idle.saturating_add(1);
-        }
-        self.calls = calls;
-    }
-}
-
-impl Turns for Noting {
-    fn next(&mut self, waiting: &[u32]) -> usize
-        requires { 0 < length waiting.now }
-        ensures { result < length waiting.now }
-    {
-        if self.noted > 0 {
-            self.look();
-        }
-        // The sum of 1 for shard 0, 2 for shard 1 and 4 for shard 2.
-        let mut digit = 0;
-        for shard in waiting {
-            digit |= 1_u64.checked_shl(*shard).unwrap_or(0);
-        }
-        self.noted = self.noted.saturating_mul(10).saturating_add(digit);
-        0
-    }
-}
-
-// A script, its lines, who waits at each turn, and how many turns call no kind.
-type Row = (&'static str, &'static str, u64, u64);
+// What is asked, its lines, who waits at each turn, and how many turns call no kind.
+type Row = (Asked, &'static str, u64, u64);
 
 const ROWS: &[Row] = &[
     // A shard of one segment has two turns in the first round, for its root and for its list. The second one offers c alone; in
     // the first search it is not asked for a, and in the second it is, and has one turn more.
     (
-        r##"{"schema":{"shards":2,"fields":{"cat":"string"}}}
+        Asked {
+            script: r##"{"schema":{"shards":2,"fields":{"cat":"string"}}}
 {"add":{"doc":{"id":"1","cat":"a"},"shard":0}}
 {"add":{"doc":{"id":"2","cat":"a"},"shard":0}}
 {"add":{"doc":{"id":"3","cat":"a"},"shard":0}}
@@ -65,10 +28,13 @@ const ROWS: &[Row] = &[
 {"add":{"doc":{"id":"8","cat":"c"},"shard":1}}
 {"add":{"doc":{"id":"9","cat":"a"},"shard":1}}
 {"commit":{}}
-{"sync":{}}
-{"search":{"request":{"facet":{"c":{"type":"terms","field":"cat","limit":1,"overrequest":0}}},"session":"a"}}
-{"search":{"request":{"facet":{"c":{"type":"terms","field":"cat","limit":1,"overrequest":0,"refine":true,"overrefine":0}}},"session":"a"}}
 "##,
+            earlier: 1,
+            requests: &[
+                r#"{"facet":{"c":{"type":"terms","field":"cat","limit":1,"overrequest":0}}}"#,
+                r#"{"facet":{"c":{"type":"terms","field":"cat","limit":1,"overrequest":0,"refine":true,"overrefine":0}}}"#,
+            ],
+        },
         r##"{"facets":{"c":{"buckets":[{"count":3,"val":"a"}]},"count":9},"generations":[1,1],"session":"a"}
 {"facets":{"c":{"buckets":[{"count":4,"val":"a"}]},"count":9},"generations":[1,1],"session":"a"}
 "##,
@@ -77,32 +43,37 @@ const ROWS: &[Row] = &[
     ),
     // A search of no facet takes one turn of each shard, which calls no kind where the shard has no segment.
     (
-        r##"{"schema":{"shards":3,"fields":{}}}
+        Asked {
+            script: r##"{"schema":{"shards":3,"fields":{}}}
 {"add":{"doc":{"id":"1"},"shard":1}}
 {"commit":{"shard":1}}
-{"sync":{}}
-{"search":{"request":{},"session":"a"}}
 "##,
+            earlier: 1,
+            requests: &["{}"],
+        },
         r##"{"facets":{"count":1},"generations":[0,1,0],"session":"a"}
 "##,
         764,
         2,
     ),
-    // The commits of a phase make one segment, where they have a document. Over two segments a kind of each name is called: for
-    // the root, for the values, and in their only bucket for the query facet and the gaps.
+    // Commits that are made together make one segment, where they have a document. Over two segments a kind of each name is
+    // called: for the root, for the values, and in their only bucket for the query facet and the gaps.
     (
-        r##"{"schema":{"shards":1,"fields":{"cat":"string","n":"plong"}}}
+        Asked {
+            script: r##"{"schema":{"shards":1,"fields":{"cat":"string","n":"plong"}}}
 {"commit":{}}
 {"add":{"doc":{"id":"1","cat":"a","n":1}}}
 {"commit":{}}
-{"sync":{}}
 {"add":{"doc":{"id":"2","cat":"a","n":3}}}
 {"commit":{}}
 {"add":{"doc":{"id":"3","cat":"a"}}}
 {"commit":{}}
-{"sync":{}}
-{"search":{"request":{"facet":{"c":{"type":"terms","field":"cat","facet":{"q":{"type":"query","q":"n:1"},"r":{"type":"range","field":"n","start":0,"end":4,"gap":2}}}}},"session":"a"}}
 "##,
+            earlier: 2,
+            requests: &[
+                r#"{"facet":{"c":{"type":"terms","field":"cat","facet":{"q":{"type":"query","q":"n:1"},"r":{"type":"range","field":"n","start":0,"end":4,"gap":2}}}}}"#,
+            ],
+        },
         r##"{"facets":{"c":{"buckets":[{"count":3,"q":{"count":1},"r":{"buckets":[{"count":1,"val":0},{"count":1,"val":2}]},"val":"a"}]},"count":3},"generations":[4],"session":"a"}
 "##,
         11111111,
@@ -113,16 +84,11 @@ const ROWS: &[Row] = &[
 #[test]
 fn turns_are_noted(rt: HostRuntime) -> Result<(), Fail> {
     let alloc = rt.alloc();
-    for (script, wanted, noted, idle) in ROWS {
+    for (asked, wanted, noted, idle) in ROWS {
         let calls = Arc::new(alloc, AtomicU64::new(0))?;
         let kinds = counted_kinds(alloc, &calls)?;
-        let mut turns = Noting {
-            kinds: calls,
-            calls: 0,
-            noted: 0,
-            idle: 0,
-        };
-        let lines = written_in(alloc, script, &kinds, &mut turns)?;
+        let mut turns = Noting::new(calls);
+        let lines = lines_of(&rt, alloc, asked, &kinds, &mut turns, 1)?;
         demand(&lines, wanted)?;
         turns.look();
         assert!(rt;
@@ -148,10 +114,10 @@ fn list_of(alloc: Global, number: u32) -> Result<Vec<u32>, Fail> {
 fn every_list_of_four(rt: HostRuntime) -> Result<(), Fail> {
     let alloc = rt.alloc();
     let kinds = kinds_in(alloc)?;
-    for (script, wanted, _, _) in ROWS {
+    for (asked, wanted, _, _) in ROWS {
         for number in 0..16 {
             let mut turns = FromList::new(list_of(alloc, number)?);
-            demand(&written_in(alloc, script, &kinds, &mut turns)?, wanted)?;
+            demand(&lines_of(&rt, alloc, asked, &kinds, &mut turns, 1)?, wanted)?;
         }
     }
     Ok(())

@@ -1,7 +1,7 @@
 // Each way of counting, on sets that are sized for it: the same documents beside few values and beside many.
 use super::kinds::kinds_in;
-use super::{demand, written_in};
-use fc_search::RoundRobin;
+use super::{demand, written};
+use fc_run::NoGate;
 use std::alloc::Global;
 use std::fmt::Write;
 use std::test::Fail;
@@ -71,10 +71,7 @@ fn ways_of_counting(rt: HostRuntime) -> Result<(), Fail> {
     let kinds = kinds_in(alloc)?;
     for (count, integer) in PARENTS {
         let script = script_of(alloc, *count, *integer)?;
-        demand(
-            &written_in(alloc, &script, &kinds, &mut RoundRobin::new())?,
-            LINES,
-        )?;
+        demand(&written(&rt, alloc, &script, &kinds, &NoGate)?, LINES)?;
     }
     Ok(())
 }

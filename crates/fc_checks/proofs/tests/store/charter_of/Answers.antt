@@ -1,4 +1,5 @@
 use Rattle.std.proofs.Common.{◌≡◌, ◌+◌, List, [], ◌∷◌, ◌++◌, length, map, All, sym, subst, rules}
+use Rattle.std.specs.Arc.{arc_value}
 use Rattle.std.proofs.lemmas.List.{map_push}
 use Rattle.std.proofs.lemmas.List.Elements.{All-push}
 use Rattle.fc_spec.specs.documents.Schema.{Schema}
@@ -15,9 +16,11 @@ pub loop-blocks-preserved : goal.loop-blocks-preserved
 loop-blocks-preserved c =
     let before = c.loop-blocks.read.items in
     let batch = c.in_ok-batch_of.field-0 in
+    let schema : c.deref.result.now ≡ arc_value c.args.schema.now = c.deref.ensures in
+    let here : IsBatchOf (arc_value c.args.schema.now) (batch_view batch) = subst (λ z. IsBatchOf z (batch_view batch)) schema (record { valid = c.in_ok-batch_of.ensures.valid; few = c.in_ok-batch_of.ensures.few }) in
     let push : c.push.new.self.items ≡ before ++ batch ∷ [] = search rules in
     let count : length c.push.new.self.items ≡ c.loop-blocks.blocks-index + 1 = search rules in
     record {
-      all = subst (λ z. All (IsBatchOf c.args.schema.now) (map batch_view z)) (sym push) (batches-push c.args.schema.now before batch c.loop-blocks.invariant.all (record { valid = c.in_ok-batch_of.ensures.valid; few = c.in_ok-batch_of.ensures.few }));
+      all = subst (λ z. All (IsBatchOf (arc_value c.args.schema.now)) (map batch_view z)) (sym push) (batches-push (arc_value c.args.schema.now) before batch c.loop-blocks.invariant.all here);
       count = count;
     }

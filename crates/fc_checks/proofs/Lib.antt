@@ -1,0 +1,3 @@
+pub mod ReadShards
+pub mod ShardParts
+pub mod ShardWorlds
