@@ -37,7 +37,8 @@ REQUESTS = {
     "brands in each price": {"facet": {"price": {"type": "terms", "field": "price", **ALL,
                                                  "facet": {"brand": {"type": "terms", "field": "brand", **ALL}}}}},
 }
-Cost = collections.namedtuple("Cost", "seconds peak")
+# Of a run: seconds of processors, the most bytes of memory, seconds of the clock.
+Cost = collections.namedtuple("Cost", "seconds peak wall", defaults=[0.0])
 
 
 # Tags inside the values of another field, beside a filter by a tag: by a name the field, whether the tags leave the filter out,
@@ -107,24 +108,26 @@ def search(request):
 
 
 # Starts the program from a small process, since a process that is started counts the memory of the one that started it as
-# its own until then; and tells the status, the seconds and the most kilobytes.
-LAUNCHER = """import json, os, sys
+# its own until then; and tells the status, the seconds, the most kilobytes and the seconds of the clock.
+LAUNCHER = """import json, os, sys, time
+began = time.monotonic()
 child = os.posix_spawn(sys.argv[1], sys.argv[1:], os.environ)
 _, status, used = os.wait4(child, 0)
-print(json.dumps([os.waitstatus_to_exitcode(status), used.ru_utime + used.ru_stime, used.ru_maxrss]), file=sys.stderr)
+took = time.monotonic() - began
+print(json.dumps([os.waitstatus_to_exitcode(status), used.ru_utime + used.ru_stime, used.ru_maxrss, took]), file=sys.stderr)
 """
 
 
-def run_once(program, path):
-    """The processor time of one run, user and system, and the most memory that it had, in bytes; and its output."""
+def run_once(program, path, words=()):
+    """What one run costs: its processor time is user and system; and its output."""
     with open(path, "rb") as script, tempfile.TemporaryFile() as output:
-        launched = subprocess.run([sys.executable, "-c", LAUNCHER, program], stdin=script, stdout=output,
+        launched = subprocess.run([sys.executable, "-c", LAUNCHER, program, *words], stdin=script, stdout=output,
                                   stderr=subprocess.PIPE, check=True)
-        status, seconds, peak = json.loads(launched.stderr.splitlines()[-1])
+        status, seconds, peak, wall = json.loads(launched.stderr.splitlines()[-1])
         if status != 0:
             sys.exit(f"the program ended with status {status}")
         output.seek(0)
-        return Cost(seconds, peak * 1024), output.read()
+        return Cost(seconds, peak * 1024, wall), output.read()
 
 
 class Case:
@@ -173,7 +176,7 @@ def measure(options, folder, shards, every):
 
 
 def report(options, fewer, shards, every, whole, part, one, many, thousand):
-    count, (seconds, peak) = options.documents, whole.least
+    count, seconds, peak = options.documents, whole.least.seconds, whole.least.peak
     ratio = (seconds / count) / (part.least.seconds / fewer)
     commits = f"a commit every {every:,}" if every else "one commit for all"
     print(f"{count:,} documents, {whole.size:,} bytes, {shards} shard{'s' * (shards > 1)}, {commits}:")

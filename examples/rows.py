@@ -15,7 +15,9 @@ Names are unique in a file. The lines below are lines of the script, and directl
     \\LINE                  a line of the script, whatever it begins with; \\ alone is an empty one
     LINE                   a line of the script that has none of these forms
     @ [1,1] SESSION        no line: the generations and the session (a if absent) that lines from here on show
-    = FACETS               a reply with these facets
+    @ [0..2,1] SESSION     the same, where each number of a range may be shown
+    = FACETS               a reply with these facets, whatever its generations are; or one such line below the other for each that
+                           they may be, in ascending order (the number of the last shard rises first)
     ! NAME a/b             the error line of a request, at the facet b in the facet a; without a path at none
     ! NAME ["a","b"]       the same, for names of any characters
     ! NAME at LINE         the fault of the whole script, which is all that is written; the status is 65
@@ -28,8 +30,12 @@ characters themselves); `<# * A + B % C>` is the number times A and B more, modu
 `<N x CHARACTER>` is a character N times: one that stands there, or `space`, `tab`, `return`, `feed`,
 or `byte ff` for a byte. A line feed ends each line of a script, but a last one that ends in `<no feed>`.
 """
+import itertools
 import json
+import math
 import re
+
+import phases
 
 SCRIPT_FAULTS = {
     "not-json": 1, "no-schema": 2, "unknown-line": 3, "bad-schema": 4, "bad-shard": 5, "bad-document": 6,
@@ -47,6 +53,9 @@ NUMBER = re.compile(r"\\([#|])|<#(?: \* (\d+))?(?: \+ (\d+))?(?: % ([1-9]\d*))?>
 RUN = re.compile(r"<(\d+) x (space|tab|return|feed|byte [0-9a-f]{2}|[^ ])>")
 CHARACTERS = {"space": " ", "tab": "\t", "return": "\r", "feed": "\n"}
 NO_FEED = "<no feed>"
+GENERATIONS = re.compile(r"\[\d{1,4}(\.\.\d{1,4})?(,\d{1,4}(\.\.\d{1,4})?)*\]")
+# A reply may have at most so many generations; put a sync ahead of a search that may have more.
+MOST_GENERATIONS = 1000
 SCRIPT_FAULT = re.compile(r"([a-z-]+)(?: ([a-z-]+))? at (\d+)")
 
 
@@ -58,10 +67,11 @@ class Malformed(Exception):
 
 
 class Answer:
-    """A line that is written, the line of the file where it stands, and the line of the script that it answers."""
+    """The texts that a line which is written may be, the line of the file where it stands, and the line of the script that it
+    answers."""
 
-    def __init__(self, line, about, text):
-        self.line, self.about, self.text = line, about, text
+    def __init__(self, line, about, texts):
+        self.line, self.about, self.texts = line, about, texts
 
 
 def compact(value):
@@ -124,6 +134,7 @@ class Paragraph:
         self.generations = front.generations if front else None
         self.session = front.session if front else "a"
         self.about = None
+        self.facets = []
         self.waits = None
         self.unanswered = None
         self.has_feed = True
@@ -153,15 +164,22 @@ class Paragraph:
         if self.waits is not None and self.unanswered is None:
             self.unanswered = self.waits
         self.waits = None
+        self.settle()
 
-    def answer(self, line, text):
-        """A line that is written."""
+    def settle(self):
+        """Nothing more is said of the reply above."""
+        if len(self.facets) > 1 and len(self.facets) != len(self.generations):
+            raise Malformed(self.answers[-1].line, f"facets of {len(self.facets)} of {len(self.generations)} generations")
+        self.facets = []
+
+    def answer(self, line, *texts):
+        """A line that is written: one of these."""
         if self.status:
             raise Malformed(line, "nothing else is written beside the fault of a script")
         if self.waits is None:
             raise Malformed(line, "an answer that does not stand below a search")
         self.waits = None
-        self.answers.append(Answer(line, self.about, text))
+        self.answers.append(Answer(line, self.about, texts))
 
     def fault(self, line, name, detail, at):
         """The fault of the whole script."""
@@ -177,7 +195,7 @@ class Paragraph:
         said = {"error": name, "line": at, "number": SCRIPT_FAULTS[name]}
         if detail is not None:
             said["detail"] = detail
-        self.answers.append(Answer(line, self.about or "", compact(said)))
+        self.answers.append(Answer(line, self.about or "", [compact(said)]))
 
     def refusal(self, line, rest):
         """A fault of the script, or of a request."""
@@ -205,8 +223,15 @@ class Paragraph:
             raise Malformed(line, f"no JSON: {error}") from error
         if not is_compact:
             raise Malformed(line, "not as it is written: members in the order of their bytes, no spaces between them")
-        self.answer(line, '{"facets":%s,"generations":%s,"session":%s}'
-                    % (facets, compact(self.generations), compact(self.session)))
+        if 0 < len(self.facets) < len(self.generations):
+            self.facets.append(facets)
+            self.answers[-1].texts = [self.reply_line(*pair) for pair in zip(self.facets, self.generations)]
+        else:
+            self.answer(line, *(self.reply_line(facets, numbers) for numbers in self.generations))
+            self.facets = [facets]
+
+    def reply_line(self, facets, numbers):
+        return '{"facets":%s,"generations":%s,"session":%s}' % (facets, compact(numbers), compact(self.session))
 
     def add(self, line, rest):
         shard, _, members = rest.partition(" ")
@@ -232,8 +257,9 @@ class Paragraph:
         if len(head) > 1 or not space:
             raise Malformed(line, f"no line begins so; a line of the script has a backslash before it: {text[:60]}")
         if head == "@":
+            self.settle()
             numbers, _, session = rest.partition(" ")
-            self.generations, self.session = listed(line, numbers, int), session or "a"
+            self.generations, self.session = generations(line, numbers), session or "a"
             return None
         if head == ">":
             return self.answer(line, rest)
@@ -252,6 +278,9 @@ class Paragraph:
             raise Malformed(self.unanswered, "a search without its answer")
         if not self.script and not self.answers:
             raise Malformed(self.line, "nothing stands below it")
+        wrong = None if self.status else phases.misstated(self)
+        if wrong:
+            raise Malformed(wrong.line, "not the generations that the phases of the script allow")
 
     def whole(self):
         """The script with the lines of the front."""
@@ -271,6 +300,17 @@ def listed(line, text, kind):
     if not isinstance(value, list) or not all(type(item) is kind for item in value):
         raise Malformed(line, f"no JSON array as it is wanted here: {text}")
     return value
+
+
+def generations(line, text):
+    """Each list of numbers that a list of numbers and ranges stands for, in ascending order."""
+    if not GENERATIONS.fullmatch(text):
+        raise Malformed(line, f"no generations: {text}")
+    ends = [[int(end) for end in part.split("..")] for part in text[1:-1].split(",")]
+    ranges = [range(part[0], part[-1] + 1) for part in ends]
+    if not 0 < math.prod(map(len, ranges)) <= MOST_GENERATIONS:
+        raise Malformed(line, f"no generations, or too many: {text}")
+    return list(itertools.product(*ranges))
 
 
 def begun(line, text, fronts, names):

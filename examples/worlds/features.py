@@ -58,6 +58,7 @@ class Seen:
     def see(self, world):
         script = counting.Script(world.lines, world.conditions)
         self.there[f"scripts of {script.shards} shards"] += 1
+        self.there["scripts that are run several times"] += world.runs > 1
         documents = [line["add"]["doc"] for line in world.lines if "add" in line]
         self.there["documents"] += len(documents) + sum(len(one.get("_childDocuments_") or []) for one in documents)
         for _, phase, search in counting.searches(world.lines):

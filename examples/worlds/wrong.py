@@ -1,5 +1,6 @@
 """Wrong counting, to show that the scripts find it: each is one edit of counting.py or of worlds/queries.py, a piece of text
-that stands there once and what takes its place."""
+that stands there once and what takes its place. And wrong choosing: programs that show or count other generations."""
+import json
 import os
 import types
 
@@ -143,6 +144,23 @@ EDITS = [
     ("ends are never held", "worlds/queries.py", '(closes == "]" and high == value)', "False"),
     ("a star finds all", "worlds/queries.py", "bool(document[field])", "True"),
 ]
+# Of the number of a search, the commits before its phase, those up to its end and what the program chose: the generations that are
+# shown and those that are counted.
+CHOICES = [
+    ("a number one higher than what is counted", lambda number, before, most, chosen: (one_more(chosen), chosen)),
+    ("a number one lower than what is counted", lambda number, before, most, chosen: (one_less(chosen), chosen)),
+    ("the last commits before the phase are not seen", lambda number, before, most, chosen: (one_less(before),) * 2),
+    ("commits behind the phase are seen", lambda number, before, most, chosen: (one_more(most),) * 2),
+    ("a session sees less than it saw", lambda number, before, most, chosen: (chosen if number % 2 else before,) * 2),
+]
+
+
+def one_more(numbers):
+    return [number + 1 for number in numbers]
+
+
+def one_less(numbers):
+    return [max(number - 1, 0) for number in numbers]
 
 
 def edited(file, old, new):
@@ -167,3 +185,21 @@ def finders(worlds, written, seed, file, old, new):
         return sum(judging.difference(world, *answer) is not None for world, answer in zip(worlds, written))
     finally:
         judging.counting = right
+
+
+def chosen_otherwise(world, written, choose):
+    """The lines of a program that chooses so."""
+    script = judging.counting.Script(world.lines, world.conditions)
+    for (number, phase, search), line in zip(judging.counting.searches(world.lines), written):
+        chosen = judging.told_numbers(line, script.shards)
+        if chosen is None:
+            yield line
+            continue
+        shown, counted = choose(number, ([[0] * script.shards] + script.ends)[phase], script.ends[phase], chosen)
+        yield judging.ordered({**json.loads(script.reply(search, counted)), "generations": shown})
+
+
+def choice_finders(worlds, written, choose):
+    """How many of the scripts find a program that chooses so."""
+    changed = ((world, status, list(chosen_otherwise(world, lines, choose))) for world, (status, lines) in zip(worlds, written))
+    return sum(judging.difference(*one) is not None for one in changed)
