@@ -1,2 +1,3 @@
+pub mod FirstByte
 pub mod CutLines
 pub mod SoleMembers

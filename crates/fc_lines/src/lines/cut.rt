@@ -2,13 +2,14 @@
 ghost use Rattle.std.specs.Prelude.{◌≡◌, ◌==◌, ◌^◌, ◌<◌, ◌∷◌, suc, length, position, IfNone, OnSome, MatchOption, []};
 ghost use Rattle.fc_spec.specs.scripts.ScriptLines.{lines_of, is_blank as blank};
 
+use memchr::memchr;
 use std::marker::Model;
 
 // Where the first LF stands.
 fn find_lf(bytes: &[u8]) -> Option<usize>
     ensures { result ≡ position (λ b. b == 10) bytes.now }
 {
-    bytes.iter().position(|byte| *byte == b'\n')
+    memchr(b'\n', bytes)
 }
 
 // The bytes up to the first LF, and those behind it.
