@@ -1,18 +1,17 @@
 -- What one line does to what the lines before it add up to.
-use Rattle.std.proofs.Common.{◌≡◌, ℕ, suc, ◌+◌, List, [], ◌∷◌, ◌++◌, map, length, All, Vec, Global, refl, sym, ◌∙◌, ap, subst, arith}
+use Rattle.std.proofs.Common.{◌≡◌, ℕ, suc, ◌+◌, List, [], ◌∷◌, ◌++◌, map, length, Vec, Global, refl, sym, ◌∙◌, ap, arith}
 use Rattle.std.specs.Arc.{arc_value}
 use Rattle.std.specs.List.{enumerate_from}
 use Rattle.std.proofs.lemmas.List.{length-map, map-append}
-use Rattle.std.proofs.lemmas.List.Elements.{All-nil, All-push}
+use Rattle.std.proofs.lemmas.List.FromFn.{length-enumerate_from}
 use Rattle.fc_spec.specs.documents.Schema.{Schema}
 use Rattle.fc_spec.specs.documents.Val.{Text}
 use Rattle.fc_docs.specs.View.{batch_view}
 use Rattle.fc_lines.specs.LineView.{asked_view}
 use Rattle.fc_script.specs.Gathered as gathered
-use Rattle.fc_script.specs.GatheredView.{gathered_view, HasSoundSearches, IsSoundSoFar}
+use Rattle.fc_script.specs.GatheredView.{gathered_view}
 use Rattle.fc_script.specs.PartsView.{batches_view, parts_view, phase_view, phases_view, search_view, session_at}
 use Rattle.fc_script.specs.ShardView.{shard_view}
-use Rattle.fc_script.specs.SoundScripts.{IsSoundSearch}
 use Rattle.fc_script.specs.declared.gather.gathered.Gathered.{Gathered}
 use Rattle.fc_script.specs.declared.gather.shards.ShardSoFar.{ShardSoFar}
 use Rattle.fc_script.specs.declared.script.Phase.{Phase}
@@ -34,9 +33,8 @@ phases-push sessions ps p =
     let same : 0 + length ps ≡ length ps = omega arith in
     numbered-push sessions 0 ps p ∙ ap (λ k. phases_view sessions ps ++ phase_view sessions (k, p) ∷ []) same
 
-numbered-length : (sessions : List Text) (n : ℕ) (ps : List Phase) → length (map (phase_view sessions) (enumerate_from n ps)) ≡ length ps
-numbered-length sessions n [] = refl
-numbered-length sessions n (p ∷ ps) = ap suc (numbered-length sessions (n + 1) ps)
+pub phases_length : (sessions : List Text) (ps : List Phase) → length (phases_view sessions ps) ≡ length ps
+phases_length sessions ps = length-map (enumerate_from 0 ps) (phase_view sessions) ∙ length-enumerate_from 0 ps
 
 commits_are : (xs : List ShardSoFar) → map (λ x. length x.batches.items) xs ≡ map (λ x. length x.batches) (map shard_view xs)
 commits_are [] = refl
@@ -57,29 +55,17 @@ module _ (old new : Gathered) (p : Phase) (shards : new.shards.items ≡ old.sha
       let none : map (search_view sessions (length new.phases.items)) new.searches.items ≡ [] = ap (map (search_view sessions (length new.phases.items))) searches in
       λ i. record { shards = map shard_view (shards i); phases = ended i; searches = none i }
 
-  pub synced_soundly : (s : Schema) (n : ℕ) → IsSoundSoFar s n old → IsSoundSoFar s n new
-  synced_soundly s n sound = record {
-    phases = subst (All (HasSoundSearches s n)) (sym phases) (All-push (HasSoundSearches s n) old.phases.items p sound.phases (subst (All (IsSoundSearch s n)) (sym moved) sound.searches));
-    searches = subst (All (IsSoundSearch s n)) (sym searches) (All-nil (IsSoundSearch s n));
-  }
-
 -- ---- a search
 
 module _ (old new : Gathered) (q : Search) (shards : new.shards.items ≡ old.shards.items) (phases : new.phases.items ≡ old.phases.items) (searches : new.searches.items ≡ old.searches.items ++ q ∷ []) where
   pub searched : (sessions : List Text) (session : Text) → session_at sessions q.session ≡ session → gathered_view sessions new ≡ gathered.with_search session (asked_view q.request) (gathered_view sessions old)
   searched sessions session is =
-      let number : length old.phases.items ≡ length (phases_view sessions old.phases.items) = sym (numbered-length sessions 0 old.phases.items) in
+      let number : length old.phases.items ≡ length (phases_view sessions old.phases.items) = sym (phases_length sessions old.phases.items) in
       let more : map (search_view sessions (length new.phases.items)) new.searches.items
       ≡ map (search_view sessions (length old.phases.items)) old.searches.items ++ record { phase = length (phases_view sessions old.phases.items); session = session; request = asked_view q.request } ∷ [] =
       (λ i. map (search_view sessions (length (phases i))) (searches i)) ∙ map-append (search_view sessions (length old.phases.items)) old.searches.items (q ∷ [])
       ∙ (λ i. map (search_view sessions (length old.phases.items)) old.searches.items ++ record { phase = number i; session = is i; request = asked_view q.request } ∷ []) in
       λ i. record { shards = map shard_view (shards i); phases = phases_view sessions (phases i); searches = more i }
-
-  pub searched_soundly : (s : Schema) (n : ℕ) → IsSoundSearch s n q → IsSoundSoFar s n old → IsSoundSoFar s n new
-  searched_soundly s n good sound = record {
-    phases = subst (All (HasSoundSearches s n)) (sym phases) sound.phases;
-    searches = subst (All (IsSoundSearch s n)) (sym searches) (All-push (IsSoundSearch s n) old.searches.items q sound.searches good);
-  }
 
 -- ---- the script
 

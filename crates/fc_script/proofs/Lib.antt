@@ -14,6 +14,12 @@ pub mod SessionNumbers
 pub mod ShardSteps
 pub mod gathered
 pub mod GatheredSteps
-pub mod FewBatches
 pub mod SoundParts
-pub mod GatherSteps
+pub mod ScriptSteps
+pub mod GatheredCounts
+pub mod FewCommits
+pub mod MoreSessions
+pub mod ReaderAnswers
+pub mod ReadSteps
+pub mod LimitsKept
+pub mod LinesRead

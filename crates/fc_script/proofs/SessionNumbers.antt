@@ -1,7 +1,7 @@
 -- A session that is among those of a script has a number.
-use Rattle.std.proofs.Common.{◌≡◌, ℕ, suc, ◌+◌, ◌<◌, ◌≤◌, List, [], ◌∷◌, length, get_or, Bool, true, false, cond, nat_lt, Some, None, refl, sym, ◌∙◌, subst, arith}
+use Rattle.std.proofs.Common.{◌≡◌, ℕ, suc, ◌+◌, ◌<◌, ◌≤◌, List, [], ◌∷◌, length, get_or, Bool, true, false, cond, nat_lt, Some, None, refl, sym, subst, arith}
 use Rattle.std.specs.List.{list_any, position, position_or_len}
-use Rattle.std.proofs.lemmas.Bool.{ltb-true, ltb-false, false≢true}
+use Rattle.std.proofs.lemmas.Bool.{ltb-true, ltb-false}
 use Rattle.fc_spec.specs.documents.Val.{Text, same_text}
 use Rattle.fc_spec.proofs.words.Texts.{equal}
 
@@ -42,10 +42,28 @@ module _ (p : Text → Bool) (d : Text) where
   at_none xs true is none = cc
   at_none xs false is none = none_passes xs (ltb-false (position_or_len p xs) (length xs) is)
 
+  found_cons : (x : Text) (xs : List Text) (test : Bool) → p x ≡ test → (position_or_len p xs < length xs → list_any p xs ≡ true) → position_or_len p (x ∷ xs) < length (x ∷ xs) → list_any p (x ∷ xs) ≡ true
+  found_cons x xs true is later found = rw is refl
+  found_cons x xs false is later found =
+      let one : 1 + position_or_len p xs ≡ suc (position_or_len p xs) = omega arith in
+      let inside : position_or_len p (x ∷ xs) < suc (length xs) = found in
+      rw is (later (omega (arith, rw (is, one) at inside)))
+
+  found_among : (xs : List Text) → position_or_len p xs < length xs → list_any p xs ≡ true
+  found_among [] found = absurd (omega arith)
+  found_among (x ∷ xs) found = found_cons x xs (p x) refl (found_among xs) found
+
+  at_some : (xs : List Text) (i : ℕ) (test : Bool) → nat_lt (position_or_len p xs) (length xs) ≡ test → cond test (Some (position_or_len p xs)) None ≡ Some i → list_any p xs ≡ true
+  at_some xs i true is found = found_among xs (ltb-true (position_or_len p xs) (length xs) is)
+  at_some xs i false is found = cc
+
 -- the session of its number
 pub number_of : (t : Text) (ts : List Text) (i : ℕ) → position (same_text t) ts ≡ Some i → get_or ts i [] ≡ t
 number_of t ts i found = sym (equal t (get_or ts i []) (at_number (same_text t) [] ts i _ refl found))
 
--- it has one
-pub has_number : (t : Text) (ts : List Text) → list_any (same_text t) ts ≡ true → position (same_text t) ts ≡ None → ⊥
-has_number t ts known none = false≢true (sym (at_none (same_text t) [] ts _ refl none) ∙ known)
+-- it is there, or not
+pub among : (t : Text) (ts : List Text) (i : ℕ) → position (same_text t) ts ≡ Some i → list_any (same_text t) ts ≡ true
+among t ts i found = at_some (same_text t) [] ts i _ refl found
+
+pub not_among : (t : Text) (ts : List Text) → position (same_text t) ts ≡ None → list_any (same_text t) ts ≡ false
+not_among t ts none = at_none (same_text t) [] ts _ refl none

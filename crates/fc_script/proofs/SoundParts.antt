@@ -19,6 +19,7 @@ use Rattle.fc_script.specs.PartsView.{batches_view, parts_view, phase_view, phas
 use Rattle.fc_script.specs.SoundScripts.{CutLists, IsBatchOf, IsSound}
 use Rattle.fc_script.specs.declared.script.Phase.{Phase}
 use Rattle.fc_script.specs.declared.script.Script.{Script}
+use Rattle.fc_script.proofs.GatheredSteps.{phases_length}
 use Rattle.fc_script.proofs.gathered.CutBatches.{phases_cut_batches}
 use Rattle.fc_script.proofs.gathered.ValidBatches.{batches_are}
 
@@ -46,9 +47,6 @@ commits_at sessions ps k d below =
     let long = length-enumerate_from 0 ps in
     ap (λ (p : definition.Phase Asked). p.commits) (get_or-map (phase_view sessions) (enumerate_from 0 ps) k (0, d) (phase_view sessions (0, d)) (omega arith))
     ∙ ap (λ (n : ℕ × Phase). n.1.commits.items) (get_or-enumerate_from 0 ps k (0, d) below)
-
-phases_length : (sessions : List Text) (ps : List Phase) → length (phases_view sessions ps) ≡ length ps
-phases_length sessions ps = length-map (enumerate_from 0 ps) (phase_view sessions) ∙ length-enumerate_from 0 ps
 
 abbrev phases_cut : Parts Asked → Type 0
 phases_cut parts = All (λ p. CutBatches parts.batches p.commits) parts.phases

@@ -2,4 +2,3 @@ pub mod ShardsBehind
 pub mod GatheredParts
 pub mod CutBatches
 pub mod ValidBatches
-pub mod KnownSessions

@@ -1,5 +1,5 @@
 -- What the lines of a script add up to, one line after another.
-use Rattle.std.specs.Prelude.{ℕ, zero, suc, List, [], ◌∷◌, ◌++◌, length, map, replicate, fold, Option, None, Some}
+use Rattle.std.specs.Prelude.{Bool, ℕ, zero, suc, List, [], ◌∷◌, ◌++◌, length, map, nat_le, replicate, fold, Option, None, Some}
 use Rattle.fc_spec.specs.documents.Val.{Text}
 use Rattle.fc_spec.specs.documents.Document.{Block, Batch}
 use Rattle.fc_spec.specs.documents.Schema.{Schema}
@@ -42,6 +42,10 @@ with_commit x = record { batches = x.batches ++ x.waiting ∷ []; waiting = [] }
 abbrev pub with_commit_of : Option ℕ → List ShardSoFar → List ShardSoFar
 with_commit_of None xs = map with_commit xs
 with_commit_of (Some shard) xs = changed_at with_commit shard xs
+
+-- it has as few commits as a script may have of each shard
+abbrev pub has_few : ShardSoFar → Bool
+has_few x = nat_le (length x.batches) 4096
 
 -- the phase that is open
 abbrev pub open_phase : Gathered → Phase Asked

@@ -15,6 +15,10 @@ pub record ReadSoFar : Type 0 where
   pub schema : Schema
   pub lines : List AskedLine
 
+-- the script, where the lines end here
+abbrev pub script_so_far : ReadSoFar → AskedScript
+script_so_far r = record { schema = r.schema; lines = r.lines }
+
 -- with a line behind the others, where what it counts is within its limit
 abbrev pub with_asked : ReadSoFar → AskedLine → Result ReadSoFar LineFault
 with_asked r l = do
@@ -32,7 +36,7 @@ with_numbered r l = at_line l.0 (with_text r l.1)
 
 -- the script with the lines that are left
 abbrev pub with_rest : ReadSoFar → List Numbered → Result AskedScript ScriptFault
-with_rest r [] = Ok (record { schema = r.schema; lines = r.lines })
+with_rest r [] = Ok (script_so_far r)
 with_rest r (l ∷ ls) = do
   now ← with_numbered r l
   with_rest now ls

@@ -1,5 +1,4 @@
 // Scripts as a run takes them.
-use crate::gather::gather;
 use crate::limits::{Limits, SCRIPT_LIMITS};
 use crate::read::read_script;
 use fc_base::{Name, Refusal, Schema};
@@ -66,7 +65,6 @@ impl Script {
         ensures within { IfOk result (λ script. IfOk (asked_script_of (limits_view limits) bytes.now) (IsWithin (limits_view limits))) }
         ensures sound { IfOk result (IsSound (limits_view limits)) }
     {
-        let read = read_script(alloc, limits, bytes)?;
-        Ok(gather(alloc, read)?)
+        read_script(alloc, limits, bytes)
     }
 }

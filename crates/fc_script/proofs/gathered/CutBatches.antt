@@ -1,6 +1,5 @@
 -- The commits of each phase cut the batches of the shards.
-use Rattle.std.proofs.Common.{◌≡◌, ℕ, ◌<◌, ◌≤◌, List, length, map, All, sym, ◌∙◌, ap, subst, arith, get_or, slice_index}
-use Rattle.std.proofs.lemmas.List.{length-map, get_or-map}
+use Rattle.std.proofs.Common.{◌≡◌, ℕ, ◌<◌, ◌≤◌, List, length, All, sym, ◌∙◌, ap, subst, arith, get_or}
 use Rattle.std.proofs.lemmas.List.Elements.{All-map}
 use Rattle.std.proofs.lemmas.List.FromFn.{length-map-range_with_len, get_or-map-range_with_len}
 use Rattle.fc_spec.specs.documents.Document.{Batch}
@@ -11,14 +10,6 @@ use Rattle.fc_spec.specs.scripts.ScriptParts.{parts_of, batches}
 use Rattle.fc_spec.proofs.scripts.BatchesSoFar.{commits_in}
 use Rattle.fc_spec.proofs.scripts.PhasesSoFar.{up_to_within}
 use Rattle.fc_script.specs.CutBatches.{CutBatches}
-
--- at a member of a list that stands for the batches
-pub cut_at : {X Y : Type 0} (f : Y → List X) (ys : List Y) (commits : List ℕ) (s : ℕ) (y : Y) → CutBatches (map f ys) commits → s < length ys → y ≡ get_or ys s y → slice_index commits s ≤ length (f y)
-cut_at f ys commits s y cut below is =
-    let long = length-map ys f in
-    let here = ap (λ xs. length xs) (get_or-map f ys s y (f y) below ∙ ap f (sym is)) in
-    let few = cut.within s (f y) (omega arith) in
-    omega arith
 
 -- ---- the commits of phases
 

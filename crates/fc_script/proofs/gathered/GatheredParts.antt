@@ -1,6 +1,5 @@
 -- What the lines of a script add up to are its parts.
-use Rattle.std.proofs.Common.{◌≡◌, ℕ, zero, suc, List, [], ◌∷◌, ◌++◌, length, map, fold, None, Some, refl, sym, ◌∙◌, ap, subst, arith, append-nil}
-use Rattle.std.proofs.lemmas.List.{length-map}
+use Rattle.std.proofs.Common.{◌≡◌, List, [], ◌∷◌, ◌++◌, length, map, fold, refl, sym, ◌∙◌, ap, subst, arith, append-nil}
 use Rattle.std.proofs.lemmas.List.FromFn.{length-map-range_with_len, map-range_with_len_more}
 use Rattle.fc_spec.specs.documents.Schema.{Schema}
 use Rattle.fc_spec.specs.words.Lists.{numbers_below}
@@ -12,7 +11,7 @@ use Rattle.fc_spec.specs.scripts.ScriptTotals.{sessions}
 use Rattle.fc_spec.proofs.words.MappedLists.{map-same}
 use Rattle.fc_spec.proofs.scripts.NumberedLines.{moved}
 use Rattle.fc_spec.proofs.scripts.PhasesSoFar.{ended, phase_in, searches_in, up_to_open, phases_sync, phases_other, searches_sync, searches_other}
-use Rattle.fc_script.specs.Gathered.{Gathered, nothing, changed_at, with_block, with_commit, open_phase, after, gathered, gathered_parts}
+use Rattle.fc_script.specs.Gathered.{Gathered, nothing, open_phase, after, gathered, gathered_parts}
 use Rattle.fc_script.proofs.gathered.ShardsBehind.{shards_behind, shards_at_first, behind_block, behind_commit, behind_other, batches_behind, commits_behind}
 
 -- ---- behind some lines
@@ -67,10 +66,6 @@ lines_behind s front (l ∷ ls) g behind = subst (λ all. IsBehind s all (fold a
 pub all_behind : (s : Schema) (lines : List AskedLine) → IsBehind s lines (gathered s lines)
 all_behind s lines = lines_behind s [] lines (nothing s) (nothing_behind s)
 
--- one line and then the others
-pub gathered_step : (g : Gathered) (l : AskedLine) (ls : List AskedLine) → fold after (after g l) ls ≡ fold after g (l ∷ ls)
-gathered_step g l ls = refl
-
 pub gathered_parts_are : (S : AskedScript) → gathered_parts S.schema (sessions S.lines) (gathered S.schema S.lines) ≡ parts_of S
 gathered_parts_are S = λ i. record { schema = S.schema; sessions = sessions S.lines; batches = made i; phases = ends i }
   where
@@ -84,21 +79,3 @@ gathered_parts_are S = λ i. record { schema = S.schema; sessions = sessions S.l
     ends =
         (λ i. behind.phases i ++ open_is S.schema S.lines (gathered S.schema S.lines) behind i ∷ [])
         ∙ sym (map-range_with_len_more (phase S) 0 (ended S.lines) (ended S.lines) (omega arith))
-
--- ---- the shards stay
-
-length-changed_at : {X : Type 0} (f : X → X) (i : ℕ) (xs : List X) → length (changed_at f i xs) ≡ length xs
-length-changed_at f zero [] = refl
-length-changed_at f (suc i) [] = refl
-length-changed_at f zero (x ∷ xs) = refl
-length-changed_at f (suc i) (x ∷ xs) = ap suc (length-changed_at f i xs)
-
-pub shards_after : (g : Gathered) (l : AskedLine) → length (after g l).shards ≡ length g.shards
-shards_after g (add shard b) = length-changed_at (with_block b) shard g.shards
-shards_after g (commit None) = length-map g.shards with_commit
-shards_after g (commit (Some shard)) = length-changed_at with_commit shard g.shards
-shards_after g sync = refl
-shards_after g (asks session a) = refl
-
-pub shards_stay : (s : Schema) (lines : List AskedLine) → length (gathered s lines).shards ≡ s.shards
-shards_stay s lines = ap (λ xs. length xs) (all_behind s lines).shards ∙ length-map-range_with_len _ 0 s.shards

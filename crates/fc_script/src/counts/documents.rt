@@ -79,7 +79,9 @@ impl DocumentCounts {
         requires valid { IsBlockOf schema.now (block_view block.now) }
         requires fields { length self.sums.items ≡ length schema.now.fields }
         requires within { All (λ sum. sum ≤ totals.total_limit) self.sums.items }
-        ensures { (limits : totals.Limits) (blocks : List definition.Block)
+        ensures fields { IfOk result (λ counts. length counts.sums.items ≡ length schema.now.fields) }
+        ensures within { IfOk result (λ counts. All (λ sum. sum ≤ totals.total_limit) counts.sums.items) }
+        ensures counted { (limits : totals.Limits) (blocks : List definition.Block)
             → AreDocumentCounts limits (length schema.now.fields) blocks self
             → Answers (λ counts. tt) line_fault_view result
             (check_documents limits schema.now (documents_in (blocks ++ block_view block.now ∷ [])))

@@ -1,24 +1,23 @@
 // What a script's lines add up to, one line after another.
-ghost use Rattle.std.specs.Prelude.{◌≡◌, ℕ, ◌≤◌, length, true, All, IfOk, OnOk, List};
-ghost use Rattle.std.specs.List.{list_any};
+ghost use Rattle.std.specs.Prelude.{◌≡◌, ℕ, ◌<◌, length, map, true, IfOk, IfSome, OnOk, List};
+ghost use Rattle.std.specs.List.{list_all};
 ghost use Rattle.fc_spec.specs.documents.Schema as definition;
-ghost use Rattle.fc_spec.specs.documents.Val.{Text, same_text};
+ghost use Rattle.fc_spec.specs.documents.Val.{Text};
 ghost use Rattle.fc_spec.specs.requests.ValidRequests.{IsValidRequest};
 ghost use Rattle.fc_request.specs.RequestView.{request_view, IsRoot};
-ghost use Rattle.fc_lines.specs.LineView.{asked_view, line_view};
-ghost use Rattle.fc_lines.specs.ValidLines.{HasRoot};
-ghost use Rattle.fc_script.specs.AskedRequests.{IsAskedOf};
+ghost use Rattle.fc_lines.specs.LineView.{asked_view};
+ghost use Rattle.fc_base.specs.ValidSchema.{IsValidSchema};
+ghost use Rattle.fc_docs.specs.View.{block_view};
 ghost use Rattle.fc_script.specs.Gathered as gathered;
-ghost use Rattle.fc_script.specs.GatheredView.{gathered_view, IsPlaced, IsSoundSoFar, AreSoundPhases};
-ghost use Rattle.fc_script.specs.PartsView.{parts_view};
-ghost use Rattle.fc_script.specs.KnownSessions.{IsKnownIn};
-ghost use Rattle.fc_script.specs.ShardView.{HasFewBatches};
+ghost use Rattle.fc_script.specs.Gathered.{changed_at, has_few, with_block, with_commit_of};
+ghost use Rattle.fc_script.specs.GatheredView.{gathered_view, IsSoundSoFar, AreSoundPhases};
+ghost use Rattle.fc_script.specs.PartsView.{parts_view, session_at};
+ghost use Rattle.fc_script.specs.ShardView.{shard_view};
 
-use super::session::session_number;
-use super::shards::{ShardSoFar, add_block, batches, commit, commits, empty_shards};
+use super::shards::{ShardSoFar, add_block, batches, commit, commits, empty_shards, have_few};
 use crate::script::{Phase, Script, Search};
 use fc_base::{Name, Schema, WantMemory};
-use fc_lines::Line;
+use fc_docs::Block;
 use fc_request::{Request, RequestFault};
 use std::alloc::Global;
 use std::mem;
@@ -47,9 +46,40 @@ impl Gathered {
         })
     }
 
-    // Ends the phase that is open.
-    fn sync(&mut self, alloc: Global) -> Result<(), WantMemory>
-        requires { All HasFewBatches self.old.shards.items }
+    /// Adds a block to a shard.
+    pub(crate) fn add(&mut self, shard: u32, block: Block) -> Result<(), WantMemory>
+        requires { shard < length self.old.shards.items }
+        ensures shards { OnOk result (map shard_view self.new.shards.items
+            ≡ changed_at (with_block (block_view block)) shard (map shard_view self.old.shards.items)) }
+        ensures count { length self.new.shards.items ≡ length self.old.shards.items }
+        ensures phases { self.new.phases ≡ self.old.phases }
+        ensures searches { self.new.searches ≡ self.old.searches }
+    {
+        add_block(&mut self.shards, shard, block)
+    }
+
+    /// Commits a shard, or every shard.
+    pub(crate) fn commit(&mut self, alloc: Global, shard: Option<u32>) -> Result<(), WantMemory>
+        requires { IfSome shard (λ shard. shard < length self.old.shards.items) }
+        ensures shards { OnOk result (map shard_view self.new.shards.items
+            ≡ with_commit_of shard (map shard_view self.old.shards.items)) }
+        ensures count { length self.new.shards.items ≡ length self.old.shards.items }
+        ensures phases { self.new.phases ≡ self.old.phases }
+        ensures searches { self.new.searches ≡ self.old.searches }
+    {
+        commit(alloc, &mut self.shards, shard)
+    }
+
+    /// Whether each shard has few enough commits.
+    pub(crate) fn has_few_commits(&self) -> bool
+        ensures { result ≡ list_all has_few (map shard_view self.now.shards.items) }
+    {
+        have_few(&self.shards)
+    }
+
+    /// Ends the phase that is open.
+    pub(crate) fn sync(&mut self, alloc: Global) -> Result<(), WantMemory>
+        requires { list_all has_few (map shard_view self.old.shards.items) ≡ true }
         ensures lines { (sessions : List Text) → OnOk result
             (gathered_view sessions self.new ≡ gathered.with_sync (gathered_view sessions self.old)) }
         ensures sound { (s : definition.Schema) (sessions : ℕ) → IsSoundSoFar s sessions self.old
@@ -62,52 +92,24 @@ impl Gathered {
         Ok(())
     }
 
-    // Adds a search to the phase that is open.
-    fn search(
+    /// Adds a search of the session of this number to the phase that is open.
+    pub(crate) fn search(
         &mut self,
-        sessions: &[Name],
-        session: &Name,
+        session: u32,
         request: Result<Request, RequestFault>,
     ) -> Result<(), WantMemory>
-        requires known { list_any (same_text session.now) sessions.now ≡ true }
-        requires few { length sessions.now ≤ 16 }
-        ensures lines { OnOk result (gathered_view sessions.now self.new
-            ≡ gathered.with_search session.now (asked_view request) (gathered_view sessions.now self.old)) }
-        ensures sound { (s : definition.Schema) → IfOk request (λ r. IsValidRequest s (request_view r))
+        ensures lines { (sessions : List Text) → OnOk result (gathered_view sessions self.new
+            ≡ gathered.with_search (session_at sessions session) (asked_view request) (gathered_view sessions self.old)) }
+        ensures sound { (s : definition.Schema) (sessions : ℕ) → session < sessions
+            → IfOk request (λ r. IsValidRequest s (request_view r))
             → IfOk request (λ r. IsRoot r.root)
-            → IsSoundSoFar s (length sessions.now) self.old
-            → OnOk result (IsSoundSoFar s (length sessions.now) self.new) }
+            → IsSoundSoFar s sessions self.old
+            → OnOk result (IsSoundSoFar s sessions self.new) }
         ensures shards { self.new.shards ≡ self.old.shards }
+        ensures phases { self.new.phases ≡ self.old.phases }
     {
-        let session = session_number(sessions, session);
         self.searches.push(Search { session, request })?;
         Ok(())
-    }
-
-    /// Behind one more line.
-    pub(crate) fn add(
-        &mut self,
-        alloc: Global,
-        sessions: &[Name],
-        line: Line,
-    ) -> Result<(), WantMemory>
-        requires placed { IsPlaced (length self.old.shards.items) (line_view line) }
-        requires known { IsKnownIn sessions.now (line_view line) }
-        requires few { length sessions.now ≤ 16 }
-        requires few_batches { All HasFewBatches self.old.shards.items }
-        ensures lines { OnOk result (gathered_view sessions.now self.new
-            ≡ gathered.after (gathered_view sessions.now self.old) (line_view line)) }
-        ensures sound { (s : definition.Schema) → IsAskedOf s (line_view line) → HasRoot line
-            → IsSoundSoFar s (length sessions.now) self.old
-            → OnOk result (IsSoundSoFar s (length sessions.now) self.new) }
-        ensures shards { length self.new.shards.items ≡ length self.old.shards.items }
-    {
-        match line {
-            Line::Add(shard, block) => add_block(&mut self.shards, shard, block),
-            Line::Commit(shard) => commit(alloc, &mut self.shards, shard),
-            Line::Sync => self.sync(alloc),
-            Line::Search(session, asked) => self.search(sessions, &session, Box::into_inner(asked)),
-        }
     }
 
     /// The script, where the lines end here.
@@ -117,11 +119,12 @@ impl Gathered {
         schema: Schema,
         sessions: Vec<Name>,
     ) -> Result<Script, WantMemory>
-        requires { All HasFewBatches self.shards.items }
+        requires { list_all has_few (map shard_view self.shards.items) ≡ true }
         ensures parts { IfOk result (λ script. parts_view script
             ≡ gathered.gathered_parts schema sessions.items (gathered_view sessions.items self)) }
         ensures sound { IsSoundSoFar schema (length sessions.items) self
             → IfOk result (AreSoundPhases schema (length sessions.items)) }
+        ensures valid { IsValidSchema schema }
     {
         self.sync(alloc)?;
         let Gathered { shards, phases, .. } = self;

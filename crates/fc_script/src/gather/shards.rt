@@ -1,14 +1,18 @@
 // Shards as far as a script's lines have been gathered.
-ghost use Rattle.std.specs.Prelude.{◌≡◌, ◌<◌, length, map, replicate, All, IfOk, IfSome, OnOk};
+ghost use Rattle.std.specs.Prelude.{◌≡◌, ◌<◌, length, map, nat_le, replicate, true, IfOk, IfSome, OnOk};
+ghost use Rattle.std.specs.List.{list_all};
 ghost use Rattle.fc_docs.specs.View.{block_view};
-ghost use Rattle.fc_script.specs.Gathered.{changed_at, empty_shard, with_block, with_commit, with_commit_of};
+ghost use Rattle.fc_script.specs.Gathered.{changed_at, empty_shard, has_few, with_block, with_commit, with_commit_of};
 ghost use Rattle.fc_script.specs.PartsView.{batches_view};
-ghost use Rattle.fc_script.specs.ShardView.{shard_view, HasFewBatches};
+ghost use Rattle.fc_script.specs.ShardView.{shard_view};
 
 use fc_base::WantMemory;
 use fc_docs::{Batch, Block};
 use std::alloc::Global;
 use std::mem;
+
+// The most commits of a shard.
+const COMMIT_LIMIT: usize = 4096;
 
 /// A batch for each commit of a shard, and the blocks behind the last one.
 #[derive(Debug, Drop)]
@@ -109,9 +113,18 @@ pub(crate) fn commit(
     }
 }
 
+/// Whether each shard has few enough commits.
+pub(crate) fn have_few(shards: &[ShardSoFar]) -> bool
+    ensures { result ≡ list_all (λ x. nat_le (length x.batches.items) 4096) shards.now }
+{
+    shards
+        .iter()
+        .all(|shard| shard.batches.len() <= COMMIT_LIMIT)
+}
+
 /// For each shard the number of its commits.
 pub(crate) fn commits(alloc: Global, shards: &[ShardSoFar]) -> Result<Vec<u32>, WantMemory>
-    requires { All HasFewBatches shards.now }
+    requires { list_all has_few (map shard_view shards.now) ≡ true }
     ensures { IfOk result (λ commits. commits.items ≡ map (λ x. length x.batches.items) shards.now) }
 {
     let mut commits = Vec::new(alloc);

@@ -24,7 +24,7 @@ use Rattle.fc_spec.proofs.scripts.JsonTexts.{IsJson, json_is}
 use Rattle.fc_spec.proofs.requests.ValidWalk.{read_are_valid_whole}
 
 -- what is asked is such data as JSON texts are
-abbrev AsksJson : Line Data → Type 0
+abbrev pub AsksJson : Line Data → Type 0
 AsksJson (asks session d) = IsJson d
 AsksJson (add shard block) = Unit {0}
 AsksJson (commit shard) = Unit {0}
@@ -92,14 +92,14 @@ named_asks s name ms h =
     (one_of (same_text name (codes "commit")) (commit_of s ms) _ (commit_asks s ms)
     (one_of (same_text name (codes "sync")) (sync_of ms) _ (sync_asks ms) (one_of (same_text name (codes "search")) (search_of ms) (Err unknown_line) (search_asks ms h) tt)))
 
-line_asks : (s : Schema) (d : Data) → IsJson d → IfOk (line_said s d) AsksJson
+pub line_asks : (s : Schema) (d : Data) → IsJson d → IfOk (line_said s d) AsksJson
 line_asks s d h =
     going_on AsksJson NamesJson (ok_or (sole_member d) unknown_line) _ (there NamesJson (sole_member d) unknown_line (of_sole d h))
     (λ found k. going_on AsksJson HoldsJson (ok_or (as_object found.1) unknown_line) _ (there HoldsJson (as_object found.1) unknown_line (of_object found.1 k)) (λ ms l. named_asks s found.0 ms l))
 
 -- ---- all lines
 
-value_is : (l : Text) → IfOk (value_on l) IsJson
+pub value_is : (l : Text) → IfOk (value_on l) IsJson
 value_is l = whatever IsJson (unless (nat_le (length l) line_limit) long_line) _ (λ u. there IsJson (json_of l) not_json (json_is l))
 
 line_goes_on : (limits : Limits) (s : Schema) (earlier : List (Line Data)) (l : Text) → All AsksJson earlier → IfOk (with_line limits s earlier l) (All AsksJson)
@@ -125,7 +125,7 @@ script_asks limits (l ∷ ls) =
 bytes_ask : (limits : Limits) (bytes : List ℕ) → IfOk (script_of limits bytes) ScriptAsksJson
 bytes_ask limits bytes = whatever ScriptAsksJson (unless (nat_le (length bytes) script_limit) (record { line = 0; fault = too_long })) _ (λ u. script_asks limits (numbered_lines bytes))
 
-asks_valid : (s : Schema) (line : Line Data) → AsksJson line → AsksValid s line
+pub asks_valid : (s : Schema) (line : Line Data) → AsksJson line → AsksValid s line
 asks_valid s (asks session d) h = λ r e. read_are_valid_whole s d r h.numbers h.keys e
 asks_valid s (add shard block) h = tt
 asks_valid s (commit shard) h = tt

@@ -26,16 +26,16 @@ shown : (e : Refusal LineFault) (new all : Result (Unit {0}) fault.LineFault) �
 shown refusal.Memory new all same answer = tt
 shown (refusal.Fault f) new all same answer = same (line_fault_view f) answer
 
-pub returns-in_err-insert_ids : goal.returns-in_err-insert_ids
-returns-in_err-insert_ids c = λ limits blocks are.
+pub returns-in_err-insert_ids-clause-counted : goal.returns-in_err-insert_ids-clause-counted
+returns-in_err-insert_ids-clause-counted c = λ limits blocks are.
     let p = err_from_is_err_and c.from_residual.result c.from_residual.ensures.1 in
     rw (p.1, p.2) (
       shown c.in_err-insert_ids.field-0.0 _ _ (λ f is. duplicate limits c.args.schema.now (map val_view c.args.self.ids.keys) blocks (block_view c.args.block.now) f are.ids are.once is) c.in_err-insert_ids.ensures.new,
       tt,
     )
 
-pub returns-then-not-add_to_sums : goal.returns-then-not-add_to_sums
-returns-then-not-add_to_sums c = λ limits blocks are.
+pub returns-then-not-add_to_sums-clause-counted : goal.returns-then-not-add_to_sums-clause-counted
+returns-then-not-add_to_sums-clause-counted c = λ limits blocks are.
     let once = once_more (map val_view c.args.self.ids.keys) blocks (block_view c.args.block.now) are.ids are.once c.in_ok-insert_ids.ensures.new in
     let test : sums_fit c.args.schema.now (documents_in (blocks ++ block_view c.args.block.now ∷ [])) ≡ false =
     sym (fits_are c.args.schema.now c.args.self.sums.items blocks (block_view c.args.block.now) are.count are.sums)
@@ -43,8 +43,8 @@ returns-then-not-add_to_sums c = λ limits blocks are.
     ∙ sym c.add_to_sums.ensures.fits ∙ c.if-not-add_to_sums.true in
     (too_much limits c.args.schema.now (documents_in (blocks ++ block_view c.args.block.now ∷ [])) once test, tt)
 
-pub returns-in-Some : goal.returns-in-Some
-returns-in-Some c = λ limits blocks are.
+pub returns-in-Some-clause-counted : goal.returns-in-Some-clause-counted
+returns-in-Some-clause-counted c = λ limits blocks are.
     let block = block_view c.args.block.now in
     let keys = map val_view c.args.self.ids.keys in
     let once = once_more keys blocks block are.ids are.once c.in_ok-insert_ids.ensures.new in
@@ -67,8 +67,8 @@ returns-in-Some c = λ limits blocks are.
       },
     )
 
-pub returns-in-None : goal.returns-in-None
-returns-in-None c = λ limits blocks are.
+pub returns-in-None-clause-counted : goal.returns-in-None-clause-counted
+returns-in-None-clause-counted c = λ limits blocks are.
     let block = block_view c.args.block.now in
     let once = once_more (map val_view c.args.self.ids.keys) blocks block are.ids are.once c.in_ok-insert_ids.ensures.new in
     let yes : c.add_to_sums.result ≡ true = c.if-not-add_to_sums.false in
@@ -77,3 +77,15 @@ returns-in-None c = λ limits blocks are.
     ∙ ap (λ sums. list_all (λ field. nat_le (get_or sums field 0 + absolute_total (documents_of block) field) total_limit) (range_with_len 0 (length sums))) (sym c.deref_mut.ensures.value)
     ∙ sym c.add_to_sums.ensures.fits ∙ yes in
     (too_many limits (limits_view c.args.self.left) c.args.schema.now blocks block are.left once test (sym c.in-None.ensures), tt)
+
+pub returns-in-Some-clause-fields : goal.returns-in-Some-clause-fields
+returns-in-Some-clause-fields c =
+    let kept = with_items_is c.args.self.sums c.add_to_sums.new.sums (omega arith) in
+    ap length kept ∙ c.add_to_sums.auto.sums ∙ ap length c.deref_mut.ensures.value ∙ c.requires.fields
+
+pub returns-in-Some-clause-within : goal.returns-in-Some-clause-within
+returns-in-Some-clause-within c =
+    let yes : c.add_to_sums.result ≡ true = c.if-not-add_to_sums.false in
+    let still : All (λ sum. sum ≤ total_limit) c.add_to_sums.new.sums = rw yes at c.add_to_sums.ensures.still in
+    let kept = with_items_is c.args.self.sums c.add_to_sums.new.sums (omega arith) in
+    subst (All (λ sum. sum ≤ total_limit)) (sym kept) still
