@@ -1,0 +1,12 @@
+pub mod Linked
+pub mod Written
+pub mod Loop
+pub mod TextReading
+pub mod Taking
+pub mod NumberLaws
+pub mod ManyLaws
+pub mod KeyLaws
+pub mod StatisticLaws
+pub mod TakenMessages
+pub mod SpelledMessages
+pub mod Decoded

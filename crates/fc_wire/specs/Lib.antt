@@ -1,0 +1,4 @@
+pub mod Faults
+pub mod Fitting
+pub mod Reading
+pub mod FieldReading
