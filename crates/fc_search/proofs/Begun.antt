@@ -8,6 +8,7 @@ use Rattle.fc_spec.specs.words.Lists.{numbers_below}
 use Rattle.fc_spec.specs.documents.World.{World}
 use Rattle.fc_spec.specs.requests.Request.{Request}
 use Rattle.fc_spec.specs.messages.Message.{first}
+use Rattle.fc_spec.specs.messages.Rounds.{rounds_from}
 use Rattle.fc_spec.specs.messages.Held.{Told}
 use Rattle.fc_spec.specs.messages.Lacks.{Lack, terms_depth}
 use Rattle.fc_spec.proofs.messages.Ways.{some_exact}
@@ -15,8 +16,9 @@ use Rattle.fc_coord.specs.State.{State, at_start, begun, lacks_next}
 use Rattle.fc_coord.specs.Keeps.{Keeps}
 use Rattle.fc_coord.proofs.Beginning.{HasBegun, has_begun}
 use Rattle.fc_phase.specs.Asked.{asked_count}
-use Rattle.fc_search.specs.Hearing.{IsHearing, WasTold, rounds_left}
+use Rattle.fc_search.specs.Hearing.{HasHeard, WasTold, rounds_left}
 use Rattle.fc_search.proofs.AskedAgain.{made_asked}
+use Rattle.fc_search.proofs.TraceRounds.{at_first}
 
 -- at the start every shard is awaited
 first_awaited : (n : ℕ) → 1 ≤ n → list_any is_some (map (λ i. Some first) (numbers_below n)) ≡ true
@@ -32,10 +34,15 @@ told_at_start r W n shards some kept = record {
   fresh = refl;
   asks = made_asked (λ ask. 0 < asked_count ask) (λ i. Some first) (λ i ask e. subst (λ a. 0 < asked_count a) (some_exact first ask e) (omega arith)) (numbers_below n);
   goes_on = λ unready. first_awaited n some;
+  rounds = λ j. rounds_from r W (all_left j) 2 (at_first r W n shards j);
+  counted = (omega arith, omega arith);
 }
+  where
+    all_left : terms_depth r.nodes + 1 - 1 ≡ terms_depth r.nodes
+    all_left = omega arith
 
-pub hearing_at_start : (r : Request) (W : World) (n : ℕ) (s : State) → n ≡ length W → 1 ≤ n → s ≡ at_start r n → Keeps s [] → IsHearing r W s
-hearing_at_start r W n s shards some is kept = subst (λ x. Keeps x [] → IsHearing r W x) (sym is) (λ k. ([], told_at_start r W n shards some k)) kept
+pub hearing_at_start : (r : Request) (W : World) (n : ℕ) (s : State) → n ≡ length W → 1 ≤ n → s ≡ at_start r n → Keeps s [] → HasHeard r W s []
+hearing_at_start r W n s shards some is kept = subst (λ x. Keeps x [] → HasHeard r W x []) (sym is) (λ k. ([], told_at_start r W n shards some k, refl)) kept
 
 -- ---- behind a round fewer are left
 

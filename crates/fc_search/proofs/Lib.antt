@@ -1,3 +1,4 @@
+pub mod TraceRounds
 pub mod Awaited
 pub mod AskedAgain
 pub mod OwnLimits
@@ -9,3 +10,7 @@ pub mod WaitingSeats
 pub mod Begun
 pub mod Told
 pub mod Replied
+pub mod Heard
+pub mod Spelled
+pub mod ResponseLists
+pub mod ResponsesHeard

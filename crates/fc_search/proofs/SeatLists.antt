@@ -48,7 +48,7 @@ seats_whole r W asks i seats all whole was =
 -- ---- their turns
 
 -- where no seat waits each has its message
-pub all_told : {B : Type 0} {Q : B → Type 0} (seats : List (Seat B Q)) → All IsSat seats → All (λ seat. is_some seat.message ≡ true) seats → All HasTold seats
+pub all_told : {B : Type 0} {Q : B → Type 0} (seats : List (Seat B Q)) → All IsSat seats → All (λ seat. is_some seat.bytes ≡ true) seats → All HasTold seats
 all_told seats sat there = λ k d below. (sat k d below).told (there k d below)
 
 -- what a list of the same length leaves behind

@@ -1,18 +1,15 @@
 -- What workers answer, in a list.
-use Rattle.std.proofs.Common.{◌≡◌, ℕ, suc, ◌+◌, ◌<◌, List, [], ◌∷◌, ◌++◌, append_assoc, append-nil, length, drop, get_or, map, All, true, false, None, Some, Option, is_some, refl, sym, ◌∙◌, ap, subst, arith}
-use Rattle.std.specs.Prelude.{option_map, slice_get}
+use Rattle.std.proofs.Common.{◌≡◌, ℕ, suc, ◌+◌, ◌<◌, List, [], ◌∷◌, ◌++◌, append_assoc, append-nil, length, drop, map, All, true, false, Some, Option, is_some, refl, sym, ◌∙◌, ap, subst, arith, Vec, Global}
+use Rattle.std.specs.Prelude.{slice_get}
 use Rattle.std.specs.Arc.{arc_value}
-use Rattle.std.proofs.lemmas.List.{drop_all, length-map, map-append}
-use Rattle.std.proofs.lemmas.List.Elements.{All-nil, All-cons}
-use Rattle.std.proofs.Math.Seq.{drop-cons}
+use Rattle.std.proofs.lemmas.List.{drop_all, map-append}
 use Rattle.fc_spec.specs.documents.Document.{Block}
 use Rattle.fc_spec.specs.documents.World.{World}
 use Rattle.fc_spec.specs.laws.ShardAlone.{AnswersFromItsBlocks}
 use Rattle.fc_spec.specs.messages.Answer.{answer}
-use Rattle.fc_spec.specs.messages.Message.{Ask, Partials}
+use Rattle.fc_spec.specs.messages.Message.{Ask}
+use Rattle.fc_spec.specs.messages.Nesting.{Spells}
 use Rattle.fc_spec.specs.requests.Request.{Request}
-use Rattle.fc_partial.specs.BucketView.{message_view}
-use Rattle.fc_partial.specs.declared.bucket.Message.{Message}
 use Rattle.fc_refine.specs.AskView.{ask_view}
 use Rattle.fc_refine.specs.Named.{NamesKeys}
 use Rattle.fc_request.specs.RequestView.{request_view}
@@ -25,6 +22,7 @@ use Rattle.fc_store.specs.Generated.{Generated}
 use Rattle.fc_search.specs.Askable.{IsAskable}
 use Rattle.fc_search.specs.Hearing.{ShardAnswer, answers_from}
 use Rattle.fc_search.specs.Slots.{AllAnswered, CanAnswer, HasAnswer, slot_answer}
+use Rattle.fc_search.specs.Spelled.{AreBytesOf}
 use Rattle.fc_search.specs.declared.slot.Slot.{Slot}
 use Rattle.fc_search.proofs.Awaited.{next_answer, no_answer}
 
@@ -68,24 +66,6 @@ pub slots_whole : (r : Request) (W : World) (asks : List (Option Ask)) (i : ℕ)
 slots_whole r W asks i slots all whole was =
     sym (append-nil (map (slot_answer r) slots)) ∙ ap (λ others. map (slot_answer r) slots ++ answers_from r W i others) (sym (drop_all i asks (omega (arith, whole)))) ∙ was
 
--- ---- their messages
-
--- its message is there
-abbrev pub IsTold : Slot → Type 0
-IsTold slot = is_some slot.message ≡ true
-
--- the message of one more is there
-pub told_more : (slots : List Slot) (i : ℕ) (slot : Slot) → i < length slots → slot ≡ get_or slots i slot → is_some slot.message ≡ true
-    → (All IsTold (drop i slots) → All IsTold slots) → All IsTold (drop (i + 1) slots) → All IsTold slots
-told_more slots i slot there is told was rest =
-    let same : suc i ≡ i + 1 = omega arith in
-    let own : IsTold (get_or slots i slot) = subst IsTold is told in
-    was (subst (All IsTold) (sym (drop-cons slots i slot there)) (All-cons IsTold (get_or slots i slot) (drop (suc i) slots) own (subst (λ k. All IsTold (drop k slots)) (sym same) rest)))
-
--- none is left to look at
-pub told_whole : (slots : List Slot) (i : ℕ) → length slots ≡ i → (All IsTold (drop i slots) → All IsTold slots) → All IsTold slots
-told_whole slots i whole was = was (subst (All IsTold) (sym (drop_all i slots (omega (arith, whole)))) (All-nil IsTold))
-
 -- ---- they are answered
 
 -- the same answers are theirs
@@ -98,24 +78,13 @@ answers_same r (s ∷ before) (t ∷ after) are =
     let rest = answers_same r before after (record { count = omega (arith, count); each = λ k d below. are.each (suc k) d (omega (arith, below)) }) in
     λ i. (are.each 0 s (omega arith)).answer i ∷ rest i
 
--- messages that are there are the answers
-pub told_answers : (r : Request) (before after : List Slot) → AllAnswered r before after → All IsTold after → All (HasAnswer r) after
-told_answers r before after are told = λ k d below. (are.each k d (let count = are.count in omega (arith, count, below))).told (told k d below)
+-- bytes that are there are those of the answers
+abbrev pub TellsIfThere : Request → Slot → Type 0
+TellsIfThere r slot = is_some slot.bytes ≡ true → HasAnswer r slot
 
--- ---- they are told
+pub each_tells : (r : Request) (before after : List Slot) → AllAnswered r before after → All (TellsIfThere r) after
+each_tells r before after are = λ k d below. (are.each k d (let count = are.count in omega (arith, count, below))).told
 
--- as many as before
-pub same_count : (r : Request) (new old : List Slot) → map (slot_answer r) new ≡ map (slot_answer r) old → length new ≡ length old
-same_count r new old same = sym (length-map new (slot_answer r)) ∙ ap length same ∙ length-map old (slot_answer r)
-
--- one that has its answer has a message
-pub has_message : (r : Request) (slot : Slot) → HasAnswer r slot → is_some slot.message ≡ true
-has_message r slot has = told slot.message has
-  where
-    told : (m : Option Message) → option_map message_view m ≡ Some ((slot_answer r slot).message) → is_some m ≡ true
-    told None e = absurd (cc)
-    told (Some m) e = refl
-
--- and that is the answer
-pub told_message : (r : Request) (slot : Slot) (m : Partials) → HasAnswer r slot → option_map message_view slot.message ≡ Some m → m ≡ (slot_answer r slot).message
-told_message r slot m has is = let both : Some m ≡ Some ((slot_answer r slot).message) = sym is ∙ has in cc
+-- those of one of them
+pub slot_tells : (r : Request) (slot : Slot) (bytes : Vec ℕ Global) → TellsIfThere r slot → slot.bytes ≡ Some bytes → Spells bytes.items (slot_answer r slot).message
+slot_tells r slot bytes tells is = subst (λ o. AreBytesOf o (slot_answer r slot).message) is (tells (ap is_some is))

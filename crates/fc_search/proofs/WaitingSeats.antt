@@ -13,29 +13,29 @@ use Rattle.fc_search.specs.declared.seat.Seat.{Seat}
 use Rattle.fc_search.proofs.Untold.{none_untold, removed_at, told_step, untold_at, untold_step}
 
 -- whether the message of the seat at a place is there
-told_of : {B : Type 0} {Q : B → Type 0} (seats : List (Seat B Q)) (k : ℕ) (seat : Seat B Q) → k < length seats → get_or (told_at seats) k (is_some seat.message) ≡ is_some (get_or seats k seat).message
-told_of seats k seat there = get_or-map (λ s. is_some s.message) seats k seat (is_some seat.message) there
+told_of : {B : Type 0} {Q : B → Type 0} (seats : List (Seat B Q)) (k : ℕ) (seat : Seat B Q) → k < length seats → get_or (told_at seats) k (is_some seat.bytes) ≡ is_some (get_or seats k seat).bytes
+told_of seats k seat there = get_or-map (λ s. is_some s.bytes) seats k seat (is_some seat.bytes) there
 
 told_there : {B : Type 0} {Q : B → Type 0} (seats : List (Seat B Q)) (k : ℕ) → k < length seats → k < length (told_at seats)
-told_there seats k there = let long = length-map seats (λ s. is_some s.message) in omega (arith, there, long)
+told_there seats k there = let long = length-map seats (λ s. is_some s.bytes) in omega (arith, there, long)
 
 -- ---- the places are gathered
 
 -- the seat at this place has its message
-pub place_passed : {B : Type 0} {Q : B → Type 0} (seats : List (Seat B Q)) (k : ℕ) (seat : Seat B Q) (places all : List ℕ) → k < length seats → seat ≡ get_or seats k seat → is_some seat.message ≡ true
+pub place_passed : {B : Type 0} {Q : B → Type 0} (seats : List (Seat B Q)) (k : ℕ) (seat : Seat B Q) (places all : List ℕ) → k < length seats → seat ≡ get_or seats k seat → is_some seat.bytes ≡ true
     → places ++ untold_from k (drop k (told_at seats)) ≡ all → places ++ untold_from (k + 1) (drop (k + 1) (told_at seats)) ≡ all
 place_passed seats k seat places all there is told was =
-    let own = told_of seats k seat there ∙ ap (λ s. is_some s.message) (sym is) ∙ told in
-    let next = told_step (told_at seats) k k (is_some seat.message) (told_there seats k there) own in
+    let own = told_of seats k seat there ∙ ap (λ s. is_some s.bytes) (sym is) ∙ told in
+    let next = told_step (told_at seats) k k (is_some seat.bytes) (told_there seats k there) own in
     let same : k + 1 ≡ suc k = omega arith in
     ap (λ n. places ++ untold_from n (drop n (told_at seats))) same ∙ ap (λ rest. places ++ rest) (sym next) ∙ was
 
 -- it waits
-pub place_found : {B : Type 0} {Q : B → Type 0} (seats : List (Seat B Q)) (k : ℕ) (seat : Seat B Q) (places all : List ℕ) → k < length seats → seat ≡ get_or seats k seat → is_some seat.message ≡ false
+pub place_found : {B : Type 0} {Q : B → Type 0} (seats : List (Seat B Q)) (k : ℕ) (seat : Seat B Q) (places all : List ℕ) → k < length seats → seat ≡ get_or seats k seat → is_some seat.bytes ≡ false
     → places ++ untold_from k (drop k (told_at seats)) ≡ all → (places ++ k ∷ []) ++ untold_from (k + 1) (drop (k + 1) (told_at seats)) ≡ all
 place_found seats k seat places all there is waits was =
-    let own = told_of seats k seat there ∙ ap (λ s. is_some s.message) (sym is) ∙ waits in
-    let next = untold_step (told_at seats) k k (is_some seat.message) (told_there seats k there) own in
+    let own = told_of seats k seat there ∙ ap (λ s. is_some s.bytes) (sym is) ∙ waits in
+    let next = untold_step (told_at seats) k k (is_some seat.bytes) (told_there seats k there) own in
     let same : k + 1 ≡ suc k = omega arith in
     ap (λ n. (places ++ k ∷ []) ++ untold_from n (drop n (told_at seats))) same ∙ append_assoc places (k ∷ []) (untold_from (suc k) (drop (suc k) (told_at seats))) ∙ ap (λ rest. places ++ rest) (sym next) ∙ was
 
@@ -50,8 +50,8 @@ pub place_waits : {B : Type 0} {Q : B → Type 0} (seats : List (Seat B Q)) (k d
 place_waits seats k d picked =
     let own = untold_at (told_at seats) 0 k d picked in
     let place : get_or (waiting_places seats) k d ≡ own.at = (let is = own.place_is in omega (arith, is)) in
-    let there : own.at < length seats = (let below = own.there in let long = length-map seats (λ s. is_some s.message) in omega (arith, below, long)) in
-    subst (IsWaiting seats) (sym place) (record { there = there; waits = λ seat. sym (told_of seats own.at seat there) ∙ own.waits (is_some seat.message) })
+    let there : own.at < length seats = (let below = own.there in let long = length-map seats (λ s. is_some s.bytes) in omega (arith, below, long)) in
+    subst (IsWaiting seats) (sym place) (record { there = there; waits = λ seat. sym (told_of seats own.at seat there) ∙ own.waits (is_some seat.bytes) })
 
 pub each_there : {B : Type 0} {Q : B → Type 0} (seats : List (Seat B Q)) (places : List ℕ) → places ≡ waiting_places seats → All (λ place. place < length seats) places
 each_there seats places are = subst (All (λ place. place < length seats)) (sym are) (λ k d below. (place_waits seats k d below).there)
@@ -91,20 +91,20 @@ module _ {B : Type 0} {Q : B → Type 0} (seats : List (Seat B Q)) (places shard
   numbers = map-set_same (λ s. s.shard) seats place after d (ap (λ (a : ShardAnswer). a.shard) turned.answer)
 
   -- where it goes on waiting nothing changes
-  pub places_same : is_some after.message ≡ false → places ≡ waiting_places (slice_set seats place after)
-  places_same waits = places_are ∙ ap (untold_from 0) (sym (map-set_same (λ s. is_some s.message) seats place after d (waits ∙ sym (own.waits d))))
+  pub places_same : is_some after.bytes ≡ false → places ≡ waiting_places (slice_set seats place after)
+  places_same waits = places_are ∙ ap (untold_from 0) (sym (map-set_same (λ s. is_some s.bytes) seats place after d (waits ∙ sym (own.waits d))))
 
-  pub shards_same : is_some after.message ≡ false → shards ≡ waiting_shards (slice_set seats place after)
+  pub shards_same : is_some after.bytes ≡ false → shards ≡ waiting_shards (slice_set seats place after)
   shards_same waits = shards_are ∙ (λ j. map (slice_index (sym numbers j)) ((sym places_are ∙ places_same waits) j))
 
   -- where its message is there it is taken out
-  pub places_without : is_some after.message ≡ true → remove places k ≡ waiting_places (slice_set seats place after)
+  pub places_without : is_some after.bytes ≡ true → remove places k ≡ waiting_places (slice_set seats place after)
   places_without there =
-      let told : told_at (slice_set seats place after) ≡ slice_set (told_at seats) place true = map-set (λ s. is_some s.message) seats place after ∙ ap (slice_set (told_at seats) place) there in
+      let told : told_at (slice_set seats place after) ≡ slice_set (told_at seats) place true = map-set (λ s. is_some s.bytes) seats place after ∙ ap (slice_set (told_at seats) place) there in
       let at : get_or (waiting_places seats) k place ≡ place = sym (is ∙ ap (λ ps. get_or ps k place) places_are) in
       ap (λ ps. remove ps k) places_are ∙ sym (removed_at (told_at seats) k place (subst (λ ps. k < length ps) places_are picked)) ∙ ap (λ p. untold_from 0 (slice_set (told_at seats) p true)) at ∙ ap (untold_from 0) (sym told)
 
-  pub shards_without : is_some after.message ≡ true → remove shards k ≡ waiting_shards (slice_set seats place after)
+  pub shards_without : is_some after.bytes ≡ true → remove shards k ≡ waiting_shards (slice_set seats place after)
   shards_without there =
       ap (λ ns. remove ns k) shards_are ∙ sym (map_remove (shard_at seats) (waiting_places seats) k) ∙ ap (λ ps. map (shard_at seats) (remove ps k)) (sym places_are)
       ∙ (λ j. map (slice_index (sym numbers j)) (places_without there j))
@@ -135,5 +135,5 @@ module _ {B : Type 0} {Q : B → Type 0} (before after : List (Seat B Q)) (one :
       omega (arith, whole, same, less)
 
 -- where no seat waits each has its message
-pub none_waits : {B : Type 0} {Q : B → Type 0} (seats : List (Seat B Q)) → length (waiting_places seats) ≡ 0 → All (λ seat. is_some seat.message ≡ true) seats
-none_waits seats none = λ k d below. sym (told_of seats k d below) ∙ none_untold (told_at seats) 0 k (is_some d.message) none (told_there seats k below)
+pub none_waits : {B : Type 0} {Q : B → Type 0} (seats : List (Seat B Q)) → length (waiting_places seats) ≡ 0 → All (λ seat. is_some seat.bytes ≡ true) seats
+none_waits seats none = λ k d below. sym (told_of seats k d below) ∙ none_untold (told_at seats) 0 k (is_some d.bytes) none (told_there seats k below)

@@ -1,12 +1,14 @@
 -- A search under way: what its coordinator was told are answers of the shards of a world.
-use Rattle.std.specs.Prelude.{◌≡◌, ℕ, suc, ◌+◌, ◌-◌, ◌<◌, List, [], ◌∷◌, length, true, false, is_some, Option, None, Some, if◌then◌else◌}
+use Rattle.std.specs.Prelude.{◌≡◌, ℕ, suc, ◌+◌, ◌-◌, ◌<◌, ◌≤◌, List, [], ◌∷◌, ◌++◌, map, length, true, false, is_some, Option, None, Some, option_map, if◌then◌else◌}
 use Rattle.std.specs.List.{AllByRecursion, list_any}
 use Rattle.fc_spec.specs.documents.World.{World}
 use Rattle.fc_spec.specs.requests.Request.{Request}
 use Rattle.fc_spec.specs.messages.Message.{Partials, Ask}
 use Rattle.fc_spec.specs.messages.Answer.{answer}
 use Rattle.fc_spec.specs.messages.Lacks.{terms_depth}
-use Rattle.fc_spec.specs.messages.Rounds.{SentMessage, told_in}
+use Rattle.fc_spec.specs.messages.Rounds.{SentMessage, told_in, sent_by, rounds_from, search_rounds}
+use Rattle.fc_spec.specs.messages.Trace.{Sent, entry_of}
+use Rattle.fc_spec.specs.messages.Lengths.{Lengths, put_all}
 use Rattle.fc_spec.specs.laws.Merging.{IsAnswer}
 use Rattle.fc_coord.specs.State.{State, ask_at}
 use Rattle.fc_coord.specs.Keeps.{Keeps}
@@ -27,7 +29,20 @@ answers_from r W i (Some ask ∷ asks) = record { shard = i; message = answer r 
 abbrev pub awaited_answers : Request → World → State → List ShardAnswer
 awaited_answers r W s = answers_from r W 0 s.asks
 
--- the coordinator of the request was told these answers of the world's shards, and keeps what they tell; who is asked for buckets is asked for one at least; and until the reply can be made some shard is awaited
+-- the messages of a round that answer asks of shards, of which the first has the number i
+abbrev pub messages_from : Request → World → (round i : ℕ) → List (Option Ask) → List SentMessage
+messages_from r W round i [] = []
+messages_from r W round i (None ∷ asks) = messages_from r W round (suc i) asks
+messages_from r W round i (Some ask ∷ asks) = sent_by r W round i ask ∷ messages_from r W round (suc i) asks
+
+abbrev pub awaited_messages : Request → World → State → List SentMessage
+awaited_messages r W s = messages_from r W s.round 0 s.asks
+
+-- the messages so far, those that are awaited, and those of the rounds behind this one; nothing more, once the reply can be made
+abbrev pub all_messages : Request → World → State → List SentMessage → List SentMessage
+all_messages r W s sent = if s.ready then sent else rounds_from r W (terms_depth r.nodes + 1 - s.round) (suc s.round) (sent ++ awaited_messages r W s)
+
+-- the coordinator of the request was told these answers of the world's shards, and keeps what they tell; who is asked for buckets is asked for one at least; and until the reply can be made some shard is awaited. They are the messages of the search so far
 pub record WasTold (r : Request) (W : World) (s : State) (sent : List SentMessage) : Type 0 where
   pub request : s.request ≡ r
   pub shards : length s.asks ≡ length W
@@ -36,6 +51,8 @@ pub record WasTold (r : Request) (W : World) (s : State) (sent : List SentMessag
   pub fresh : s.spent ≡ false
   pub asks : (i : ℕ) (ask : Ask) → ask_at s.asks i ≡ Some ask → 0 < asked_count ask
   pub goes_on : s.ready ≡ false → list_any is_some s.asks ≡ true
+  pub rounds : all_messages r W s sent ≡ search_rounds r W
+  pub counted : (1 ≤ s.round) × (s.round ≤ terms_depth r.nodes + 1)
 
 abbrev pub IsHearing : Request → World → State → Type 0
 IsHearing r W s = (sent : List SentMessage) × WasTold r W s sent
@@ -43,3 +60,19 @@ IsHearing r W s = (sent : List SentMessage) × WasTold r W s sent
 -- how many rounds there are at most from this one on; none once the reply can be made
 abbrev pub rounds_left : State → ℕ
 rounds_left s = if s.ready then 0 else suc (terms_depth s.request.nodes + 1 - s.round)
+
+-- a search under way whose messages so far have these entries
+abbrev pub HasHeard : Request → World → State → List Sent → Type 0
+HasHeard r W s es = (sent : List SentMessage) × WasTold r W s sent × (map entry_of sent ≡ es)
+
+-- some entries are put into a map, and they are those of the messages that were told since
+pub record HeardSince (r : Request) (W : World) (before after : State) (old new : Option Lengths) : Type 0 where
+  pub entries : List Sent
+  pub put : new ≡ option_map (put_all entries) old
+  pub heard : (es : List Sent) → HasHeard r W before es → HasHeard r W after (es ++ entries)
+
+-- all that was told so far is put into the map
+pub record IsTraced (r : Request) (W : World) (s : State) (old new : Option Lengths) : Type 0 where
+  pub entries : List Sent
+  pub put : new ≡ option_map (put_all entries) old
+  pub heard : HasHeard r W s entries

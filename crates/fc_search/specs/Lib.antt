@@ -1,8 +1,9 @@
 pub mod Askable
 pub mod Finished
 pub mod Hearing
-pub mod Picks
+pub mod Responses
 pub mod SearchLaws
 pub mod Seats
 pub mod Slots
+pub mod Spelled
 pub mod Waiting

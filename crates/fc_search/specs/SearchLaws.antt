@@ -4,21 +4,26 @@ use Rattle.fc_spec.specs.requests.Request.{Request}
 use Rattle.fc_spec.specs.requests.ValidRequests.{IsValidRequest}
 use Rattle.fc_spec.specs.laws.Merging.{MergesIntoReply}
 use Rattle.fc_spec.specs.laws.RefinedPaths.{AreRefinedPathsExact}
-use Rattle.fc_spec.specs.laws.RequestLaws.{ValidHaveFewDepths}
+use Rattle.fc_spec.specs.laws.RequestLaws.{ValidAnswersNestLittle, ValidHaveFewDepths}
 use Rattle.fc_spec.specs.laws.ShapedAnswers.{AnswersAreShaped}
 use Rattle.fc_spec.specs.laws.ShardAlone.{AnswersFromItsBlocks}
+use Rattle.fc_spec.specs.laws.SpellingLaw.{HasOneSpelling}
 use Rattle.fc_spec.specs.laws.SumsLaw.{AnswersFit}
 use Rattle.fc_spec.specs.laws.WithoutLimits.{IsSingleWithoutLimits}
 use Rattle.fc_refine.specs.CountableRanges.{AreCountable}
 use Rattle.fc_told.specs.Telling.{FitsExactly, TellsMore}
 
--- of answers that are told: they are their shards' own, have the right shape, and fit where no bucket is told twice
+-- of answers that are told: they are their shards' own, have the right shape, fit where no bucket is told twice, and have bytes
+-- that are no other message's; and rounds are few
 pub record AreTellingLaws : Type 0 where
   pub alone : AnswersFromItsBlocks
   pub shaped : AnswersAreShaped
   pub fit : AnswersFit
   pub more : TellsMore
   pub exact : FitsExactly
+  pub nest : ValidAnswersNestLittle
+  pub spelled : HasOneSpelling
+  pub depths : ValidHaveFewDepths
 
 -- of valid requests, and of what answers merge into
 pub record AreReplyLaws : Type 0 where

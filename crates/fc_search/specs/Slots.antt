@@ -1,9 +1,8 @@
 -- What workers answer in a round.
-use Rattle.std.specs.Prelude.{◌≡◌, ℕ, ◌<◌, List, [], ◌∷◌, length, true, Some, is_some, option_map, slice_index_or}
+use Rattle.std.specs.Prelude.{◌≡◌, ℕ, ◌<◌, List, [], ◌∷◌, length, true, is_some, slice_index_or}
 use Rattle.std.specs.Arc.{arc_value}
 use Rattle.fc_spec.specs.messages.Answer.{answer}
 use Rattle.fc_spec.specs.requests.Request.{Request}
-use Rattle.fc_partial.specs.BucketView.{message_view}
 use Rattle.fc_request.specs.RequestView.{request_view}
 use Rattle.fc_request.specs.declared.request.Request as asked
 use Rattle.fc_refine.specs.AskView.{ask_view}
@@ -11,6 +10,7 @@ use Rattle.fc_refine.specs.Named.{NamesKeys}
 use Rattle.fc_phase.specs.Asked.{asked_count}
 use Rattle.fc_search.specs.Askable.{IsAskable}
 use Rattle.fc_search.specs.Hearing.{ShardAnswer}
+use Rattle.fc_search.specs.Spelled.{AreBytesOf}
 use Rattle.fc_search.specs.declared.slot.Slot.{Slot}
 
 -- the answer of its shard
@@ -23,14 +23,14 @@ pub record CanAnswer (request : asked.Request) (slot : Slot) : Type 0 where
   pub some : 0 < asked_count (ask_view slot.ask)
   pub names : NamesKeys (request_view request).nodes (ask_view slot.ask)
 
--- its message is there: the answer
+-- its message is there: the bytes of the answer
 abbrev pub HasAnswer : Request → Slot → Type 0
-HasAnswer r slot = option_map message_view slot.message ≡ Some ((slot_answer r slot).message)
+HasAnswer r slot = AreBytesOf slot.bytes (slot_answer r slot).message
 
 -- what a worker makes of it: the same answer is its shard's, and a message that is there is that
 pub record IsAnswered (r : Request) (before after : Slot) : Type 0 where
   pub answer : slot_answer r after ≡ slot_answer r before
-  pub told : is_some after.message ≡ true → HasAnswer r after
+  pub told : is_some after.bytes ≡ true → HasAnswer r after
 
 -- so of each of a list
 pub record AllAnswered (r : Request) (before after : List Slot) : Type 0 where

@@ -5,7 +5,7 @@ use Rattle.fc_search.specs.declared.seat.Seat.{Seat}
 
 -- for each seat whether its message is there
 abbrev pub told_at : {B : Type 0} {Q : B → Type 0} → List (Seat B Q) → List Bool
-told_at seats = map (λ seat. is_some seat.message) seats
+told_at seats = map (λ seat. is_some seat.bytes) seats
 
 -- the places where it is not there, ascending, the first of all having place i
 abbrev pub untold_from : ℕ → List Bool → List ℕ

@@ -1,13 +1,26 @@
 // The turns of a round.
 ghost use Rattle.std.specs.Prelude.{◌≡◌, ◌<◌, All, IfOk, OnOk, length, map, slice_index, vec_len};
+ghost use Rattle.std.specs.Arc.{arc_value};
+ghost use Rattle.fc_request.specs.RequestView.{request_view};
+ghost use Rattle.fc_coord.specs.CoordView.{state_view};
 ghost use Rattle.fc_kind.specs.Names.{Covers};
+ghost use Rattle.fc_search.specs.Askable.{AreAskable, world_of};
+ghost use Rattle.fc_search.specs.Hearing.{IsHearing, awaited_answers};
+ghost use Rattle.fc_search.specs.Responses.{SpellAnswers};
 ghost use Rattle.fc_search.specs.Seats.{HasTold, IsSat, seat_answer};
 ghost use Rattle.fc_search.specs.Waiting.{IsTurnAt, IsTurnOfOne, shard_at, waiting_places, waiting_shards};
 
 use crate::Turns;
+use crate::response::Response;
 use crate::seat::Seat;
+use crate::seats::seats_of;
 use fc_base::WantMemory;
+use fc_coord::Coord;
+use fc_kind::FacetKind;
+use fc_request::Request;
+use fc_store::Generation;
 use std::alloc::Global;
+use std::sync::Arc;
 
 // The places of the seats that wait.
 fn waiting(alloc: Global, seats: &[Seat<'_>]) -> Result<Vec<usize>, WantMemory>
@@ -15,7 +28,7 @@ fn waiting(alloc: Global, seats: &[Seat<'_>]) -> Result<Vec<usize>, WantMemory>
 {
     let mut places = Vec::with_capacity(alloc, seats.len())?;
     for (place, seat) in seats.iter().enumerate() {
-        if seat.message.is_some() {
+        if seat.bytes.is_some() {
             continue;
         }
         places.push(place)?;
@@ -37,6 +50,7 @@ fn shards_at(alloc: Global, seats: &[Seat<'_>], places: &[usize]) -> Result<Vec<
 
 // The seat at the place that is picked does a turn. It waits no longer, once its message is there.
 fn turn_at(
+    alloc: Global,
     seats: &mut [Seat<'_>],
     places: &mut Vec<usize>,
     shards: &mut Vec<u32>,
@@ -53,7 +67,7 @@ fn turn_at(
     ensures shards { OnOk result (shards.new.items ≡ waiting_shards seats.new) }
 {
     let place = places[picked];
-    if !seats[place].turn()? {
+    if !seats[place].turn(alloc)? {
         return Ok(());
     }
     places.remove(picked);
@@ -63,6 +77,7 @@ fn turn_at(
 
 // Asks `turns` which of the shards that are not done is next; that one's seat does a turn.
 fn step<T: Turns>(
+    alloc: Global,
     seats: &mut [Seat<'_>],
     places: &mut Vec<usize>,
     shards: &mut Vec<u32>,
@@ -79,17 +94,13 @@ fn step<T: Turns>(
     ensures shards { OnOk result (shards.new.items ≡ waiting_shards seats.new) }
 {
     let picked = turns.next(shards);
-    turn_at(seats, places, shards, picked)?;
+    turn_at(alloc, seats, places, shards, picked)?;
     Ok(())
 }
 
-/// The futures do their turns, one at a time, as `turns` says, until each message is there. `turns` is asked once for
-/// each turn.
-pub(crate) fn drive<T: Turns>(
-    alloc: Global,
-    seats: &mut [Seat<'_>],
-    turns: &mut T,
-) -> Result<(), WantMemory>
+// The futures do their turns, one at a time, as `turns` says, until each message is there. `turns` is asked once for
+// each turn.
+fn drive<T: Turns>(alloc: Global, seats: &mut [Seat<'_>], turns: &mut T) -> Result<(), WantMemory>
     requires covers { All (λ seat. Covers (map (λ b. name (b.vtable, b.value)) seat.future.kinds.now)) seats.old }
     requires sat { All IsSat seats.old }
     ensures told { OnOk result (All HasTold seats.new) }
@@ -98,7 +109,33 @@ pub(crate) fn drive<T: Turns>(
     let mut places = waiting(alloc, seats)?;
     let mut shards = shards_at(alloc, seats, &places)?;
     while !places.is_empty() {
-        step(seats, &mut places, &mut shards, turns)?;
+        step(alloc, seats, &mut places, &mut shards, turns)?;
     }
     Ok(())
+}
+
+/// What each shard that is awaited sends, in the order of the shards: their futures do their turns as `turns` says.
+pub(crate) fn responses_by_turns<T: Turns>(
+    alloc: Global,
+    generations: &[Arc<Generation>],
+    request: &Request,
+    kinds: &[Box<dyn FacetKind>],
+    turns: &mut T,
+    coord: &Coord<'_>,
+) -> Result<Vec<Response>, WantMemory>
+    requires covers { Covers (map name kinds.now) }
+    requires askable { AreAskable request.now (map arc_value generations.now) }
+    requires hearing { IsHearing (request_view request.now) (world_of (map arc_value generations.now)) (state_view coord.now) }
+    ensures { IfOk result (λ responses. SpellAnswers responses.items
+        (awaited_answers (request_view request.now) (world_of (map arc_value generations.now)) (state_view coord.now))) }
+{
+    let mut seats = seats_of(alloc, generations, request, kinds, coord)?;
+    drive(alloc, &mut seats, turns)?;
+    let mut responses = Vec::with_capacity(alloc, seats.len())?;
+    for seat in seats {
+        let shard = seat.shard;
+        let bytes = seat.into_bytes();
+        responses.push(Response { shard, bytes })?;
+    }
+    Ok(responses)
 }

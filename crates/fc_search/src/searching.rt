@@ -1,8 +1,10 @@
 // The reply of a search.
-ghost use Rattle.std.specs.Prelude.{◌≡◌, ◌<◌, ◌≤◌, All, IfOk, IsTrue, None, OnOk, false, length, map};
+ghost use Rattle.std.specs.Prelude.{◌≡◌, ◌≤◌, All, IfOk, IsTrue, None, OnOk, length, map, option_map};
 ghost use Rattle.std.specs.Arc.{arc_value};
 ghost use Rattle.fc_spec.specs.documents.World.{single};
 ghost use Rattle.fc_spec.specs.laws.RefinedPaths.{AreFacetsOf, IsBucketOf, val_in};
+ghost use Rattle.fc_spec.specs.messages.Lengths.{put_all};
+ghost use Rattle.fc_spec.specs.messages.Trace.{trace};
 ghost use Rattle.fc_spec.specs.replies.Distributed.{distributed};
 ghost use Rattle.fc_spec.specs.replies.Exact.{exact};
 ghost use Rattle.fc_spec.specs.requests.Paths.{at_root};
@@ -10,16 +12,13 @@ ghost use Rattle.fc_spec.specs.requests.Shape.{no_limits};
 ghost use Rattle.fc_spec.specs.requests.ValidRequests.{IsValidRequest};
 ghost use Rattle.fc_spec.specs.scripts.WorldLimits.{IsWithinLimits};
 ghost use Rattle.fc_request.specs.RequestView.{IsRoot, request_view};
-ghost use Rattle.fc_coord.specs.CoordView.{state_view};
 ghost use Rattle.fc_reply.specs.ReplyView.{reply_view};
 ghost use Rattle.fc_kind.specs.Names.{Covers};
-ghost use Rattle.fc_search.specs.Askable.{AreAskable, world_of};
-ghost use Rattle.fc_search.specs.Hearing.{IsHearing, rounds_left};
+ghost use Rattle.fc_search.specs.Askable.{world_of};
 
-use crate::Turns;
 use crate::laws::reply_laws;
 use crate::round::run_round;
-use crate::workers::run_by_workers;
+use crate::{Probe, Turns};
 use fc_base::WantMemory;
 use fc_coord::Coord;
 use fc_kind::FacetKind;
@@ -30,39 +29,14 @@ use std::alloc::Global;
 use std::sync::Arc;
 use std::thread::Threads;
 
-// A round, by turns or by workers.
-fn next_round<R: Threads + Sync, T: Turns>(
-    rt: &R,
-    alloc: Global,
-    generations: &[Arc<Generation>],
-    request: &Request,
-    kinds: &[Box<dyn FacetKind>],
-    turns: &mut T,
-    workers: u32,
-    coord: &mut Coord<'_>,
-) -> Result<(), WantMemory>
-    requires workers { 1 ≤ workers }
-    requires covers { Covers (map name kinds.now) }
-    requires askable { AreAskable request.now (map arc_value generations.now) }
-    requires hearing { IsHearing (request_view request.now) (world_of (map arc_value generations.now)) (state_view coord.old) }
-    requires not_ready { (state_view coord.old).ready ≡ false }
-    ensures hearing { OnOk result
-        (IsHearing (request_view request.now) (world_of (map arc_value generations.now)) (state_view coord.new)) }
-    ensures fewer { OnOk result (rounds_left (state_view coord.new) < rounds_left (state_view coord.old)) }
-{
-    if workers == 1 {
-        run_round(alloc, generations, request, kinds, turns, coord)
-    } else {
-        run_by_workers(rt, alloc, generations, request, kinds, workers, coord)
-    }
-}
-
 /// The distributed reply to a request over the generations of 1 to 64 shards, in the order of the shards, whatever `turns`
 /// answers. With one worker `turns` is asked once before each turn of a future which of the shards that are not done does it.
 /// With more it is never asked: the shards that are awaited in a round are cut into at most so many runs of neighbours, and each
-/// run, where there are more than one, has a thread of its own where one can be made. The buckets on refined paths are exact
-/// over all shards, and without limits the reply is that of a single index with all the blocks.
-pub fn search<R: Threads + Sync, T: Turns>(
+/// run, where there are more than one, has a thread of its own where one can be made. Each shard's message comes as bytes, and
+/// `probe` is told of each once it is there: its round, from 1 to 9, its shard and its length. After want of memory the probe has
+/// been told of some of them. The buckets on refined paths are exact over all shards, and without limits the reply is that of a
+/// single index with all the blocks.
+pub fn search<R: Threads + Sync, T: Turns, P: Probe>(
     rt: &R,
     alloc: Global,
     generations: &[Arc<Generation>],
@@ -70,6 +44,7 @@ pub fn search<R: Threads + Sync, T: Turns>(
     kinds: &[Box<dyn FacetKind>],
     turns: &mut T,
     workers: u32,
+    probe: &mut P,
 ) -> Result<Reply, WantMemory>
     requires workers { (1 ≤ workers) × (workers ≤ 64) }
     requires covers { Covers (map name kinds.now) }
@@ -85,11 +60,13 @@ pub fn search<R: Threads + Sync, T: Turns>(
         (reply_view reply)) }
     ensures single_index { IfOk result (λ reply. IsTrue (no_limits (request_view request.now).nodes)
         → reply_view reply ≡ exact (request_view request.now) (single (world_of (map arc_value generations.now)))) }
+    ensures trace { OnOk result (P.lengths probe.new
+        ≡ option_map (put_all (trace (request_view request.now) (world_of (map arc_value generations.now)))) (P.lengths probe.old)) }
 {
     reply_laws();
     let mut coord = Coord::begin(alloc, request, generations.len() as u32)?;
     while !coord.ready() {
-        next_round(
+        run_round(
             rt,
             alloc,
             generations,
@@ -98,6 +75,7 @@ pub fn search<R: Threads + Sync, T: Turns>(
             turns,
             workers,
             &mut coord,
+            probe,
         )?;
     }
     let reply = coord.into_reply()?;

@@ -74,7 +74,7 @@ pub(crate) fn seats_of<'a>(
         seats.push(Seat {
             shard,
             future,
-            message: None,
+            bytes: None,
         })?;
     }
     Ok(seats)

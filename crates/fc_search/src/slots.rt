@@ -43,7 +43,7 @@ fn slot_of(shard: u32, generation: &Arc<Generation>, ask: &Ask) -> Result<Slot, 
         shard,
         generation,
         ask,
-        message: None,
+        bytes: None,
     })
 }
 

@@ -15,7 +15,7 @@ use fc_base::{Name, WantMemory};
 use fc_kind::FacetKind;
 use fc_reply::reply_line;
 use fc_request::Request;
-use fc_search::{RoundRobin, search};
+use fc_search::{NoProbe, RoundRobin, search};
 use fc_spec::first_batches_are_within;
 use fc_store::{Generation, ShardReader};
 use std::alloc::Global;
@@ -81,7 +81,16 @@ pub fn answer<R: Threads + Sync>(
     let generations = pin_all(alloc, readers)?;
     let numbers = numbers_of(alloc, &generations)?;
     let mut turns = RoundRobin::new();
-    let reply = search(rt, alloc, &generations, request, kinds, &mut turns, workers)?;
+    let reply = search(
+        rt,
+        alloc,
+        &generations,
+        request,
+        kinds,
+        &mut turns,
+        workers,
+        &mut NoProbe,
+    )?;
     let line = reply_line(alloc, &reply, &numbers, session)?;
     Ok(Answered {
         line,

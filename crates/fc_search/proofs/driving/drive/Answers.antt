@@ -8,23 +8,23 @@ use Rattle.fc_search.proofs.driving.drive.Goals as goal
 pub shards_at-requires : goal.shards_at-requires
 shards_at-requires g c = each_there c.args.seats.now c.deref.result.now (c.deref.ensures.value ∙ c.in_ok-places.ensures)
 
-pub loop-seats-preserved : goal.loop-seats-preserved
-loop-seats-preserved g c =
-    let was = c.loop-seats.invariant in
+pub loop-alloc-preserved : goal.loop-alloc-preserved
+loop-alloc-preserved g c =
+    let was = c.loop-alloc.invariant in
     let step = c.in_ok-step.ensures in
     record {
       covers = step.covers;
-      sat = sat_still c.loop-seats.seats c.step.new.seats step.turn was.sat;
-      answers = answers_still c.loop-seats.seats c.step.new.seats step.turn c.args.seats.now was.answers;
+      sat = sat_still c.loop-alloc.seats c.step.new.seats step.turn was.sat;
+      answers = answers_still c.loop-alloc.seats c.step.new.seats step.turn c.args.seats.now was.answers;
       places = step.places;
       shards = step.shards;
     }
 
-pub loop-seats-smaller : goal.loop-seats-smaller
-loop-seats-smaller g c = units_fewer c.loop-seats.seats c.step.new.seats c.in_ok-step.ensures.turn
+pub loop-alloc-smaller : goal.loop-alloc-smaller
+loop-alloc-smaller g c = units_fewer c.loop-alloc.seats c.step.new.seats c.in_ok-step.ensures.turn
 
 pub returns-clause-told : goal.returns-clause-told
 returns-clause-told g c =
-    let was = c.loop-seats.invariant in
-    let none : length (waiting_places c.loop-seats.seats) ≡ 0 = (let same = ap length was.places in grind (arith, nat_tests, same)) in
-    all_told c.loop-seats.seats was.sat (none_waits c.loop-seats.seats none)
+    let was = c.loop-alloc.invariant in
+    let none : length (waiting_places c.loop-alloc.seats) ≡ 0 = (let same = ap length was.places in grind (arith, nat_tests, same)) in
+    all_told c.loop-alloc.seats was.sat (none_waits c.loop-alloc.seats none)

@@ -4,8 +4,8 @@ use Rattle.fc_search.specs.Seats.{IsSat, seat_answer, units_left}
 use Rattle.fc_search.specs.Waiting.{waiting_places, waiting_shards}
 use Rattle.fc_search.proofs.driving.drive.Given as goal
 
-abbrev pub invariant-loop-seats : goal.invariant-loop-seats
-invariant-loop-seats g l = record {
+abbrev pub invariant-loop-alloc : goal.invariant-loop-alloc
+invariant-loop-alloc g l = record {
   covers : All (λ seat. Covers (map (λ b. (goal.FacetKind-dyn g (b.vtable, b.value)).name b.value) seat.future.kinds.now)) l.seats;
   sat : All IsSat l.seats;
   answers : map seat_answer l.seats ≡ map seat_answer l.fn.seats;
@@ -14,5 +14,5 @@ invariant-loop-seats g l = record {
 }
 
 -- the units that are left
-abbrev pub decreases-loop-seats : goal.decreases-loop-seats
-decreases-loop-seats g l = sum_by units_left l.seats
+abbrev pub decreases-loop-alloc : goal.decreases-loop-alloc
+decreases-loop-alloc g l = sum_by units_left l.seats

@@ -29,6 +29,12 @@ turn-requires-clause-fresh g c =
     let own = picked_waits c.args.seats.now c.args.places.now.items c.args.picked c.index-place.result.now c.requires.places picked c.index-place.ensures in
     (c.requires.sat c.index-place.result.now c.index-seats-place.result own.there).waits (own.waits c.index-seats-place.result)
 
+pub turn-requires-clause-nests : goal.turn-requires-clause-nests
+turn-requires-clause-nests g c =
+    let picked = picked_there c.args.seats.now c.args.places.now.items c.args.shards.now.items c.args.picked c.requires.places c.requires.shards c.requires.there in
+    let own = picked_waits c.args.seats.now c.args.places.now.items c.args.picked c.index-place.result.now c.requires.places picked c.index-place.ensures in
+    (c.requires.sat c.index-place.result.now c.index-seats-place.result own.there).nests
+
 pub returns-then-not-branch-clause-turn : goal.returns-then-not-branch-clause-turn
 returns-then-not-branch-clause-turn g c =
     let picked = picked_there c.args.seats.now c.args.places.now.items c.args.shards.now.items c.args.picked c.requires.places c.requires.shards c.requires.there in

@@ -1,68 +1,174 @@
-use Rattle.std.proofs.Common.{◌≡◌, All, map, refl, sym, ◌∙◌, ap, subst}
+use Rattle.std.proofs.Common.{map, sym, ◌∙◌, subst, arith}
 use Rattle.std.specs.Arc.{arc_value}
-use Rattle.std.proofs.lemmas.List.Elements.{All-head, All-rest}
+use Rattle.std.proofs.lemmas.List.{nil_from_length}
+use Rattle.fc_spec.specs.messages.Nesting.{Spells}
 use Rattle.fc_request.specs.RequestView.{request_view}
 use Rattle.fc_partial.specs.BucketView.{message_view}
 use Rattle.fc_coord.specs.CoordView.{state_view}
 use Rattle.fc_search.specs.Askable.{world_of}
-use Rattle.fc_search.specs.Hearing.{rounds_left}
-use Rattle.fc_search.specs.Seats.{HasTold, seat_answer}
-use Rattle.fc_search.proofs.SeatLists.{same_length, written_back}
-use Rattle.fc_search.proofs.Told.{IsUnderWay, round_begins, told_awaited, told_then}
+use Rattle.fc_search.specs.Spelled.{SpellSome}
+use Rattle.fc_search.proofs.Replied.{few_depths}
+use Rattle.fc_search.proofs.ResponsesHeard.{AreLeft, all_left, first_awaited, first_spelled, first_within, over_fewer, over_hears, over_told, rest_left}
 use Rattle.fc_search.proofs.round.run_round.Goals as goal
 
-pub loop-seat-init : goal.loop-seat-init
-loop-seat-init g c =
+pub loop-response-init : goal.loop-response-init
+loop-response-init g c =
     let r = request_view c.args.request.now in
     let W = world_of (map arc_value c.args.generations.now) in
     let s = state_view c.args.coord.now in
-    let seats = c.in_ok-seats.seats in
-    let new = c.drive.new.seats in
-    let same : map seat_answer new ≡ map seat_answer seats.items = c.in_ok-drive.ensures.answers ∙ ap (map seat_answer) c.deref_mut.ensures.value in
-    let long = sym seats.ok.0 in
-    let rest : c.into_iter-seat-iterator.result.rest.items ≡ new = c.into_iter-seat-iterator.ensures.into_iter_gives.0 ∙ written_back seats.len new seats.items (same_length new seats.items same ∙ long) long in
-    let answers = ap (map seat_answer) rest ∙ same ∙ c.in_ok-seats.ensures.answers in
-    record {
-      told = subst (All HasTold) (sym rest) c.in_ok-drive.ensures.told;
-      under_way = subst (IsUnderWay r W (rounds_left s) s) (sym answers) (round_begins r W s c.requires.hearing c.requires.not_ready);
-    }
+    all_left r W s (g.P.Probe.lengths c.args.probe.now) c.into_iter-response-iterator.result.rest.items c.requires.not_ready (rw c.into_iter-response-iterator.ensures.into_iter_gives.0 c.in_ok-responses.ensures)
 
-pub into_message-requires : goal.into_message-requires
-into_message-requires g c = All-head HasTold c.in-Some.seat c.next.new.self.rest.items (subst (All HasTold) c.in-Some.ensures.steps.0 c.loop-seat.invariant.told)
+pub message_of-requires : goal.message_of-requires
+message_of-requires g c =
+    let r = request_view c.args.request.now in
+    let W = world_of (map arc_value c.args.generations.now) in
+    let start = state_view c.args.coord.now in
+    let s = state_view c.loop-response.coord in
+    let old = g.P.Probe.lengths c.args.probe.now in
+    let now = g.P.Probe.lengths c.loop-response.probe in
+    let one = c.in-Some.response in
+    let rest = c.next.new.self.rest.items in
+    let left = subst (AreLeft r W start s old now) c.in-Some.ensures.steps.0 c.loop-response.invariant in
+    subst SpellSome (sym c.deref.ensures.value) (first_spelled c.telling_laws.ensures r W c.requires.askable.limits start s old now one rest c.requires.hearing left)
+
+pub message-requires-clause-first : goal.message-requires-clause-first
+message-requires-clause-first g c =
+    let r = request_view c.args.request.now in
+    let W = world_of (map arc_value c.args.generations.now) in
+    let start = state_view c.args.coord.now in
+    let s = state_view c.loop-response.coord in
+    let old = g.P.Probe.lengths c.args.probe.now in
+    let now = g.P.Probe.lengths c.loop-response.probe in
+    let one = c.in-Some.response in
+    let rest = c.next.new.self.rest.items in
+    let left = subst (AreLeft r W start s old now) c.in-Some.ensures.steps.0 c.loop-response.invariant in
+    let few = few_depths c.telling_laws.ensures c.args.request.now c.args.generations.now c.requires.askable.valid c.requires.some in
+    let within = first_within c.telling_laws.ensures r W c.requires.askable.limits start s old now one rest c.requires.hearing left few in
+    let low = within.0 in
+    omega (arith, low, c.round.ensures)
+
+pub message-requires-clause-few : goal.message-requires-clause-few
+message-requires-clause-few g c =
+    let r = request_view c.args.request.now in
+    let W = world_of (map arc_value c.args.generations.now) in
+    let start = state_view c.args.coord.now in
+    let s = state_view c.loop-response.coord in
+    let old = g.P.Probe.lengths c.args.probe.now in
+    let now = g.P.Probe.lengths c.loop-response.probe in
+    let one = c.in-Some.response in
+    let rest = c.next.new.self.rest.items in
+    let left = subst (AreLeft r W start s old now) c.in-Some.ensures.steps.0 c.loop-response.invariant in
+    let few = few_depths c.telling_laws.ensures c.args.request.now c.args.generations.now c.requires.askable.valid c.requires.some in
+    let within = first_within c.telling_laws.ensures r W c.requires.askable.limits start s old now one rest c.requires.hearing left few in
+    let high = within.1 in
+    omega (arith, high, c.round.ensures)
+
+pub message-requires-clause-shards : goal.message-requires-clause-shards
+message-requires-clause-shards g c =
+    let r = request_view c.args.request.now in
+    let W = world_of (map arc_value c.args.generations.now) in
+    let start = state_view c.args.coord.now in
+    let s = state_view c.loop-response.coord in
+    let old = g.P.Probe.lengths c.args.probe.now in
+    let now = g.P.Probe.lengths c.loop-response.probe in
+    let one = c.in-Some.response in
+    let rest = c.next.new.self.rest.items in
+    let left = subst (AreLeft r W start s old now) c.in-Some.ensures.steps.0 c.loop-response.invariant in
+    let few = few_depths c.telling_laws.ensures c.args.request.now c.args.generations.now c.requires.askable.valid c.requires.some in
+    (first_within c.telling_laws.ensures r W c.requires.askable.limits start s old now one rest c.requires.hearing left few).2
+
+pub take-requires-clause-not_spent : goal.take-requires-clause-not_spent
+take-requires-clause-not_spent g c =
+    let r = request_view c.args.request.now in
+    let W = world_of (map arc_value c.args.generations.now) in
+    let start = state_view c.args.coord.now in
+    let s = state_view c.loop-response.coord in
+    let old = g.P.Probe.lengths c.args.probe.now in
+    let now = g.P.Probe.lengths c.loop-response.probe in
+    let one = c.in-Some.response in
+    let rest = c.next.new.self.rest.items in
+    let left = subst (AreLeft r W start s old now) c.in-Some.ensures.steps.0 c.loop-response.invariant in
+    let spelled = subst (λ bytes. Spells bytes (message_view c.in_ok-message.message)) c.deref.ensures.value c.in_ok-message.ensures in
+    (first_awaited c.telling_laws.ensures r W c.requires.askable.limits start s old now one rest c.requires.hearing left (message_view c.in_ok-message.message) spelled).0
 
 pub take-requires-clause-awaited : goal.take-requires-clause-awaited
 take-requires-clause-awaited g c =
     let r = request_view c.args.request.now in
     let W = world_of (map arc_value c.args.generations.now) in
-    let left = rounds_left (state_view c.args.coord.now) in
-    let s = state_view c.loop-seat.coord in
-    let a = seat_answer c.in-Some.seat in
-    let rest = map seat_answer c.next.new.self.rest.items in
-    let way = subst (λ seats. IsUnderWay r W left s (map seat_answer seats)) c.in-Some.ensures.steps.0 c.loop-seat.invariant.under_way in
-    (told_awaited c.telling_laws.ensures r W c.requires.askable.limits left s a rest a.shard (message_view c.into_message.result) way refl c.into_message.ensures).1
+    let start = state_view c.args.coord.now in
+    let s = state_view c.loop-response.coord in
+    let old = g.P.Probe.lengths c.args.probe.now in
+    let now = g.P.Probe.lengths c.loop-response.probe in
+    let one = c.in-Some.response in
+    let rest = c.next.new.self.rest.items in
+    let left = subst (AreLeft r W start s old now) c.in-Some.ensures.steps.0 c.loop-response.invariant in
+    let spelled = subst (λ bytes. Spells bytes (message_view c.in_ok-message.message)) c.deref.ensures.value c.in_ok-message.ensures in
+    (first_awaited c.telling_laws.ensures r W c.requires.askable.limits start s old now one rest c.requires.hearing left (message_view c.in_ok-message.message) spelled).1
 
 pub take-requires-clause-fits : goal.take-requires-clause-fits
 take-requires-clause-fits g c =
     let r = request_view c.args.request.now in
     let W = world_of (map arc_value c.args.generations.now) in
-    let left = rounds_left (state_view c.args.coord.now) in
-    let s = state_view c.loop-seat.coord in
-    let a = seat_answer c.in-Some.seat in
-    let rest = map seat_answer c.next.new.self.rest.items in
-    let way = subst (λ seats. IsUnderWay r W left s (map seat_answer seats)) c.in-Some.ensures.steps.0 c.loop-seat.invariant.under_way in
-    (told_awaited c.telling_laws.ensures r W c.requires.askable.limits left s a rest a.shard (message_view c.into_message.result) way refl c.into_message.ensures).2
+    let start = state_view c.args.coord.now in
+    let s = state_view c.loop-response.coord in
+    let old = g.P.Probe.lengths c.args.probe.now in
+    let now = g.P.Probe.lengths c.loop-response.probe in
+    let one = c.in-Some.response in
+    let rest = c.next.new.self.rest.items in
+    let left = subst (AreLeft r W start s old now) c.in-Some.ensures.steps.0 c.loop-response.invariant in
+    let spelled = subst (λ bytes. Spells bytes (message_view c.in_ok-message.message)) c.deref.ensures.value c.in_ok-message.ensures in
+    (first_awaited c.telling_laws.ensures r W c.requires.askable.limits start s old now one rest c.requires.hearing left (message_view c.in_ok-message.message) spelled).2
 
-pub loop-seat-preserved : goal.loop-seat-preserved
-loop-seat-preserved g c =
+pub loop-response-preserved : goal.loop-response-preserved
+loop-response-preserved g c =
     let r = request_view c.args.request.now in
     let W = world_of (map arc_value c.args.generations.now) in
-    let left = rounds_left (state_view c.args.coord.now) in
-    let s = state_view c.loop-seat.coord in
-    let a = seat_answer c.in-Some.seat in
-    let rest = map seat_answer c.next.new.self.rest.items in
-    let first = c.in-Some.ensures.steps.0 in
-    let way = subst (λ seats. IsUnderWay r W left s (map seat_answer seats)) first c.loop-seat.invariant.under_way in
-    record {
-      told = All-rest HasTold c.in-Some.seat c.next.new.self.rest.items c.loop-seat.seat-iterator.rest.items first c.loop-seat.invariant.told;
-      under_way = told_then c.telling_laws.ensures r W c.requires.askable.limits left s (state_view c.take.new.self) a rest a.shard (message_view c.into_message.result) way refl c.into_message.ensures c.in_ok-take.ensures.kept c.in_ok-take.ensures.state;
-    }
+    let start = state_view c.args.coord.now in
+    let s = state_view c.loop-response.coord in
+    let old = g.P.Probe.lengths c.args.probe.now in
+    let now = g.P.Probe.lengths c.loop-response.probe in
+    let one = c.in-Some.response in
+    let rest = c.next.new.self.rest.items in
+    let left = subst (AreLeft r W start s old now) c.in-Some.ensures.steps.0 c.loop-response.invariant in
+    let spelled = subst (λ bytes. Spells bytes (message_view c.in_ok-message.message)) c.deref.ensures.value c.in_ok-message.ensures in
+    rest_left c.telling_laws.ensures r W c.requires.askable.limits start s old now one rest c.requires.hearing left (state_view c.take.new.self) (g.P.Probe.lengths c.message.new.self) c.round.result c.len.result (message_view c.in_ok-message.message) spelled
+    c.round.ensures (c.len.ensures ∙ one.bytes.ok.0) c.message.ensures c.in_ok-take.ensures.kept c.in_ok-take.ensures.state
+
+pub returns-clause-hearing : goal.returns-clause-hearing
+returns-clause-hearing g c =
+    let r = request_view c.args.request.now in
+    let W = world_of (map arc_value c.args.generations.now) in
+    let start = state_view c.args.coord.now in
+    let s = state_view c.loop-response.coord in
+    let old = g.P.Probe.lengths c.args.probe.now in
+    let now = g.P.Probe.lengths c.loop-response.probe in
+    let responses = c.loop-response.response-iterator.rest in
+    let none = nil_from_length responses.items (sym responses.ok.0 ∙ c.in-None.ensures.steps.0) in
+    let left = subst (AreLeft r W start s old now) none c.loop-response.invariant in
+    over_hears r W start s old now c.requires.hearing left
+
+pub returns-clause-told : goal.returns-clause-told
+returns-clause-told g c =
+    let r = request_view c.args.request.now in
+    let W = world_of (map arc_value c.args.generations.now) in
+    let start = state_view c.args.coord.now in
+    let s = state_view c.loop-response.coord in
+    let old = g.P.Probe.lengths c.args.probe.now in
+    let now = g.P.Probe.lengths c.loop-response.probe in
+    let responses = c.loop-response.response-iterator.rest in
+    let none = nil_from_length responses.items (sym responses.ok.0 ∙ c.in-None.ensures.steps.0) in
+    let left = subst (AreLeft r W start s old now) none c.loop-response.invariant in
+    over_told r W start s old now c.requires.hearing left
+
+pub returns-clause-fewer : goal.returns-clause-fewer
+returns-clause-fewer g c =
+    let r = request_view c.args.request.now in
+    let W = world_of (map arc_value c.args.generations.now) in
+    let start = state_view c.args.coord.now in
+    let s = state_view c.loop-response.coord in
+    let old = g.P.Probe.lengths c.args.probe.now in
+    let now = g.P.Probe.lengths c.loop-response.probe in
+    let responses = c.loop-response.response-iterator.rest in
+    let none = nil_from_length responses.items (sym responses.ok.0 ∙ c.in-None.ensures.steps.0) in
+    let left = subst (AreLeft r W start s old now) none c.loop-response.invariant in
+    over_fewer r W start s old now c.requires.hearing left

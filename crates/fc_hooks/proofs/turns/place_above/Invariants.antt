@@ -1,5 +1,5 @@
 use Rattle.std.proofs.Common.{◌≤◌, ◌<◌, ℕ, slice_index}
-use Rattle.fc_search.proofs.turns.place_above.Given as goal
+use Rattle.fc_hooks.proofs.turns.place_above.Given as goal
 
 -- none so far is above
 abbrev pub invariant-loop-place : goal.invariant-loop-place

@@ -1,6 +1,6 @@
 // Whose turn is next.
 ghost use Rattle.std.specs.Prelude.{◌≡◌, ◌<◌, None, Some, drop, length, slice_index};
-ghost use Rattle.fc_search.specs.Picks.{IsBehind, place_by};
+ghost use Rattle.fc_hooks.specs.Picks.{IsBehind, place_by};
 
 use std::marker::Model;
 
