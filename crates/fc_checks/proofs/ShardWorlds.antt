@@ -1,8 +1,8 @@
--- Shards, one after another: the world of their generations, and two of them.
+-- Shards, one after another: the world of their generations.
 use Rattle.std.proofs.Common.{◌≡◌, List, [], ◌∷◌, ◌++◌, map, ◌∙◌, ap, append_assoc, subst, sym}
 use Rattle.std.specs.Prelude.{All}
 use Rattle.std.proofs.lemmas.List.{map-append}
-use Rattle.std.proofs.lemmas.List.Elements.{All-head, All-tail, All-weaker}
+use Rattle.std.proofs.lemmas.List.Elements.{All-weaker}
 use Rattle.fc_spec.specs.documents.Document.{Batch}
 use Rattle.fc_spec.specs.documents.Schema.{Schema}
 use Rattle.fc_spec.specs.documents.World.{World}
@@ -10,11 +10,8 @@ use Rattle.fc_spec.specs.requests.Request.{Request}
 use Rattle.fc_spec.specs.requests.ValidRequests.{IsValidRequest}
 use Rattle.fc_spec.specs.words.Lists.{joined}
 use Rattle.fc_spec.specs.scripts.PhaseTexts.{world_added}
-use Rattle.fc_script.specs.PartsView.{batches_view}
 use Rattle.fc_search.specs.Askable.{world_of}
 use Rattle.fc_store.specs.Generated.{Generated}
-use Rattle.fc_run.specs.Searches.{Shard, shards_view}
-use Rattle.fc_checks.specs.Shards.{IsShardOf}
 
 pub world_more : (gs after : List Generated) (g : Generated) (bs : List Batch) (rest : List (List Batch)) (whole : World) → after ≡ gs ++ g ∷ [] → g.blocks ≡ joined bs
     → world_of gs ++ world_added (bs ∷ rest) ≡ whole → world_of after ++ world_added rest ≡ whole
@@ -24,20 +21,6 @@ world_more gs after g bs rest whole pushed is so_far =
     ∙ append_assoc (world_of gs) (g.blocks ∷ []) (world_added rest)
     ∙ ap (λ blocks. world_of gs ++ blocks ∷ world_added rest) is
     ∙ so_far
-
--- what holds of each of two shards holds of both
-pub record AreBoth (s : Schema) (a b : Shard) : Type 0 where
-  pub first : IsShardOf s (batches_view a.items)
-  pub second : IsShardOf s (batches_view b.items)
-
-pub both_shards : (s : Schema) (shards : List Shard) (a b : Shard) → shards ≡ a ∷ b ∷ [] → All (IsShardOf s) (shards_view shards) → AreBoth s a b
-both_shards s shards a b is all = record {
-  first = All-head (IsShardOf s) (batches_view a.items) (batches_view b.items ∷ []) here;
-  second = All-head (IsShardOf s) (batches_view b.items) [] (All-tail (IsShardOf s) (batches_view a.items) (batches_view b.items ∷ []) here);
-}
-  where
-    here : All (IsShardOf s) (shards_view (a ∷ b ∷ []))
-    here = subst (λ xs. All (IsShardOf s) (shards_view xs)) is all
 
 -- what is valid for a schema is so for each generation of it
 pub valid_for_each : (s : Schema) (r : Request) (gs : List Generated) → IsValidRequest s r → All (λ g. g.schema ≡ s) gs → All (λ g. IsValidRequest g.schema r) gs

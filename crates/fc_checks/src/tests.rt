@@ -2,15 +2,12 @@
 ghost use Rattle.std.specs.Prelude.{map};
 ghost use Rattle.fc_kind.specs.Names.{Covers};
 
-mod answered;
 mod calls;
 mod candidates;
-mod demos;
 mod documents;
 mod faults;
 mod gates;
 mod kinds;
-mod meeting;
 mod messages;
 mod noting;
 mod polls;
@@ -18,11 +15,8 @@ mod rounds;
 mod scripts;
 mod searches;
 mod store;
-mod stores;
 mod streams;
 mod turns;
-mod ways;
-mod words;
 
 use fc_io::{MemSink, MemSource};
 use fc_kind::FacetKind;

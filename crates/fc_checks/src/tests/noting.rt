@@ -1,14 +1,14 @@
 // Turns that note who is asked.
 ghost use Rattle.std.specs.Prelude.{◌<◌, length};
 
+use super::kinds::Calls;
 use fc_search::Turns;
 use std::sync::Arc;
-use std::sync::atomic::{AtomicU64, Ordering};
 
 // Always the first one that waits. It notes who waits, a digit for each turn, and how many turns called no kind.
 #[derive(Drop)]
 pub(super) struct Noting {
-    kinds: Arc<AtomicU64>,
+    kinds: Arc<Calls>,
     calls: u64,
     pub(super) noted: u64,
     pub(super) idle: u64,
@@ -16,7 +16,7 @@ pub(super) struct Noting {
 
 impl Noting {
     // Before the first turn, where this counts the calls of kinds.
-    pub(super) fn new(kinds: Arc<AtomicU64>) -> Noting {
+    pub(super) fn new(kinds: Arc<Calls>) -> Noting {
         Noting {
             kinds,
             calls: 0,
@@ -27,7 +27,7 @@ impl Noting {
 
     // Looks behind a turn.
     pub(super) fn look(&mut self) {
-        let calls = self.kinds.load(Ordering::SeqCst);
+        let calls = self.kinds.begun();
         if calls == self.calls {
             self.idle = self.idle.saturating_add(1);
         }

@@ -14,7 +14,7 @@ use fc_kind::FacetKind;
 use fc_reply::reply_line;
 use fc_request::Request;
 use fc_script::Script;
-use fc_search::{Turns, search};
+use fc_search::{Probe, Turns, search};
 use fc_store::Generation;
 use std::alloc::Global;
 use std::sync::Arc;
@@ -37,7 +37,7 @@ fn numbers_of(alloc: Global, generations: &[Arc<Generation>]) -> Result<Vec<u64>
 }
 
 // The line of a search of session a.
-fn line_of<R: Threads + Sync, T: Turns>(
+fn line_of<R: Threads + Sync, T: Turns, P: Probe>(
     rt: &R,
     alloc: Global,
     generations: &[Arc<Generation>],
@@ -46,6 +46,7 @@ fn line_of<R: Threads + Sync, T: Turns>(
     kinds: &[Box<dyn FacetKind>],
     turns: &mut T,
     workers: u32,
+    probe: &mut P,
 ) -> Result<Vec<u8>, Fail>
     requires workers { (1 ≤ workers) × (workers ≤ 64) }
     requires covers { Covers (map name kinds.now) }
@@ -55,20 +56,30 @@ fn line_of<R: Threads + Sync, T: Turns>(
     requires schema { All (λ generation. generation.schema ≡ schema.now) (map arc_value generations.now) }
     requires limits { IsWithinLimits (world_of (map arc_value generations.now)) }
 {
-    let reply = search(rt, alloc, generations, request, kinds, turns, workers)?;
+    let reply = search(
+        rt,
+        alloc,
+        generations,
+        request,
+        kinds,
+        turns,
+        workers,
+        probe,
+    )?;
     let numbers = numbers_of(alloc, generations)?;
     let session = Name::new(alloc, "a")?;
     Ok(reply_line(alloc, &reply, &numbers, &session)?)
 }
 
-// The lines of what is asked, by so many workers; of one the turns go so.
-pub(super) fn lines_of<R: Threads + Sync, T: Turns>(
+// The lines of what is asked, by so many workers; of one the turns go so. The probe is told of all messages.
+pub(super) fn lines_of<R: Threads + Sync, T: Turns, P: Probe>(
     rt: &R,
     alloc: Global,
     asked: &Asked,
     kinds: &[Box<dyn FacetKind>],
     turns: &mut T,
     workers: u32,
+    probe: &mut P,
 ) -> Result<String, Fail>
     requires covers { Covers (map name kinds.now) }
     requires workers { (1 ≤ workers) × (workers ≤ 64) }
@@ -95,6 +106,7 @@ pub(super) fn lines_of<R: Threads + Sync, T: Turns>(
             kinds,
             turns,
             workers,
+            probe,
         )?;
         text.extend_from_slice(&line)?;
     }

@@ -1,6 +1,5 @@
-// Stores: readers see what is published, also where they and the writer run in threads of their own.
+// A store of one shard: its readers see what is published.
 ghost use Rattle.std.specs.Prelude.{◌≡◌, ◌≤◌, length, All, IfOk};
-ghost use Rattle.std.specs.Arc.{arc_value};
 ghost use Rattle.fc_store.specs.Charters.{IsBatchOf};
 
 use super::documents::{batch_of, schema_of};
@@ -10,8 +9,6 @@ use std::alloc::Global;
 use std::process::Abort;
 use std::sync::{Arc, Wait};
 use std::test::Fail;
-use std::thread;
-use std::thread::Threads;
 
 const SCHEMA: &str = r#"{"shards":1,"fields":{"cat":"string"}}"#;
 
@@ -110,52 +107,5 @@ fn readers_see_what_is_published(rt: HostRuntime) -> Result<(), Fail> {
     }
     assert_eq!(rt; (last.number(), last.segments().len()), (3, 2));
     assert!(rt; one.pin().is_err());
-    Ok(())
-}
-
-// Publishes whatever is left, and answers the number that is then published.
-fn commit_all<R: Wait>(rt: &R, writer: &mut ShardWriter) -> u64 {
-    for _ in 0..writer.commits_left() {
-        if writer.commits_left() > 0 {
-            let _number = writer.commit_next(rt);
-        }
-    }
-    writer.number()
-}
-
-// Pins again and again. It answers whether no number was lower than the one before.
-fn pins_rise(reader: &mut ShardReader) -> bool {
-    let mut last = 0;
-    let mut rise = true;
-    for _ in 0..500 {
-        let number = number_of(reader.pin()).unwrap_or(last);
-        rise = rise && last <= number;
-        last = number;
-    }
-    rise
-}
-
-// A writer and a reader in threads of their own, and then what the reader pins.
-fn beside<R: Threads + Wait + Sync>(
-    rt: &R,
-    writer: &mut ShardWriter,
-    reader: &mut ShardReader,
-) -> (u64, bool, Option<u64>) {
-    let (number, rise) = thread::join(rt, || commit_all(rt, writer), || pins_rise(reader));
-    (number, rise, number_of(reader.pin()))
-}
-
-#[test]
-fn ends_run_in_threads(rt: HostRuntime) -> Result<(), Fail> {
-    for count in 0..=BATCHES.len() {
-        let Opened {
-            mut writer,
-            mut one,
-            other: _,
-        } = open(&rt, rt.alloc(), &BATCHES[..count])?;
-        let seen = beside(&rt, &mut writer, &mut one);
-        let _ = writer.finish(&rt);
-        assert_eq!(rt; seen, (count as u64, true, Some(count as u64)));
-    }
     Ok(())
 }

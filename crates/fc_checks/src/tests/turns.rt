@@ -1,12 +1,11 @@
-// Who is asked for a turn, how often, and every order of four turns.
+// Who is asked for a turn, how often, every order of four turns; workers that count at the same time; and what is sent.
 use super::demand;
-use super::kinds::{counted_kinds, kinds_in};
+use super::kinds::{Calls, kinds_in, watched_kinds};
 use super::noting::Noting;
 use super::searches::{Asked, lines_of};
-use fc_search::FromList;
+use fc_search::{FromList, NoProbe, RoundProbe, RoundRobin};
 use std::alloc::Global;
 use std::sync::Arc;
-use std::sync::atomic::AtomicU64;
 use std::test::Fail;
 
 // What is asked, its lines, who waits at each turn, and how many turns call no kind.
@@ -85,10 +84,10 @@ const ROWS: &[Row] = &[
 fn turns_are_noted(rt: HostRuntime) -> Result<(), Fail> {
     let alloc = rt.alloc();
     for (asked, wanted, noted, idle) in ROWS {
-        let calls = Arc::new(alloc, AtomicU64::new(0))?;
-        let kinds = counted_kinds(alloc, &calls)?;
+        let calls = Arc::new(alloc, Calls::new(false))?;
+        let kinds = watched_kinds(alloc, &calls)?;
         let mut turns = Noting::new(calls);
-        let lines = lines_of(&rt, alloc, asked, &kinds, &mut turns, 1)?;
+        let lines = lines_of(&rt, alloc, asked, &kinds, &mut turns, 1, &mut NoProbe)?;
         demand(&lines, wanted)?;
         turns.look();
         assert!(rt;
@@ -117,8 +116,33 @@ fn every_list_of_four(rt: HostRuntime) -> Result<(), Fail> {
     for (asked, wanted, _, _) in ROWS {
         for number in 0..16 {
             let mut turns = FromList::new(list_of(alloc, number)?);
-            demand(&lines_of(&rt, alloc, asked, &kinds, &mut turns, 1)?, wanted)?;
+            let lines = lines_of(&rt, alloc, asked, &kinds, &mut turns, 1, &mut NoProbe)?;
+            demand(&lines, wanted)?;
         }
+    }
+    Ok(())
+}
+
+// The round, the shard and the length of each message of the first row's second search. A message takes 9 bytes, its bucket of all
+// documents 25, a list 8, and a bucket of a text of one byte 34.
+const SENT: &[(u32, u32, u64)] = &[(1, 0, 76), (1, 1, 76), (2, 1, 43)];
+
+// In the first row each of two shards counts, and no call goes on before the other shard's has begun.
+#[test]
+fn workers_meet(rt: HostRuntime) -> Result<(), Fail> {
+    let alloc = rt.alloc();
+    let (asked, wanted, _, _) = ROWS.first().ok_or("no row")?;
+    let calls = Arc::new(alloc, Calls::new(true))?;
+    let kinds = watched_kinds(alloc, &calls)?;
+    let mut turns = RoundRobin::new();
+    let mut probe = RoundProbe::new();
+    let lines = lines_of(&rt, alloc, asked, &kinds, &mut turns, 2, &mut probe)?;
+    demand(&lines, wanted)?;
+    assert_eq!(rt; calls.alone(), 0);
+    let sent = probe.sent(alloc)?;
+    assert!(rt; sent.len() == 3 && probe.messages(1) == 2 && probe.length(2, 0).is_none());
+    for (found, wanted) in sent.iter().zip(SENT) {
+        assert!(rt; (found.round, found.shard, found.length) == *wanted);
     }
     Ok(())
 }
