@@ -1,5 +1,5 @@
 // A round whose shards are answered by workers.
-ghost use Rattle.std.specs.Prelude.{◌≡◌, ◌≤◌, All, IfOk, map};
+ghost use Rattle.std.specs.Prelude.{◌≤◌, All, IfOk, map};
 ghost use Rattle.std.specs.Arc.{arc_value};
 ghost use Rattle.fc_coord.specs.CoordView.{state_view};
 ghost use Rattle.fc_kind.specs.Names.{Covers};

@@ -1,6 +1,6 @@
 // Numbers, keys and statistics are read from the front of bytes.
 ghost use Rattle.std.specs.Prelude.{map};
-ghost use Rattle.std.specs.Int.{w32, w64};
+ghost use Rattle.std.specs.Int.{w32};
 ghost use Rattle.fc_base.specs.Answers.{Answers, one_fault};
 ghost use Rattle.fc_partial.specs.StatsView.{stats_view};
 ghost use Rattle.fc_partial.specs.View.{key_view, stat_value_view};
