@@ -18,3 +18,5 @@ pub mod NumberedLines
 pub mod BatchesSoFar
 pub mod PhasesSoFar
 pub mod BookedOutputs
+pub mod SearchCounts
+pub mod SentLines

@@ -15,5 +15,6 @@ pub mod ValidScripts
 pub mod AskedScripts
 pub mod WorldLimits
 pub mod PhaseEnds
-pub mod PhaseTexts
+pub mod PinnedWorlds
+pub mod SearchLines
 pub mod JsonValues

@@ -43,7 +43,7 @@ ghost use Rattle.fc_spec.specs.laws.LacksLaws.{
 ghost use Rattle.fc_spec.specs.laws.LiveLaws.{LiveAreAtPositions, OperationsGoByLists};
 ghost use Rattle.fc_spec.specs.laws.LiveSetLaws.{ChangesOnLive, PassingOfOnLive, PassingOnLive};
 ghost use Rattle.fc_spec.specs.laws.Merging.{MergesIntoReply};
-ghost use Rattle.fc_spec.specs.laws.PhaseLaws.{FirstAreWithin, PhasesAddUp, SessionsWeave};
+ghost use Rattle.fc_spec.specs.laws.PhaseLaws.{BookedAreOutputs, FirstAreWithin, PhasesAddUp, SentAscends, SessionsWeave};
 ghost use Rattle.fc_spec.specs.laws.QueryReadingLaw.{HasOneReading};
 ghost use Rattle.fc_spec.specs.laws.QuerySpellingLaw.{HasOneTree};
 ghost use Rattle.fc_spec.specs.laws.RebuiltPaths.{RebuiltArePlaces};
@@ -58,7 +58,7 @@ ghost use Rattle.fc_spec.specs.laws.RequestLaws.{
 };
 ghost use Rattle.fc_spec.specs.laws.RoundsEnd.{NothingLacksBeyond, RoundsAnswer, RoundsAreFew, RoundsComplete, SearchesEnd};
 ghost use Rattle.fc_spec.specs.laws.ScheduleLaw.{PhasesGoOn, PinsAreLegal, RunsAreLegal};
-ghost use Rattle.fc_spec.specs.laws.ScriptLaws.{EndsAreOutputs, IsOnlyOutput, StandByPhase, WorldsAreWithin};
+ghost use Rattle.fc_spec.specs.laws.ScriptLaws.{EndsAreOutputs, IsOnlyOutput, SearchesAreFew, StandByPhase, WorldsAreWithin};
 ghost use Rattle.fc_spec.specs.laws.ShapedAnswers.{AnswersAreShaped, LeastsAreShaped};
 ghost use Rattle.fc_spec.specs.laws.ShardAlone.{AnswersFromItsBlocks, ExactFromItsBlocks};
 ghost use Rattle.fc_spec.specs.laws.SortingLaw.{PagesAreCuts, RanksAreFronts, RestsKeepFronts, RestsKeepPages};
@@ -284,10 +284,18 @@ pub fn worlds_are_within_limits()
 {}
 
 /// What the sessions of a phase write, each by itself, woven in the order of the searches, is what the phase may write; and
-/// what the phases write, one after another, is an output of the script.
+/// what the phases write, one after another, is an output of the script, in which what was sent for the searches is booked. What
+/// was sent for a search ascends.
 pub fn phases_write_outputs()
     ensures sessions { SessionsWeave }
     ensures phases { PhasesAddUp }
+    ensures outputs { BookedAreOutputs }
+    ensures ascend { SentAscends }
+{}
+
+/// A script has no more searches than it may have bytes.
+pub fn searches_are_few()
+    ensures { SearchesAreFew }
 {}
 
 /// Where the batches of all shards are within the limits, the first ones of each are, however many.

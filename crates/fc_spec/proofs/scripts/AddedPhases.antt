@@ -1,5 +1,5 @@
--- The lines of all phases are an output of the script.
-use Rattle.std.proofs.Common.{◌≡◌, ℕ, zero, suc, ◌+◌, ◌<◌, ◌≤◌, List, [], ◌∷◌, ◌++◌, length, map, take, Bool, true, false, ◌&&◌, ◌==◌, nat_le, count_by, slice_index, Ok, Err, refl, sym, ◌∙◌, ap, subst, append_assoc, append-nil, add-one, arith}
+-- The lines of all phases are an output of the script, with what was sent for them.
+use Rattle.std.proofs.Common.{◌≡◌, ℕ, zero, suc, ◌+◌, ◌<◌, ◌≤◌, List, [], ◌∷◌, ◌++◌, length, map, take, Bool, true, false, ◌&&◌, ◌==◌, nat_le, count_by, slice_index, Some, Ok, Err, refl, sym, ◌∙◌, ap, subst, append-nil, add-one, arith}
 use Rattle.std.specs.Prelude.{All}
 use Rattle.std.specs.List.{filter, list_all, range_with_len, AllByRecursion}
 use Rattle.std.proofs.lemmas.Bool.{and_from, le-leb, eq-eqb, eqb-true}
@@ -8,13 +8,16 @@ use Rattle.std.proofs.lemmas.List.Sums.{list_all-from_AllPass}
 use Rattle.std.proofs.lemmas.List.FromFn.{fill_by_all, length-map-range_with_len}
 use Rattle.fc_spec.specs.documents.Document.{Batch}
 use Rattle.fc_spec.specs.documents.Val.{Text, same_text}
+use Rattle.fc_spec.specs.messages.Trace.{trace}
 use Rattle.fc_spec.specs.laws.PhaseLaws.{PhasesAddUp}
 use Rattle.fc_spec.specs.words.Lists.{joined, numbers_below}
 use Rattle.fc_spec.specs.scripts.AskedScripts.{Asked, AskedScript}
-use Rattle.fc_spec.specs.scripts.Lines.{reply_line, error_line}
-use Rattle.fc_spec.specs.scripts.Outputs.{legal_on, legal, Seen, shown_to, Replies, IsLineThen, AreLinesOf}
+use Rattle.fc_spec.specs.scripts.Lines.{reply_line}
+use Rattle.fc_spec.specs.scripts.Outputs.{legal_on, legal, Seen, shown_to, Replies}
 use Rattle.fc_spec.specs.scripts.Phases.{Search, numbers_at_end, phase, searches}
-use Rattle.fc_spec.specs.scripts.PhaseTexts.{world_at, AreBetween, IsLineOver, least_after, ArePhaseLines, AreTextsOf}
+use Rattle.fc_spec.specs.scripts.PinnedWorlds.{world_at, AreBetween}
+use Rattle.fc_spec.specs.scripts.SearchLines.{least_after, SearchLine, IsLineOver, ArePhaseLines, AreLinesOfAll, sent_for, text_of}
+use Rattle.fc_spec.specs.scripts.Booked.{Books, IsBookedLineThen, AreBooked, book, book_if, book_all}
 use Rattle.fc_spec.specs.scripts.Script.{commits_before, commits_up_to, is_sync, stream, world}
 use Rattle.fc_spec.specs.scripts.ScriptParts.{batches}
 use Rattle.fc_spec.proofs.words.NumbersBelow.{all_below, at_number}
@@ -33,6 +36,18 @@ pub world_is : (S : AskedScript) (g : List ℕ) → length g ≡ S.schema.shards
 world_is S g count =
     ap (world_at (batches S)) (fill_by_all (λ s. slice_index g s) g S.schema.shards 0 count (λ s below. refl))
     ∙ world_zip (stream S.lines) (λ s. slice_index g s) (numbers_below S.schema.shards)
+
+-- ---- what is booked
+
+-- the lines are booked from a number on, with what was sent for them
+abbrev AreBookedFrom : Replies → AskedScript → List Seen → (k : ℕ) → List (Search Asked) → List SearchLine → Books → Type 0
+AreBookedFrom reply S seen k qs ls before = AreBooked reply S seen k qs (text_of ls) before (book_all k (sent_for ls) before)
+
+-- the first of the lines is booked of what a session asks in a phase, and the others of the searches behind it
+abbrev IsBookedFrom : Replies → AskedScript → List Seen → (k phase : ℕ) → (session : Text) → Asked → List (Search Asked) → List SearchLine → Books → Type 0
+IsBookedFrom reply S seen k phase session a qs ls before =
+    IsBookedLineThen reply S seen phase session a (λ now es t. AreBooked reply S now (suc k) qs t (book k es before) (book_all k (sent_for ls) before))
+    (λ now t. AreBooked reply S now (suc k) qs t before (book_all k (sent_for ls) before)) (text_of ls)
 
 -- ---- legal numbers
 
@@ -154,31 +169,39 @@ module _ (S : AskedScript) (p : ℕ) where
           go false e = rw e refl
 
   -- what is to be behind the phase, whatever was shown in it
-  abbrev Goes : Replies → List (Search Asked) → Text → Type 0
-  Goes reply more then = (seen : List Seen) → AreUpTo S (numbers_at_end S p) seen → AreLinesOf reply S seen more then
+  abbrev Goes : Replies → (k : ℕ) → List (Search Asked) → List SearchLine → Books → Type 0
+  Goes reply k more ls before = (seen : List Seen) → AreUpTo S (numbers_at_end S p) seen → AreBookedFrom reply S seen k more ls before
 
-  line_then : (reply : Replies) (least : Text → List ℕ) (seen : List Seen) (own : Text) (a : Asked) (Rest : List ℕ → Text → Type 0) (Then : List Seen → Text → Type 0) (text then : Text) → IsOpen least seen
-      → ((now : Text → List ℕ) (after : List Seen) (g : List ℕ) (rest : Text) → IsOpen (least_after least own g) after → Rest g rest → Then after (rest ++ then))
-      → IsLineOver reply (batches S) (least own) (numbers_at_end S p) own a Rest text → IsLineThen reply S seen p own a Then (text ++ then)
-  line_then reply least seen own (Ok r) Rest Then text then was next (g, rest, between, is, has) = (
-    g,
-    rest ++ then,
-    legal_between (shown_to own seen) (least own) g (was.from own) between (was.each own),
-    ap (λ t. t ++ then) is
-        ∙ append_assoc (reply_line (reply r (world_at (batches S) g)) g own) rest then
-        ∙ ap (λ W. reply_line (reply r W) g own ++ (rest ++ then)) (world_is S g (between.count ∙ end_count)),
-    next least (seen ++ (own, g) ∷ []) g rest (open_more least own seen g was between) has,
+  line_then : (reply : Replies) (least : Text → List ℕ) (seen : List Seen) (own : Text) (a : Asked) (k : ℕ) (qs : List (Search Asked)) (Then : List ℕ → Type 0) (l : SearchLine) (ls : List SearchLine) (before : Books)
+      → IsOpen least seen → ((after : List Seen) (g : List ℕ) (m : Books) → IsOpen (least_after least own g) after → Then g → AreBookedFrom reply S after (suc k) qs ls m)
+      → IsLineOver reply (batches S) (least own) (numbers_at_end S p) own a Then l → IsBookedFrom reply S seen k p own a qs (l ∷ ls) before
+  line_then reply least seen own (Ok r) k qs Then l ls before was next (g, between, is, sent, has) =
+      let here = world_is S g (between.count ∙ end_count) in (
+        g,
+        text_of ls,
+        legal_between (shown_to own seen) (least own) g (was.from own) between (was.each own),
+        ap (λ t. t ++ text_of ls) (is ∙ ap (λ W. reply_line (reply r W) g own) here),
+        subst (λ o. AreBooked reply S (seen ++ (own, g) ∷ []) (suc k) qs (text_of ls) (book k (trace r (world S g)) before) (book_all (suc k) (sent_for ls) (book_if k o before)))
+            (sym (sent ∙ ap (λ W. Some (trace r W)) here))
+            (next (seen ++ (own, g) ∷ []) g (book k (trace r (world S g)) before) (open_more least own seen g was between) has),
+      )
+  line_then reply least seen own (Err f) k qs Then l ls before was next (is, sent, has) = (
+    text_of ls,
+    ap (λ t. t ++ text_of ls) is,
+    subst (λ o. AreBooked reply S seen (suc k) qs (text_of ls) before (book_all (suc k) (sent_for ls) (book_if k o before))) (sym sent)
+        (next seen (least own) before (open_same least own seen was) has),
   )
-  line_then reply least seen own (Err f) Rest Then text then was next (rest, is, has) =
-      (rest ++ then, ap (λ t. t ++ then) is ∙ append_assoc (error_line f own) rest then, next least seen (least own) rest (open_same least own seen was) has)
 
-  phase_then : (reply : Replies) (least : Text → List ℕ) (seen : List Seen) (qs more : List (Search Asked)) (text then : Text) → AllByRecursion (λ q. q.phase ≡ p) qs → IsOpen least seen → Goes reply more then
-      → ArePhaseLines reply (batches S) (numbers_at_end S p) least qs text → AreLinesOf reply S seen (qs ++ more) (text ++ then)
-  phase_then reply least seen [] more text then here was goes is = subst (λ t. AreLinesOf reply S seen more (t ++ then)) (sym is) (goes seen was.all)
-  phase_then reply least seen (q ∷ qs) more text then here was goes has =
-      subst (λ n. IsLineThen reply S seen n q.session q.request (λ now rest. AreLinesOf reply S now (qs ++ more) rest) (text ++ then)) (sym here.0)
-      (line_then reply least seen q.session q.request (λ g rest. ArePhaseLines reply (batches S) (numbers_at_end S p) (least_after least q.session g) qs rest) (λ now rest. AreLinesOf reply S now (qs ++ more) rest) text then was
-      (λ now after g rest open_now are. phase_then reply (least_after least q.session g) after qs more rest then here.1 open_now goes are) has)
+  phase_then : (reply : Replies) (least : Text → List ℕ) (seen : List Seen) (k : ℕ) (qs more : List (Search Asked)) (own rest : List SearchLine) (before : Books)
+      → AllByRecursion (λ q. q.phase ≡ p) qs → IsOpen least seen → ((j : ℕ) (m : Books) → Goes reply j more rest m)
+      → ArePhaseLines reply (batches S) (numbers_at_end S p) least qs own → AreBookedFrom reply S seen k (qs ++ more) (own ++ rest) before
+  phase_then reply least seen k [] more [] rest before here was goes are = goes k before seen was.all
+  phase_then reply least seen k [] more (l ∷ own) rest before here was goes are = absurd are
+  phase_then reply least seen k (q ∷ qs) more [] rest before here was goes are = absurd are
+  phase_then reply least seen k (q ∷ qs) more (l ∷ own) rest before here was goes are =
+      subst (λ n. IsBookedFrom reply S seen k n q.session q.request (qs ++ more) (l ∷ own ++ rest) before) (sym here.0)
+      (line_then reply least seen q.session q.request k (qs ++ more) (λ g. ArePhaseLines reply (batches S) (numbers_at_end S p) (least_after least q.session g) qs own) l (own ++ rest) before was
+      (λ after g m open_now has. phase_then reply (least_after least q.session g) after (suc k) qs more own rest m here.1 open_now goes has) are)
 
 -- ---- phase by phase
 
@@ -195,13 +218,13 @@ in_phase p (q ∷ qs) = go (q.phase == p) refl (in_phase p qs)
 abbrev AreBefore : AskedScript → ℕ → List ℕ → Type 0
 AreBefore S p before = (s : ℕ) → s < S.schema.shards → slice_index before s ≡ commits_before S.lines s p
 
-phases_then : (reply : Replies) (S : AskedScript) (n p : ℕ) (before : List ℕ) (seen : List Seen) (t : Text) → AreBefore S p before → AreUpTo S before seen
-    → AreTextsOf reply (batches S) before (map (phase S) (range_with_len p n)) t → AreLinesOf reply S seen (joined (map (λ q. q.searches) (map (phase S) (range_with_len p n)))) t
-phases_then reply S zero p before seen t are up is = is
-phases_then reply S (suc n) p before seen t are up (own, rest, split, lines, more) =
-    subst (AreLinesOf reply S seen ((phase S p).searches ++ later)) (sym split)
-    (phase_then S p reply (λ session. before) seen (phase S p).searches later own rest (in_phase p (searches S.lines)) opened
-    (λ now up_now. phases_then reply S n (p + 1) (numbers_at_end S p) now rest next up_now more) lines)
+phases_then : (reply : Replies) (S : AskedScript) (n p : ℕ) (low : List ℕ) (seen : List Seen) (k : ℕ) (ls : List SearchLine) (before : Books) → AreBefore S p low → AreUpTo S low seen
+    → AreLinesOfAll reply (batches S) low (map (phase S) (range_with_len p n)) ls → AreBookedFrom reply S seen k (joined (map (λ q. q.searches) (map (phase S) (range_with_len p n)))) ls before
+phases_then reply S zero p low seen k ls before are up is = subst (λ here. AreBookedFrom reply S seen k [] here before) (sym is) (refl, refl)
+phases_then reply S (suc n) p low seen k ls before are up (own, rest, split, lines, more) =
+    subst (λ here. AreBookedFrom reply S seen k ((phase S p).searches ++ later) here before) (sym split)
+    (phase_then S p reply (λ session. low) seen k (phase S p).searches later own rest before (in_phase p (searches S.lines)) opened
+    (λ j m now up_now. phases_then reply S n (p + 1) (numbers_at_end S p) now j rest m next up_now more) lines)
   where
     later : List (Search Asked)
     later = joined (map (λ q. q.searches) (map (phase S) (range_with_len (p + 1) n)))
@@ -209,14 +232,14 @@ phases_then reply S (suc n) p before seen t are up (own, rest, split, lines, mor
     next : AreBefore S (p + 1) (numbers_at_end S p)
     next s below = rw add-one (end_number S p s below)
 
-    ends : (s : ℕ) → s < S.schema.shards → slice_index before s ≤ slice_index (numbers_at_end S p) s
+    ends : (s : ℕ) → s < S.schema.shards → slice_index low s ≤ slice_index (numbers_at_end S p) s
     ends s below = let first = are s below in let last = end_number S p s below in let order = commits_before_end S s p in omega (arith, first, last, order)
 
-    opened : IsOpen S p (λ session. before) seen
+    opened : IsOpen S p (λ session. low) seen
     opened = record {
       from = λ session s below. let is = are s below in omega (arith, is);
-      each = seen_from S before seen up;
-      all = All-weaker (λ x. IsUpTo S before x.1) (λ x. IsUpTo S (numbers_at_end S p) x.1) (λ x h s below. let here = h s below in let end = ends s below in omega (arith, here, end)) seen up;
+      each = seen_from S low seen up;
+      all = All-weaker (λ x. IsUpTo S low x.1) (λ x. IsUpTo S (numbers_at_end S p) x.1) (λ x h s below. let here = h s below in let end = ends s below in omega (arith, here, end)) seen up;
     }
 
 -- at first no shard has a commit
@@ -226,6 +249,7 @@ none_is (x ∷ xs) zero = refl
 none_is (x ∷ xs) (suc s) = none_is xs s
 
 pub phases_add_up : PhasesAddUp
-phases_add_up reply S t is =
-    subst (λ qs. AreLinesOf reply S [] qs t) (stand_by_phase S)
-    (phases_then reply S (count_by is_sync S.lines + 1) 0 (map (λ bs. 0) (batches S)) [] t (λ s below. none_is (batches S) s) (All-nil (λ x. IsUpTo S (map (λ bs. 0) (batches S)) x.1)) is)
+phases_add_up reply S ls before are =
+    subst (λ qs. AreBookedFrom reply S [] 0 qs ls before) (stand_by_phase S)
+    (phases_then reply S (count_by is_sync S.lines + 1) 0 (map (λ bs. 0) (batches S)) [] 0 ls before
+    (λ s below. none_is (batches S) s) (All-nil (λ x. IsUpTo S (map (λ bs. 0) (batches S)) x.1)) are)

@@ -6,7 +6,7 @@ use Rattle.fc_spec.specs.documents.Document.{Batch, Block, Document, values_of}
 use Rattle.fc_spec.specs.documents.Totals.{documents_of, documents_in}
 use Rattle.fc_spec.specs.words.Lists.{joined}
 use Rattle.fc_spec.specs.laws.PhaseLaws.{FirstAreWithin}
-use Rattle.fc_spec.specs.scripts.PhaseTexts.{world_at, world_added}
+use Rattle.fc_spec.specs.scripts.PinnedWorlds.{world_at, world_added}
 use Rattle.fc_spec.specs.scripts.ScriptTotals.{script_limits}
 use Rattle.std.proofs.lemmas.List.Sums.{sum_by-append}
 use Rattle.fc_spec.proofs.words.Sums.{sum_by-first, sum_by-flat_map, sum_by-ones}

@@ -1,22 +1,13 @@
 -- The lines of sessions, woven, are the lines of their phase.
-use Rattle.std.proofs.Common.{◌≡◌, ℕ, List, [], ◌∷◌, ◌++◌, Bool, true, false, Ok, Err, drop, slice_index_or, refl, sym, ◌∙◌, ap, subst, append_assoc}
+use Rattle.std.proofs.Common.{◌≡◌, ℕ, List, [], ◌∷◌, Bool, true, false, Ok, Err, drop, slice_index_or, refl, sym, ap, subst}
 use Rattle.fc_spec.specs.documents.Document.{Batch}
 use Rattle.fc_spec.specs.documents.Val.{Text, same_text}
 use Rattle.fc_spec.specs.laws.PhaseLaws.{SessionsWeave}
 use Rattle.fc_spec.specs.scripts.AskedScripts.{Asked}
-use Rattle.fc_spec.specs.scripts.Lines.{reply_line, error_line}
 use Rattle.fc_spec.specs.scripts.Outputs.{Replies}
 use Rattle.fc_spec.specs.scripts.Phases.{Search}
-use Rattle.fc_spec.specs.scripts.PhaseTexts.{world_at, IsLineOver, least_after, ArePhaseLines, AreSessionLines, asked_by, without_first, woven}
+use Rattle.fc_spec.specs.scripts.SearchLines.{least_after, asked_by, SearchLine, IsLineOver, ArePhaseLines, AreSessionLines, no_line, without_first, woven}
 use Rattle.fc_spec.proofs.words.Texts.{same_itself, equal}
-
--- more behind a line
-line_more : (reply : Replies) (shards : List (List Batch)) (low high : List ℕ) (session : Text) (a : Asked) (Rest Then : List ℕ → Text → Type 0) (line more : Text)
-    → ((g : List ℕ) (rest : Text) → Rest g rest → Then g (rest ++ more)) → IsLineOver reply shards low high session a Rest line → IsLineOver reply shards low high session a Then (line ++ more)
-line_more reply shards low high session (Ok r) Rest Then line more next (g, rest, between, is, then) =
-    (g, rest ++ more, between, ap (λ t. t ++ more) is ∙ append_assoc (reply_line (reply r (world_at shards g)) g session) rest more, next g rest then)
-line_more reply shards low high session (Err f) Rest Then line more next (rest, is, then) =
-    (rest ++ more, ap (λ t. t ++ more) is ∙ append_assoc (error_line f session) rest more, next low rest then)
 
 asked_own : (q : Search Asked) (qs : List (Search Asked)) → asked_by q.session (q ∷ qs) ≡ q.request ∷ asked_by q.session qs
 asked_own q qs = rw (same_itself q.session) refl
@@ -25,13 +16,19 @@ asked_other : (session : Text) (q : Search Asked) (qs : List (Search Asked)) →
 asked_other session q qs other = rw other refl
 
 module _ (reply : Replies) (shards : List (List Batch)) (high : List ℕ) where
+  -- what holds then, seen otherwise
+  line_then : (low : List ℕ) (session : Text) (a : Asked) (Then Other : List ℕ → Type 0) (l : SearchLine)
+      → ((g : List ℕ) → Then g → Other g) → IsLineOver reply shards low high session a Then l → IsLineOver reply shards low high session a Other l
+  line_then low session (Ok r) Then Other l next (g, between, is, sent, then) = (g, between, is, sent, next g then)
+  line_then low session (Err f) Then Other l next (is, sent, then) = (is, sent, next low then)
+
   -- each session has its lines
-  abbrev EachHas : (Text → List ℕ) → List (Search Asked) → (Text → List Text) → Type 0
+  abbrev EachHas : (Text → List ℕ) → List (Search Asked) → (Text → List SearchLine) → Type 0
   EachHas least qs lines = (session : Text) → AreSessionLines reply shards high session (least session) (asked_by session qs) (lines session)
 
   -- behind the first line of a session
-  left : (least : Text → List ℕ) (q : Search Asked) (qs : List (Search Asked)) (lines : Text → List Text) (l : Text) (ls : List Text) (g : List ℕ) → lines q.session ≡ l ∷ ls
-      → EachHas least (q ∷ qs) lines → AreSessionLines reply shards high q.session g (asked_by q.session qs) ls → EachHas (least_after least q.session g) qs (without_first lines q.session)
+  left : (least : Text → List ℕ) (q : Search Asked) (qs : List (Search Asked)) (lines : Text → List SearchLine) (l : SearchLine) (ls : List SearchLine) (g : List ℕ)
+      → lines q.session ≡ l ∷ ls → EachHas least (q ∷ qs) lines → AreSessionLines reply shards high q.session g (asked_by q.session qs) ls → EachHas (least_after least q.session g) qs (without_first lines q.session)
   left least q qs lines l ls g is each own session = go (same_text q.session session) refl
     where
       rest : ls ≡ drop 1 (lines q.session)
@@ -44,22 +41,21 @@ module _ (reply : Replies) (shards : List (List Batch)) (high : List ℕ) where
           (subst (AreSessionLines reply shards high q.session g (asked_by q.session qs)) rest own))
       go false e = rw e (subst (λ asked. AreSessionLines reply shards high session (least session) asked (lines session)) (asked_other session q qs e) (each session))
 
-  weave_one : (least : Text → List ℕ) (q : Search Asked) (qs : List (Search Asked)) (lines : Text → List Text) (own : List Text) → lines q.session ≡ own
-      → EachHas least (q ∷ qs) lines → AreSessionLines reply shards high q.session (least q.session) (q.request ∷ asked_by q.session qs) own
-      → ((now : Text → List ℕ) (then : Text → List Text) → EachHas now qs then → ArePhaseLines reply shards high now qs (woven then qs))
-      → ArePhaseLines reply shards high least (q ∷ qs) (slice_index_or own 0 [] ++ woven (without_first lines q.session) qs)
+  weave_one : (least : Text → List ℕ) (q : Search Asked) (qs : List (Search Asked)) (lines : Text → List SearchLine) (own : List SearchLine)
+      → lines q.session ≡ own → EachHas least (q ∷ qs) lines → AreSessionLines reply shards high q.session (least q.session) (q.request ∷ asked_by q.session qs) own
+      → ((now : Text → List ℕ) (then : Text → List SearchLine) → EachHas now qs then → ArePhaseLines reply shards high now qs (woven then qs))
+      → ArePhaseLines reply shards high least (q ∷ qs) (slice_index_or own 0 no_line ∷ woven (without_first lines q.session) qs)
   weave_one least q qs lines [] is each has next = absurd has
   weave_one least q qs lines (l ∷ ls) is each has next =
-      line_more reply shards (least q.session) high q.session q.request
-      (λ g rest. (rest ≡ []) × AreSessionLines reply shards high q.session g (asked_by q.session qs) ls)
-      (λ g rest. ArePhaseLines reply shards high (least_after least q.session g) qs rest)
-      l (woven (without_first lines q.session) qs)
-      (λ g rest then. subst (ArePhaseLines reply shards high (least_after least q.session g) qs) (sym (ap (λ t. t ++ woven (without_first lines q.session) qs) then.0))
-      (next (least_after least q.session g) (without_first lines q.session) (left least q qs lines l ls g is each then.1)))
+      line_then (least q.session) q.session q.request
+      (λ g. AreSessionLines reply shards high q.session g (asked_by q.session qs) ls)
+      (λ g. ArePhaseLines reply shards high (least_after least q.session g) qs (woven (without_first lines q.session) qs))
+      l
+      (λ g then. next (least_after least q.session g) (without_first lines q.session) (left least q qs lines l ls g is each then))
       has
 
-  weave : (least : Text → List ℕ) (qs : List (Search Asked)) (lines : Text → List Text) → EachHas least qs lines → ArePhaseLines reply shards high least qs (woven lines qs)
-  weave least [] lines each = refl
+  weave : (least : Text → List ℕ) (qs : List (Search Asked)) (lines : Text → List SearchLine) → EachHas least qs lines → ArePhaseLines reply shards high least qs (woven lines qs)
+  weave least [] lines each = tt
   weave least (q ∷ qs) lines each =
       weave_one least q qs lines (lines q.session) refl each
       (subst (λ asked. AreSessionLines reply shards high q.session (least q.session) asked (lines q.session)) (asked_own q qs) (each q.session))

@@ -1,14 +1,15 @@
 -- Laws about the outputs and the worlds of scripts.
-use Rattle.std.specs.Prelude.{◌≡◌, ℕ, ◌≤◌, List, map, Bool, true, false, not, ◌==◌, None, Some, IsTrue, if◌then◌else◌}
+use Rattle.std.specs.Prelude.{◌≡◌, ℕ, ◌≤◌, List, length, map, Bool, true, false, not, ◌==◌, None, Some, IsTrue, Ok, if◌then◌else◌}
 use Rattle.std.specs.List.{filter_map, enumerate_from, list_all, list_any}
 use Rattle.fc_spec.specs.documents.Val.{Text}
 use Rattle.fc_spec.specs.words.Lists.{joined}
 use Rattle.fc_spec.specs.scripts.Script.{Line, commit, asks, Script, phase_of, world}
 use Rattle.fc_spec.specs.scripts.Phases.{searches, phases}
-use Rattle.fc_spec.specs.scripts.AskedScripts.{AskedScript}
+use Rattle.fc_spec.specs.scripts.AskedScripts.{AskedScript, asked_script_of}
 use Rattle.fc_spec.specs.scripts.Outputs.{Replies, IsOutputBy}
 use Rattle.fc_spec.specs.scripts.PhaseEnds.{text_at_ends}
-use Rattle.fc_spec.specs.scripts.ScriptTotals.{script_limits}
+use Rattle.fc_spec.specs.scripts.ScriptReading.{script_limit}
+use Rattle.fc_spec.specs.scripts.ScriptTotals.{Limits, script_limits}
 use Rattle.fc_spec.specs.scripts.ValidScripts.{IsWithin}
 use Rattle.fc_spec.specs.scripts.WorldLimits.{IsWithinLimits}
 
@@ -45,3 +46,7 @@ IsOnlyOutput = (reply : Replies) (S : AskedScript) (t u : Text) → IsTrue (are_
 -- every world of a script that is within the limits is within them
 abbrev pub WorldsAreWithin : Type 0
 WorldsAreWithin = (S : AskedScript) (g : List ℕ) → S.schema.shards ≤ 64 → IsWithin script_limits S → IsWithinLimits (world S g)
+
+-- a script that was read has no more searches than it may have bytes
+abbrev pub SearchesAreFew : Type 0
+SearchesAreFew = (limits : Limits) (bytes : List ℕ) (S : AskedScript) → asked_script_of limits bytes ≡ Ok S → length (searches S.lines) ≤ script_limit

@@ -1,5 +1,5 @@
 -- What is told of a whole run: for each search that has a reply, how long its messages were.
-use Rattle.std.specs.Prelude.{◌≡◌, ℕ, suc, List, [], ◌∷◌, ◌++◌, ◌==◌, IsTrue, Option, Some, Result, Ok, Err, if◌then◌else◌}
+use Rattle.std.specs.Prelude.{◌≡◌, ℕ, suc, List, [], ◌∷◌, ◌++◌, ◌==◌, IsTrue, Option, None, Some, Result, Ok, Err, if◌then◌else◌}
 use Rattle.fc_spec.specs.documents.Val.{Text}
 use Rattle.fc_spec.specs.requests.Request.{Request}
 use Rattle.fc_spec.specs.requests.RequestFault.{RequestFault}
@@ -17,6 +17,20 @@ Books = ℕ → Option (List Sent)
 -- the messages of a search put in, in the place of others of its number
 abbrev pub book : ℕ → List Sent → Books → Books
 book k es m = λ n. if n == k then Some es else m n
+
+-- no search is in it
+abbrev pub no_books : Books
+no_books n = None
+
+-- what was sent for a search, put in; where its request has a fault, nothing is
+abbrev pub book_if : ℕ → Option (List Sent) → Books → Books
+book_if k None m = m
+book_if k (Some es) m = book k es m
+
+-- what was sent for searches, of which the first has the number k, put in one after another
+abbrev pub book_all : (k : ℕ) → List (Option (List Sent)) → Books → Books
+book_all k [] m = m
+book_all k (o ∷ os) m = book_all (suc k) os (book_if k o m)
 
 -- the text is a reply line of the search over some legal generations, and then what the rest is to be, which has seen them and their trace
 abbrev pub IsBookedThen : Replies → Script (Result Request RequestFault) → List Seen → (phase : ℕ) → (session : Text) → Request → (List Seen → List Sent → Text → Type 0) → Text → Type 0

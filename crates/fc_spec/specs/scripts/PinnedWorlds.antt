@@ -1,0 +1,20 @@
+-- The worlds of the first batches of each shard, and numbers between others. Guide: SolrCloud Shards and Indexing; Commits and Transaction Logs.
+use Rattle.std.specs.Prelude.{◌≡◌, ℕ, ◌≤◌, List, length, map, take, slice_index}
+use Rattle.std.specs.List.{zip}
+use Rattle.fc_spec.specs.documents.Document.{Batch}
+use Rattle.fc_spec.specs.documents.World.{World}
+use Rattle.fc_spec.specs.words.Lists.{joined}
+
+-- for each shard its first batches, as many as its number, joined
+abbrev pub world_at : List (List Batch) → List ℕ → World
+world_at shards numbers = map (λ x. joined (take x.1 x.0)) (zip shards numbers)
+
+-- for each shard all that its batches add
+abbrev pub world_added : List (List Batch) → World
+world_added shards = map joined shards
+
+-- one number per shard, none below that of one list and none above that of another
+pub record AreBetween (low high g : List ℕ) : Type 0 where
+  pub count : length g ≡ length high
+  pub above : (s : ℕ) → slice_index low s ≤ slice_index g s
+  pub below : (s : ℕ) → slice_index g s ≤ slice_index high s
