@@ -2,6 +2,7 @@ pub mod Added
 pub mod Asking
 pub mod Batches
 pub mod EndedLines
+pub mod Listed
 pub mod Numbered
 pub mod Phases
 pub mod Pins

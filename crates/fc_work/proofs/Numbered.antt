@@ -4,7 +4,7 @@ use Rattle.std.specs.Prelude.{All, AllPairs, Result, if◌then◌else◌}
 use Rattle.std.proofs.lemmas.Bool.{cases_lt, eqb-false, eqb-true}
 use Rattle.std.proofs.lemmas.List.Elements.{All-head, All-tail}
 use Rattle.fc_spec.specs.documents.Val.{Text, same_text}
-use Rattle.fc_spec.specs.scripts.PhaseTexts.{asked_by}
+use Rattle.fc_spec.specs.scripts.SearchLines.{asked_by, SearchLine}
 use Rattle.fc_spec.proofs.words.Texts.{differs, equal, same_itself}
 use Rattle.fc_request.specs.declared.fault.RequestFault.{RequestFault}
 use Rattle.fc_request.specs.declared.request.Request.{Request}
@@ -45,12 +45,12 @@ same_number names i j apart first second = go (i == j) refl
 -- ---- lines by names
 
 -- the lines of the session of a name
-abbrev pub lines_of : List Text → List (List Text) → Text → List Text
+abbrev pub lines_of : List Text → List (List SearchLine) → Text → List SearchLine
 lines_of [] lines c = []
 lines_of (n ∷ names) [] c = []
 lines_of (n ∷ names) (l ∷ lines) c = if same_text n c then l else lines_of names lines c
 
-pub lines_of-at : (names : List Text) (lines : List (List Text)) (i : ℕ) → AreApart names → length lines ≡ length names → i < length names → lines_of names lines (get_or names i []) ≡ lines_at lines i
+pub lines_of-at : (names : List Text) (lines : List (List SearchLine)) (i : ℕ) → AreApart names → length lines ≡ length names → i < length names → lines_of names lines (get_or names i []) ≡ lines_at lines i
 lines_of-at [] lines i apart same below = absurd (omega arith)
 lines_of-at (n ∷ names) [] i apart same below = absurd (omega (arith, same))
 lines_of-at (n ∷ names) (l ∷ lines) zero apart same below = rw (same_itself n) refl
@@ -58,7 +58,7 @@ lines_of-at (n ∷ names) (l ∷ lines) (suc i) apart same below =
     rw (apart_first n names i [] apart (omega (arith, below))) (lines_of-at names lines i (apart_later n names apart) (omega (arith, same)) (omega (arith, below)))
 
 -- with other lines at a number
-pub lines_of-set : (names : List Text) (lines : List (List Text)) (i : ℕ) (x : List Text) (c : Text) → AreApart names → length lines ≡ length names → i < length names
+pub lines_of-set : (names : List Text) (lines : List (List SearchLine)) (i : ℕ) (x : List SearchLine) (c : Text) → AreApart names → length lines ≡ length names → i < length names
     → lines_of names (set lines i x) c ≡ (if same_text (get_or names i []) c then x else lines_of names lines c)
 lines_of-set [] lines i x c apart same below = absurd (omega arith)
 lines_of-set (n ∷ names) [] i x c apart same below = absurd (omega (arith, same))
@@ -93,7 +93,7 @@ find_name (n ∷ names) c = go (same_text n c) refl (find_name names c)
         at zero below = e
         at (suc i) below = none i (omega (arith, below))
 
-pub lines_of-none : (names : List Text) (lines : List (List Text)) (c : Text) → ((i : ℕ) → i < length names → same_text (get_or names i []) c ≡ false) → lines_of names lines c ≡ []
+pub lines_of-none : (names : List Text) (lines : List (List SearchLine)) (c : Text) → ((i : ℕ) → i < length names → same_text (get_or names i []) c ≡ false) → lines_of names lines c ≡ []
 lines_of-none [] lines c none = refl
 lines_of-none (n ∷ names) [] c none = refl
 lines_of-none (n ∷ names) (l ∷ lines) c none = rw (none 0 (omega arith)) (lines_of-none names lines c (λ i below. none (suc i) (omega (arith, below))))

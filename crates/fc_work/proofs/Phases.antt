@@ -4,11 +4,11 @@ use Rattle.std.specs.Prelude.{All, AllPairs, Result, false}
 use Rattle.std.proofs.lemmas.List.{get_or-map, length-map}
 use Rattle.std.proofs.lemmas.List.Elements.{All-nil, All-cons, All-head, All-map, All-tail, All-weaker}
 use Rattle.fc_spec.specs.documents.Val.{Text, same_text}
-use Rattle.fc_spec.specs.laws.PhaseLaws.{SessionsWeave}
 use Rattle.fc_spec.specs.replies.Distributed.{distributed}
-use Rattle.fc_spec.specs.scripts.PhaseTexts.{ArePhaseLines}
 use Rattle.fc_spec.specs.scripts.WorldLimits.{IsWithinLimits}
 use Rattle.fc_spec.specs.words.Lists.{joined}
+use Rattle.fc_spec.specs.laws.PhaseLaws.{SessionsWeave}
+use Rattle.fc_spec.specs.scripts.SearchLines.{ArePhaseLines}
 use Rattle.fc_request.specs.declared.fault.RequestFault.{RequestFault}
 use Rattle.fc_request.specs.declared.request.Request.{Request}
 use Rattle.fc_script.specs.PartsView.{search_view}
@@ -19,9 +19,10 @@ use Rattle.fc_work.specs.Ends.{Ends, IsCalm, ends_of, nothing, with_ends}
 use Rattle.fc_work.specs.Opened.{AreNumbered, pinning_in, sessions_in, start_in}
 use Rattle.fc_work.specs.Phased.{AreMade, AreWorked, IsSearchBy, readers_in, whole_in}
 use Rattle.fc_work.specs.Pinned.{charters_of, least_of, most_of}
+use Rattle.fc_work.specs.SearchLineView.{line_views}
 use Rattle.fc_work.specs.Seated.{Seat, seat_for, seat_in}
 use Rattle.fc_work.specs.Sharing.{asking_of}
-use Rattle.fc_work.specs.Working.{AreReady, CanAsk, CanWork, texts_of}
+use Rattle.fc_work.specs.Working.{AreReady, CanAsk, CanWork}
 use Rattle.fc_work.specs.Woven.{woven_by}
 use Rattle.fc_work.specs.declared.ended.Ended.{Ended}
 use Rattle.fc_work.specs.declared.stores.Opening.{Opening}
@@ -102,7 +103,7 @@ readers_ready os some within = record { some = (let long = length-map os pinning
 pub within_lines : (ended : Ended) (ws : List Worker) (starts : List Generated) (n : ℕ) (order : List ℕ) → ends_of ended ≡ with_ends ws (nothing starts n) → All (λ s. s < n) order
     → All (λ s. s < length ended.lines.items) order
 within_lines ended ws starts n order is below =
-    let long : length ended.lines.items ≡ n = sym (length-map ended.lines.items (λ own. texts_of own.items)) ∙ ap (λ e. length e.lines) is ∙ ended_count ws starts n in
+    let long : length ended.lines.items ≡ n = sym (length-map ended.lines.items (λ own. line_views own.items)) ∙ ap (λ e. length e.lines) is ∙ ended_count ws starts n in
     subst (λ m. All (λ s. s < m) order) (sym long) below
 
 -- ---- the whole phase
@@ -113,11 +114,11 @@ pub phase_ended : (os : List Opening) (names : List Text) (qs : List Search) (or
 phase_ended os names qs order asked ws first ended begun is are calm numbered =
     ap (λ e. e.generations) (is ∙ ap (with_ends ws) begun) ∙ ended_whole os names order asked ws are calm numbered
 
-pub phase_text : SessionsWeave → (os : List Opening) (names : List Text) (qs : List Search) (order : List ℕ) (asked : List (Result Request RequestFault)) (ws : List Worker) (first ended : Ends) (p : ℕ)
+pub phase_woven : SessionsWeave → (os : List Opening) (names : List Text) (qs : List Search) (order : List ℕ) (asked : List (Result Request RequestFault)) (ws : List Worker) (first ended : Ends) (p : ℕ)
     → first ≡ nothing (map start_in os) (length names) → ended ≡ with_ends ws first → order ≡ orders qs → asked ≡ asks qs → AreWorked os names order asked ws → All IsCalm ws
     → AllPairs (λ a b. same_text a b ≡ false) names → All (IsSearchBy (length names) (readers_in os)) qs
     → ArePhaseLines distributed (charters_of (readers_in os)) (most_of (readers_in os)) (λ session. least_of (readers_in os)) (map (search_view names p) qs) (woven_by ended.lines order)
-phase_text weave os names qs order asked ws first ended p begun is ordered asks_are are calm apart by =
+phase_woven weave os names qs order asked ws first ended p begun is ordered asks_are are calm apart by =
     subst (ArePhaseLines distributed (charters_of (readers_in os)) (most_of (readers_in os)) (λ session. least_of (readers_in os)) (map (search_view names p) qs))
     (λ i. woven_by ((sym (ap (λ e. e.lines) (is ∙ ap (with_ends ws) begun))) i) (sym ordered i))
     (ended_phase weave os names qs ws p (subst (λ o. AreWorked os names o (asks qs) ws) ordered (subst (λ a. AreWorked os names order a ws) asks_are are)) calm apart by)

@@ -5,7 +5,7 @@ use Rattle.std.proofs.lemmas.Bool.{cases_lt, eqb-false, eqb-true}
 use Rattle.std.proofs.lemmas.List.{get_or-set_other, get_or-set_same, length-append}
 use Rattle.std.proofs.lemmas.List.Elements.{All-nil, All-cons, All-head, All-tail}
 use Rattle.fc_spec.specs.documents.Schema.{Schema}
-use Rattle.fc_spec.specs.scripts.PhaseTexts.{AreBetween, world_at}
+use Rattle.fc_spec.specs.scripts.PinnedWorlds.{AreBetween, world_at}
 use Rattle.fc_search.specs.Askable.{world_of}
 use Rattle.fc_store.specs.Ends.{IsNoLower, Pinning, PinsGeneration}
 use Rattle.fc_store.specs.Generated.{Generated}

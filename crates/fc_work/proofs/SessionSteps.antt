@@ -10,7 +10,7 @@ use Rattle.fc_spec.specs.documents.Document.{Batch}
 use Rattle.fc_spec.specs.documents.Val.{Text}
 use Rattle.fc_spec.specs.replies.Distributed.{distributed}
 use Rattle.fc_spec.specs.scripts.AskedScripts.{Asked}
-use Rattle.fc_spec.specs.scripts.PhaseTexts.{AreSessionLines, IsLineOver}
+use Rattle.fc_spec.specs.scripts.SearchLines.{AreSessionLines, IsLineOver, SearchLine}
 use Rattle.fc_lines.specs.LineView.{asked_view}
 use Rattle.fc_store.specs.Ends.{Pinning}
 use Rattle.fc_work.specs.Pinned.{charters_of, least_of, most_of}
@@ -26,20 +26,20 @@ most_is : (rs : List Pinning) → most_of rs ≡ map (λ c. length c) (charters_
 most_is [] = refl
 most_is (r ∷ rs) = λ i. sym (batches_count r.charter) i ∷ most_is rs i
 
-line_next : (C : List (List Batch)) (low high : List ℕ) (s : Text) (a : Asked) (Rest Later : List ℕ → Text → Type 0) (t : Text) → ((g : List ℕ) (rest : Text) → Rest g rest → Later g rest)
-    → IsLineOver distributed C low high s a Rest t → IsLineOver distributed C low high s a Later t
-line_next C low high s (Ok r) Rest Later t next (g, rest, between, is, more) = (g, rest, between, is, next g rest more)
-line_next C low high s (Err f) Rest Later t next (rest, is, more) = (rest, is, next low rest more)
+line_next : (C : List (List Batch)) (low high : List ℕ) (s : Text) (a : Asked) (Then Later : List ℕ → Type 0) (l : SearchLine) → ((g : List ℕ) → Then g → Later g)
+    → IsLineOver distributed C low high s a Then l → IsLineOver distributed C low high s a Later l
+line_next C low high s (Ok r) Then Later l next (g, between, is, sent, more) = (g, between, is, sent, next g more)
+line_next C low high s (Err f) Then Later l next (is, sent, more) = (is, sent, next low more)
 
 module _ (s : Text) (init : List Pinning) where
   -- the lines of some requests, from what these readers have pinned on
-  abbrev pub Lines : List Pinning → List Asking → List Text → Type 0
+  abbrev pub Lines : List Pinning → List Asking → List SearchLine → Type 0
   Lines readers asked lines = AreSessionLines distributed (charters_of init) (most_of init) s (least_of readers) (map asked_view asked) lines
 
-  pub session_more : (now after : List Pinning) (all left next : List Asking) (a : Asking) (lines : List Text) (line : Text) → left ≡ a ∷ next → charters_of now ≡ charters_of init
-      → IsLineOver distributed (charters_of now) (least_of now) (most_of now) s (asked_view a) (λ g rest. (rest ≡ []) × (least_of after ≡ g)) line
-      → ((rest : List Text) → Lines now left rest → Lines init all (lines ++ rest))
-      → (rest : List Text) → Lines after next rest → Lines init all ((lines ++ line ∷ []) ++ rest)
+  pub session_more : (now after : List Pinning) (all left next : List Asking) (a : Asking) (lines : List SearchLine) (line : SearchLine) → left ≡ a ∷ next → charters_of now ≡ charters_of init
+      → IsLineOver distributed (charters_of now) (least_of now) (most_of now) s (asked_view a) (λ g. least_of after ≡ g) line
+      → ((rest : List SearchLine) → Lines now left rest → Lines init all (lines ++ rest))
+      → (rest : List SearchLine) → Lines after next rest → Lines init all ((lines ++ line ∷ []) ++ rest)
   session_more now after all left next a lines line first same is was rest more =
       subst (Lines init all) (sym (append_assoc lines (line ∷ []) rest))
       (was (line ∷ rest) (subst (λ asked. Lines now asked (line ∷ rest)) (sym first) here))
@@ -49,17 +49,17 @@ module _ (s : Text) (init : List Pinning) where
 
       here : Lines now (a ∷ next) (line ∷ rest)
       here =
-          line_next (charters_of init) (least_of now) (most_of init) s (asked_view a) (λ g r. (r ≡ []) × (least_of after ≡ g))
-          (λ g r. (r ≡ []) × AreSessionLines distributed (charters_of init) (most_of init) s g (map asked_view next) rest) line
-          (λ g r then_. (then_.0, subst (λ low. AreSessionLines distributed (charters_of init) (most_of init) s low (map asked_view next) rest) then_.1 more))
-          (subst (λ high. IsLineOver distributed (charters_of init) (least_of now) high s (asked_view a) (λ g r. (r ≡ []) × (least_of after ≡ g)) line) most
-          (subst (λ C. IsLineOver distributed C (least_of now) (most_of now) s (asked_view a) (λ g r. (r ≡ []) × (least_of after ≡ g)) line) same is))
+          line_next (charters_of init) (least_of now) (most_of init) s (asked_view a) (λ g. least_of after ≡ g)
+          (λ g. AreSessionLines distributed (charters_of init) (most_of init) s g (map asked_view next) rest) line
+          (λ g shown. subst (λ low. AreSessionLines distributed (charters_of init) (most_of init) s low (map asked_view next) rest) shown more)
+          (subst (λ high. IsLineOver distributed (charters_of init) (least_of now) high s (asked_view a) (λ g. least_of after ≡ g) line) most
+          (subst (λ C. IsLineOver distributed C (least_of now) (most_of now) s (asked_view a) (λ g. least_of after ≡ g) line) same is))
 
-  pub session_skip : (now : List Pinning) (all left next : List Asking) (lines : List Text) → left ≡ next → ((rest : List Text) → Lines now left rest → Lines init all (lines ++ rest))
-      → (rest : List Text) → Lines now next rest → Lines init all (lines ++ rest)
+  pub session_skip : (now : List Pinning) (all left next : List Asking) (lines : List SearchLine) → left ≡ next → ((rest : List SearchLine) → Lines now left rest → Lines init all (lines ++ rest))
+      → (rest : List SearchLine) → Lines now next rest → Lines init all (lines ++ rest)
   session_skip now all left next lines same was rest more = was rest (subst (λ asked. Lines now asked rest) (sym same) more)
 
-  pub session_done : (now : List Pinning) (all left : List Asking) (lines : List Text) → left ≡ [] → ((rest : List Text) → Lines now left rest → Lines init all (lines ++ rest)) → Lines init all lines
+  pub session_done : (now : List Pinning) (all left : List Asking) (lines : List SearchLine) → left ≡ [] → ((rest : List SearchLine) → Lines now left rest → Lines init all (lines ++ rest)) → Lines init all lines
   session_done now all left lines none was = subst (Lines init all) (append-nil lines) (was [] (subst (λ asked. Lines now asked []) (sym none) tt))
 
 -- ---- whose searches they are

@@ -3,7 +3,7 @@ use Rattle.std.proofs.Common.{◌≡◌, ℕ, suc, List, [], ◌∷◌, map, set
 use Rattle.std.specs.Prelude.{All, Result, false}
 use Rattle.std.proofs.lemmas.List.Elements.{All-head, All-tail}
 use Rattle.fc_spec.specs.replies.Distributed.{distributed}
-use Rattle.fc_spec.specs.scripts.PhaseTexts.{AreSessionLines}
+use Rattle.fc_spec.specs.scripts.SearchLines.{AreSessionLines}
 use Rattle.fc_request.specs.declared.fault.RequestFault.{RequestFault}
 use Rattle.fc_request.specs.declared.request.Request.{Request}
 use Rattle.fc_lines.specs.LineView.{asked_view}
@@ -13,8 +13,9 @@ use Rattle.fc_work.specs.Ends.{Ends, IsCalm, last_of, with_end, with_ends}
 use Rattle.fc_work.specs.Opened.{Place, indexes_in, place_in, sessions_in}
 use Rattle.fc_work.specs.Phased.{whole_of}
 use Rattle.fc_work.specs.Pinned.{charters_of, least_of, most_of}
+use Rattle.fc_work.specs.SearchLineView.{line_views}
 use Rattle.fc_work.specs.Seated.{Seat, seat_in}
-use Rattle.fc_work.specs.Working.{AllWorked, IsCommitted, Worked, asked_of, texts_of}
+use Rattle.fc_work.specs.Working.{AllWorked, IsCommitted, Worked, asked_of}
 use Rattle.fc_work.specs.declared.index_worker.IndexWorker.{IndexWorker}
 use Rattle.fc_work.specs.declared.session_worker.SessionWorker.{SessionWorker}
 use Rattle.fc_work.specs.declared.worker.Worker.{Worker}
@@ -84,7 +85,7 @@ module _ (order : List ℕ) (asked : List (Result Request RequestFault)) where
   -- the worker has lines for all that the session asks
   pub record HasLines (s : Seat) (w : SessionWorker) : Type 0 where
     pub session : w.session ≡ s.session
-    pub lines : AreSessionLines distributed (charters_of s.readers) (most_of s.readers) s.own (least_of s.readers) (map asked_view (asked_of s.session order asked)) (texts_of w.lines.items)
+    pub lines : AreSessionLines distributed (charters_of s.readers) (most_of s.readers) s.own (least_of s.readers) (map asked_view (asked_of s.session order asked)) (line_views w.lines.items)
 
   abbrev pub AllHaveLines : List Seat → List SessionWorker → Type 0
   AllHaveLines [] [] = Unit {0}

@@ -1,13 +1,13 @@
 -- Lines woven by the numbers of sessions are woven by their names.
-use Rattle.std.proofs.Common.{◌≡◌, ℕ, ◌<◌, ◌⊎◌, inl, inr, List, [], ◌∷◌, ◌++◌, Bool, true, false, length, map, drop, set, get_or, slice_index_or, refl, sym, ◌∙◌, ap, subst}
+use Rattle.std.proofs.Common.{◌≡◌, ℕ, ◌<◌, ◌⊎◌, inl, inr, List, [], ◌∷◌, Bool, true, false, length, map, drop, set, get_or, slice_index_or, refl, sym, ◌∙◌, ap, subst}
 use Rattle.std.specs.Prelude.{All, if◌then◌else◌}
 use Rattle.std.proofs.lemmas.List.{length-set}
 use Rattle.std.proofs.lemmas.List.Elements.{All-head, All-tail}
 use Rattle.fc_spec.specs.documents.Val.{Text, same_text}
-use Rattle.fc_spec.specs.laws.PhaseLaws.{SessionsWeave}
 use Rattle.fc_spec.specs.replies.Distributed.{distributed}
-use Rattle.fc_spec.specs.scripts.PhaseTexts.{ArePhaseLines, AreSessionLines, asked_by, without_first, woven}
+use Rattle.fc_spec.specs.scripts.SearchLines.{asked_by, ArePhaseLines, AreSessionLines, SearchLine, no_line, without_first, woven}
 use Rattle.fc_spec.proofs.words.Texts.{equal}
+use Rattle.fc_spec.specs.laws.PhaseLaws.{SessionsWeave}
 use Rattle.fc_script.specs.PartsView.{search_view}
 use Rattle.fc_script.specs.declared.script.Search.{Search}
 use Rattle.fc_store.specs.Ends.{Pinning}
@@ -17,11 +17,11 @@ use Rattle.fc_work.proofs.EndedLines.{AreLinesAt}
 use Rattle.fc_work.proofs.Numbered.{AreApart, IsBelow, asked_at, asks, orders, asked_none, find_name, lines_of, lines_of-at, lines_of-none, lines_of-set}
 
 -- without the first line of a session
-without_is : (names : List Text) (lines : List (List Text)) (i : ℕ) → AreApart names → length lines ≡ length names → i < length names
+without_is : (names : List Text) (lines : List (List SearchLine)) (i : ℕ) → AreApart names → length lines ≡ length names → i < length names
     → without_first (lines_of names lines) (get_or names i []) ≡ lines_of names (set lines i (drop 1 (lines_at lines i)))
 without_is names lines i apart same below = λ k c. here c k
   where
-    x : List Text
+    x : List SearchLine
     x = drop 1 (lines_at lines i)
 
     here : (c : Text) → without_first (lines_of names lines) (get_or names i []) c ≡ lines_of names (set lines i x) c
@@ -32,7 +32,7 @@ without_is names lines i apart same below = λ k c. here c k
         go true e = rw e (ap (drop 1) (ap (lines_of names lines) (sym (equal (get_or names i []) c e)) ∙ lines_of-at names lines i apart same below))
         go false e = rw e refl
 
-pub woven_is : (names : List Text) (lines : List (List Text)) (p : ℕ) (qs : List Search) → AreApart names → length lines ≡ length names → All (IsBelow (length names)) qs
+pub woven_is : (names : List Text) (lines : List (List SearchLine)) (p : ℕ) (qs : List Search) → AreApart names → length lines ≡ length names → All (IsBelow (length names)) qs
     → woven_by lines (map (λ q. q.session) qs) ≡ woven (lines_of names lines) (map (search_view names p) qs)
 woven_is names lines p [] apart same all = refl
 woven_is names lines p (q ∷ qs) apart same all =
@@ -40,11 +40,11 @@ woven_is names lines p (q ∷ qs) apart same all =
     let below = All-head (IsBelow (length names)) q qs all in
     let rest = set lines i (drop 1 (lines_at lines i)) in
     let long = length-set lines i (drop 1 (lines_at lines i)) in
-    (λ k. slice_index_or (sym (lines_of-at names lines i apart same below) k) 0 [] ++ woven_is names rest p qs apart (long ∙ same) (All-tail (IsBelow (length names)) q qs all) k)
-    ∙ ap (λ left. slice_index_or (lines_of names lines (get_or names i [])) 0 [] ++ woven left (map (search_view names p) qs)) (sym (without_is names lines i apart same below))
+    (λ k. slice_index_or (sym (lines_of-at names lines i apart same below) k) 0 no_line ∷ woven_is names rest p qs apart (long ∙ same) (All-tail (IsBelow (length names)) q qs all) k)
+    ∙ ap (λ left. slice_index_or (lines_of names lines (get_or names i [])) 0 no_line ∷ woven left (map (search_view names p) qs)) (sym (without_is names lines i apart same below))
 
 -- the lines of all sessions, woven, are those of the phase
-module _ (weave : SessionsWeave) (names : List Text) (readers : List Pinning) (lines : List (List Text)) (p : ℕ) (qs : List Search) (apart : AreApart names) (same : length lines ≡ length names)
+module _ (weave : SessionsWeave) (names : List Text) (readers : List Pinning) (lines : List (List SearchLine)) (p : ℕ) (qs : List Search) (apart : AreApart names) (same : length lines ≡ length names)
     (all : All (IsBelow (length names)) qs) (each : (c : ℕ) → c < length names → AreLinesAt (orders qs) (asks qs) names readers c (lines_at lines c)) where
   of_session : (c : Text) → AreSessionLines distributed (charters_of readers) (most_of readers) c (least_of readers) (asked_by c (map (search_view names p) qs)) (lines_of names lines c)
   of_session c = go (find_name names c)

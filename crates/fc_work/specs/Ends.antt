@@ -1,13 +1,13 @@
 -- What the workers of a phase leave.
 use Rattle.std.specs.Prelude.{◌≡◌, ℕ, List, [], ◌∷◌, map, false, slice_set}
 use Rattle.std.specs.Arc.{arc_value}
-use Rattle.fc_spec.specs.documents.Val.{Text}
 use Rattle.fc_spec.specs.words.Lists.{numbers_below}
+use Rattle.fc_spec.specs.scripts.SearchLines.{SearchLine}
 use Rattle.fc_store.specs.Charters.{blocks_at}
 use Rattle.fc_store.specs.Ends.{Writing}
 use Rattle.fc_store.specs.Generated.{Generated}
 use Rattle.fc_store.specs.declared.generation.Generation.{Generation}
-use Rattle.fc_work.specs.Working.{texts_of}
+use Rattle.fc_work.specs.SearchLineView.{line_views}
 use Rattle.fc_work.specs.Woven.{lines_in}
 use Rattle.fc_work.specs.declared.ended.Ended.{Ended}
 use Rattle.fc_work.specs.declared.index_worker.IndexWorker.{IndexWorker}
@@ -18,7 +18,7 @@ use Rattle.fc_work.specs.declared.worker.Worker.TheVariants.{Index, Session}
 -- generations of shards, and for each session its lines
 pub record Ends : Type 0 where
   pub generations : List Generated
-  pub lines : List (List Text)
+  pub lines : List (List SearchLine)
 
 abbrev pub generations_of : Ended → List Generated
 generations_of e = map (arc_value {X = Generation}) e.generations.items
@@ -39,7 +39,7 @@ abbrev pub with_index : IndexWorker → Ends → Ends
 with_index w e = record e { generations = slice_set e.generations w.shard (last_of w.writer) }
 
 abbrev pub with_session : SessionWorker → Ends → Ends
-with_session w e = record e { lines = slice_set e.lines w.session (texts_of w.lines.items) }
+with_session w e = record e { lines = slice_set e.lines w.session (line_views w.lines.items) }
 
 -- once a worker has ended
 abbrev pub with_end : Worker → Ends → Ends

@@ -1,7 +1,11 @@
 -- A phase with searches.
-use Rattle.std.specs.Prelude.{◌≡◌, ℕ, ◌<◌, List, ◌++◌, length, map, Result}
+use Rattle.std.specs.Prelude.{◌≡◌, ℕ, ◌<◌, List, ◌++◌, length, map, Option, Result, Vec}
 use Rattle.std.specs.List.{filter}
+use Rattle.std.specs.declared.alloc.Global.{Global}
 use Rattle.fc_spec.specs.documents.Val.{Text}
+use Rattle.fc_spec.specs.messages.Trace as definition
+use Rattle.fc_spec.specs.scripts.SearchLines.{SearchLine, sent_for, text_of}
+use Rattle.fc_hooks.specs.declared.round_probe.Sent.{Sent}
 use Rattle.fc_request.specs.declared.fault.RequestFault.{RequestFault}
 use Rattle.fc_request.specs.declared.request.Request.{Request}
 use Rattle.fc_script.specs.declared.script.Search.{Search}
@@ -9,6 +13,7 @@ use Rattle.fc_store.specs.Charters.{blocks_at, last_number}
 use Rattle.fc_store.specs.Ends.{Pinning, Writing}
 use Rattle.fc_store.specs.Generated.{Generated}
 use Rattle.fc_work.specs.Opened.{commits_some, indexes_in, pinning_in, place_for, place_in, sessions_in, writing_in}
+use Rattle.fc_work.specs.SearchLineView.{sent_list}
 use Rattle.fc_work.specs.Seated.{seat_for, seat_in}
 use Rattle.fc_work.specs.Sharing.{asking_of}
 use Rattle.fc_work.specs.Working.{AllWorked, CanAsk}
@@ -42,6 +47,10 @@ pub record AreWorked (openings : List Opening) (names : List Text) (order : List
   pub made : AreMade openings names order before
   pub worked : AllWorked order asked before workers
 
--- text was appended, and P holds of it
-abbrev pub Adds : (old new : Text) → (Text → Type 0) → Type 0
-Adds old new P = (own : Text) × (new ≡ old ++ own) × P own
+-- for each search what was sent for it
+abbrev pub sent_in : List (Option (Vec Sent Global)) → List (Option (List definition.Sent))
+sent_in sent = map sent_list sent
+
+-- the text of some lines was appended, what is told was sent for them, and P holds of them
+abbrev pub Adds : (old new : Text) → List (Option (List definition.Sent)) → (List SearchLine → Type 0) → Type 0
+Adds old new sent P = (lines : List SearchLine) × (new ≡ old ++ text_of lines) × (sent ≡ sent_for lines) × P lines

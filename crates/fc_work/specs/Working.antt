@@ -1,12 +1,10 @@
 -- What workers do.
-use Rattle.std.specs.Prelude.{◌≡◌, ℕ, ◌<◌, ◌≤◌, ◌==◌, List, [], ◌∷◌, length, map, All, IfOk, false, Vec, Result, slice_index_or, if◌then◌else◌}
-use Rattle.std.specs.declared.alloc.Global.{Global}
-use Rattle.fc_spec.specs.documents.Val.{Text}
+use Rattle.std.specs.Prelude.{◌≡◌, ℕ, ◌<◌, ◌≤◌, ◌==◌, List, [], ◌∷◌, length, map, All, IfOk, false, Result, slice_index_or, if◌then◌else◌}
 use Rattle.fc_spec.specs.replies.Distributed.{distributed}
 use Rattle.fc_spec.specs.requests.ValidRequests.{IsValidRequest}
-use Rattle.fc_spec.specs.scripts.PhaseTexts.{AreSessionLines}
 use Rattle.fc_spec.specs.scripts.WorldLimits.{IsWithinLimits}
 use Rattle.fc_spec.specs.words.Lists.{joined}
+use Rattle.fc_spec.specs.scripts.SearchLines.{AreSessionLines}
 use Rattle.fc_request.specs.RequestView.{IsRoot, request_view}
 use Rattle.fc_request.specs.declared.fault.RequestFault.{RequestFault}
 use Rattle.fc_request.specs.declared.request.Request.{Request}
@@ -14,6 +12,7 @@ use Rattle.fc_lines.specs.LineView.{asked_view}
 use Rattle.fc_store.specs.Charters.{last_number}
 use Rattle.fc_store.specs.Ends.{Pinning}
 use Rattle.fc_work.specs.Pinned.{charters_of, least_of, most_of}
+use Rattle.fc_work.specs.SearchLineView.{line_views}
 use Rattle.fc_work.specs.declared.index_worker.IndexWorker.{IndexWorker}
 use Rattle.fc_work.specs.declared.session_worker.SessionWorker.{SessionWorker}
 use Rattle.fc_work.specs.declared.worker.Worker.{Worker}
@@ -29,9 +28,6 @@ pub record IsCommitted (old new : IndexWorker) : Type 0 where
   pub done : new.wants_memory ≡ false → new.writer.number ≡ last_number new.writer.charter
 
 -- ---- of a session
-
-abbrev pub texts_of : List (Vec ℕ Global) → List Text
-texts_of lines = map (λ line. line.items) lines
 
 -- there is a reader, and their charters are within the limits together
 pub record AreReady (readers : List Pinning) : Type 0 where
@@ -63,7 +59,7 @@ pub record IsReady (asked : List (Result Request RequestFault)) (w : SessionWork
 pub record IsAnswered (order : List ℕ) (asked : List (Result Request RequestFault)) (old new : SessionWorker) : Type 0 where
   pub session : new.session ≡ old.session
   pub lines : new.wants_memory ≡ false
-      → AreSessionLines distributed (charters_of old.readers.items) (most_of old.readers.items) old.name (least_of old.readers.items) (map asked_view (asked_of old.session order asked)) (texts_of new.lines.items)
+      → AreSessionLines distributed (charters_of old.readers.items) (most_of old.readers.items) old.name (least_of old.readers.items) (map asked_view (asked_of old.session order asked)) (line_views new.lines.items)
 
 -- ---- of either, where these are whose searches a phase has, and what each asks
 

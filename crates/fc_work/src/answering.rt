@@ -1,32 +1,36 @@
 // The answer to a search: over what its readers pin.
 ghost use Rattle.std.specs.Prelude.{◌≡◌, ◌≤◌, All, IfOk, length, map};
 ghost use Rattle.std.specs.Arc.{arc_value};
+ghost use Rattle.fc_spec.specs.messages.Trace.{trace};
 ghost use Rattle.fc_spec.specs.replies.Distributed.{distributed};
 ghost use Rattle.fc_spec.specs.requests.ValidRequests.{IsValidRequest};
 ghost use Rattle.fc_spec.specs.scripts.Lines.{reply_line as line_of_reply};
-ghost use Rattle.fc_spec.specs.scripts.PhaseTexts.{AreBetween, world_at};
+ghost use Rattle.fc_spec.specs.scripts.PinnedWorlds.{AreBetween, world_at};
 ghost use Rattle.fc_spec.specs.scripts.WorldLimits.{IsWithinLimits};
 ghost use Rattle.fc_spec.specs.words.Lists.{joined};
 ghost use Rattle.fc_request.specs.RequestView.{IsRoot, request_view};
 ghost use Rattle.fc_kind.specs.Names.{Covers};
+ghost use Rattle.fc_hooks.specs.SentLists.{sent_view};
 ghost use Rattle.fc_work.specs.Pinned.{AreNoLower, ArePinned, charters_of, having, least_of, most_of, numbers_in, starts_of};
 
 use fc_base::{Name, WantMemory};
 use fc_kind::FacetKind;
 use fc_reply::reply_line;
 use fc_request::Request;
-use fc_search::{NoProbe, RoundRobin, search};
-use fc_spec::first_batches_are_within;
+use fc_search::{RoundProbe, RoundRobin, Sent, search};
+use fc_spec::{first_batches_are_within, traces_are_maps};
 use fc_store::{Generation, ShardReader};
 use std::alloc::Global;
 use std::sync::Arc;
 use std::thread::Threads;
 
-/// The line of a search's reply, and the number of the generation that it has of each shard, in the order of the shards.
+/// The line of a search's reply, the number of the generation that it has of each shard, in the order of the shards, and the messages
+/// that were sent for it, ascending by round, then shard.
 #[derive(Debug, Drop)]
 pub struct Answered {
     pub line: Vec<u8>,
     pub generations: Vec<u64>,
+    pub sent: Vec<Sent>,
 }
 
 // Pins each reader once, in order.
@@ -72,15 +76,19 @@ pub fn answer<R: Threads + Sync>(
     ensures line { IfOk result (λ answered. answered.line.items
         ≡ line_of_reply (distributed (request_view request.now) (world_at (charters_of readers.old) answered.generations.items))
         answered.generations.items session.now) }
+    ensures sent { IfOk result (λ answered. map sent_view answered.sent.items
+        ≡ trace (request_view request.now) (world_at (charters_of readers.old) answered.generations.items)) }
     ensures between { IfOk result (λ answered. AreBetween (least_of readers.old) (most_of readers.old) answered.generations.items) }
     ensures started { IfOk result (λ answered. AreBetween (starts_of readers.old) (most_of readers.old) answered.generations.items) }
     ensures pinned { IfOk result (λ answered. readers.new ≡ having readers.old answered.generations.items) }
     ensures no_lower { AreNoLower readers.old readers.new }
 {
     first_batches_are_within();
+    traces_are_maps();
     let generations = pin_all(alloc, readers)?;
     let numbers = numbers_of(alloc, &generations)?;
     let mut turns = RoundRobin::new();
+    let mut probe = RoundProbe::new();
     let reply = search(
         rt,
         alloc,
@@ -89,11 +97,13 @@ pub fn answer<R: Threads + Sync>(
         kinds,
         &mut turns,
         workers,
-        &mut NoProbe,
+        &mut probe,
     )?;
     let line = reply_line(alloc, &reply, &numbers, session)?;
+    let sent = probe.sent(alloc)?;
     Ok(Answered {
         line,
         generations: numbers,
+        sent,
     })
 }

@@ -1,11 +1,12 @@
 // What the workers of a phase leave.
 ghost use Rattle.std.specs.Prelude.{◌≡◌, map, slice_set};
 ghost use Rattle.std.specs.Arc.{arc_value};
-ghost use Rattle.fc_work.specs.Working.{texts_of};
+ghost use Rattle.fc_work.specs.SearchLineView.{line_views};
 ghost use Rattle.fc_work.specs.Woven.{lines_in, woven_by};
 
+use crate::search_line::SearchLine;
 use crate::weaving::weave;
-use crate::{IndexWorker, SessionWorker, Worker};
+use crate::{IndexWorker, PhaseEnd, SessionWorker, Worker};
 use fc_base::WantMemory;
 use fc_store::Generation;
 use std::alloc::Global;
@@ -16,14 +17,14 @@ use std::sync::{Arc, Wait};
 #[derive(Drop)]
 pub(crate) struct Ended {
     pub(crate) generations: Vec<Arc<Generation>>,
-    pub(crate) lines: Vec<VecDeque<Vec<u8>>>,
+    pub(crate) lines: Vec<VecDeque<SearchLine>>,
     pub(crate) wants_memory: bool,
 }
 
 // Puts the lines of a session at its number, if there is a place for it.
 #[tactic(auto, using(crate::proofs::Placed::placed, crate::proofs::Placed::past))]
-fn place(all: &mut [VecDeque<Vec<u8>>], session: usize, lines: VecDeque<Vec<u8>>)
-    ensures { lines_in all.new ≡ slice_set (lines_in all.old) session (texts_of lines.items) }
+fn place(all: &mut [VecDeque<SearchLine>], session: usize, lines: VecDeque<SearchLine>)
+    ensures { lines_in all.new ≡ slice_set (lines_in all.old) session (line_views lines.items) }
 {
     if all.len() <= session {
         return;
@@ -52,7 +53,9 @@ fn count(all: &mut [u64], session: usize, replies: u64) {
 
 impl Ended {
     ghost use Rattle.std.specs.Prelude.{◌≡◌, ◌++◌, ◌<◌, All, IfOk, OnOk, false, length};
+    ghost use Rattle.fc_spec.specs.scripts.SearchLines.{sent_for, text_of};
     ghost use Rattle.fc_work.specs.Ends.{IsCalm, ends_of, nothing, with_end, with_ends, with_index, with_session};
+    ghost use Rattle.fc_work.specs.Phased.{sent_in};
 
     /// Before any of them has ended, from these generations on, with room for the lines of so many sessions.
     pub(crate) fn new(
@@ -131,17 +134,19 @@ impl Ended {
         left.destroy_empty();
     }
 
-    /// The last generations, where no worker wanted memory. The lines are appended, for each of these sessions its next one.
+    /// The last generations, where no worker wanted memory, and what was sent. The lines are appended, for each of these sessions its
+    /// next one.
     pub(crate) fn finish(
         self,
         alloc: Global,
         order: &[u32],
         text: &mut Vec<u8>,
-    ) -> Result<Vec<Arc<Generation>>, WantMemory>
+    ) -> Result<PhaseEnd, WantMemory>
         requires { self.wants_memory ≡ false → All (λ session. session < length self.lines.items) order.now }
         ensures calm { OnOk result (self.wants_memory ≡ false) }
-        ensures generations { IfOk result (λ last. map arc_value last.items ≡ (ends_of self).generations) }
-        ensures text { OnOk result (text.new.items ≡ text.old.items ++ woven_by (ends_of self).lines order.now) }
+        ensures generations { IfOk result (λ end. map arc_value end.generations.items ≡ (ends_of self).generations) }
+        ensures text { OnOk result (text.new.items ≡ text.old.items ++ text_of (woven_by (ends_of self).lines order.now)) }
+        ensures sent { IfOk result (λ end. sent_in end.sent.items ≡ sent_for (woven_by (ends_of self).lines order.now)) }
     {
         let Ended {
             generations,
@@ -151,7 +156,7 @@ impl Ended {
         if wants_memory {
             return Err(WantMemory);
         }
-        weave(alloc, order, &mut lines, text)?;
-        Ok(generations)
+        let sent = weave(alloc, order, &mut lines, text)?;
+        Ok(PhaseEnd { generations, sent })
     }
 }

@@ -1,12 +1,14 @@
 // The worker of a session.
-ghost use Rattle.std.specs.Prelude.{◌≡◌, ◌≤◌, All, IfOk, [], length, map};
+ghost use Rattle.std.specs.Prelude.{◌≡◌, ◌≤◌, All, IfOk, length, map};
 ghost use Rattle.fc_spec.specs.replies.Distributed.{distributed};
-ghost use Rattle.fc_spec.specs.scripts.PhaseTexts.{AreSessionLines, IsLineOver};
+ghost use Rattle.fc_spec.specs.scripts.SearchLines.{AreSessionLines, IsLineOver};
 ghost use Rattle.fc_lines.specs.LineView.{asked_view};
 ghost use Rattle.fc_kind.specs.Names.{Covers};
 ghost use Rattle.fc_work.specs.Pinned.{charters_of, least_of, most_of};
-ghost use Rattle.fc_work.specs.Working.{AreReady, AreSameStores, CanAsk, IsAnswered, IsReady, asked_of, texts_of};
+ghost use Rattle.fc_work.specs.SearchLineView.{line_view, line_views};
+ghost use Rattle.fc_work.specs.Working.{AreReady, AreSameStores, CanAsk, IsAnswered, IsReady, asked_of};
 
+use crate::search_line::SearchLine;
 use crate::{Gate, answer};
 use fc_base::{Name, WantMemory};
 use fc_kind::FacetKind;
@@ -23,12 +25,12 @@ pub struct SessionWorker {
     pub(crate) session: u32,
     pub(crate) name: Name,
     pub(crate) readers: Vec<ShardReader>,
-    pub(crate) lines: VecDeque<Vec<u8>>,
+    pub(crate) lines: VecDeque<SearchLine>,
     pub(crate) replies: u64,
     pub(crate) wants_memory: bool,
 }
 
-// The line of what a session asks: of a request that of its answer; of a fault its error line, for which nothing is pinned.
+// The line of what a session asks: of a request that of its answer; of a fault its error line, for which nothing is pinned or sent.
 fn line_of<R: Threads + Sync>(
     rt: &R,
     alloc: Global,
@@ -37,21 +39,27 @@ fn line_of<R: Threads + Sync>(
     kinds: &[Box<dyn FacetKind>],
     session: &Name,
     workers: u32,
-) -> Result<Vec<u8>, WantMemory>
+) -> Result<SearchLine, WantMemory>
     requires covers { Covers (map name kinds.now) }
     requires workers { (1 ≤ workers) × (workers ≤ 64) }
     requires ready { AreReady readers.old }
     requires asks { CanAsk readers.old asked.now }
     ensures line { IfOk result (λ line. IsLineOver distributed (charters_of readers.old) (least_of readers.old) (most_of readers.old) session.now
-        (asked_view asked.now) (λ g rest. (rest ≡ []) × (least_of readers.new ≡ g)) line.items) }
+        (asked_view asked.now) (λ g. least_of readers.new ≡ g) (line_view line)) }
     ensures same { IfOk result (λ line. AreSameStores readers.old readers.new) }
 {
     match asked {
         Ok(request) => {
             let answered = answer(rt, alloc, readers, request, kinds, session, workers)?;
-            Ok(answered.line)
+            Ok(SearchLine {
+                text: answered.line,
+                sent: Some(answered.sent),
+            })
         }
-        Err(fault) => error_line(alloc, fault, session),
+        Err(fault) => {
+            let text = error_line(alloc, fault, session)?;
+            Ok(SearchLine { text, sent: None })
+        }
     }
 }
 
@@ -68,14 +76,14 @@ fn lines_of<R: Threads + Sync, G: Gate>(
     workers: u32,
     replies: &mut u64,
     gate: &G,
-) -> Result<VecDeque<Vec<u8>>, WantMemory>
+) -> Result<VecDeque<SearchLine>, WantMemory>
     requires covers { Covers (map name kinds.now) }
     requires workers { (1 ≤ workers) × (workers ≤ 64) }
     requires ready { AreReady readers.old }
     requires count { length order.now ≡ length asked.now }
     requires ask { All (CanAsk readers.old) asked.now }
     ensures { IfOk result (λ lines. AreSessionLines distributed (charters_of readers.old) (most_of readers.old) session_name.now (least_of readers.old)
-        (map asked_view (asked_of session order.now asked.now)) (texts_of lines.items)) }
+        (map asked_view (asked_of session order.now asked.now)) (line_views lines.items)) }
 {
     let mut lines = VecDeque::new(alloc);
     for (at, one) in asked.iter().enumerate() {

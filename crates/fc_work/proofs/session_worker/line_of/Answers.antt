@@ -1,4 +1,4 @@
-use Rattle.std.proofs.Common.{◌≡◌, [], length, map, refl, sym, ◌∙◌, ap, append-nil}
+use Rattle.std.proofs.Common.{◌≡◌, length, map, Some, refl, ◌∙◌, ap}
 use Rattle.std.proofs.lemmas.List.{length-map}
 use Rattle.fc_store.specs.Charters.{last_number}
 use Rattle.fc_work.specs.Pinned.{batches_of, charters_of, least_of}
@@ -13,10 +13,10 @@ returns-in_ok-answered-in-Ok-clause-line g c =
     let count : length numbers ≡ length rs = between.count ∙ length-map rs (λ r. last_number r.charter) in
     rw c.in-Ok.is (
       numbers,
-      [],
       between,
-      c.in_ok-answered-in-Ok.ensures.line ∙ sym (append-nil _),
-      (refl, ap least_of c.in_ok-answered-in-Ok.ensures.pinned ∙ having_least rs numbers count),
+      c.in_ok-answered-in-Ok.ensures.line,
+      ap (λ es. Some es) c.in_ok-answered-in-Ok.ensures.sent,
+      ap least_of c.in_ok-answered-in-Ok.ensures.pinned ∙ having_least rs numbers count,
     )
 
 pub returns-in_ok-answered-in-Ok-clause-same : goal.returns-in_ok-answered-in-Ok-clause-same
