@@ -23,3 +23,4 @@ pub mod ReaderAnswers
 pub mod ReadSteps
 pub mod LimitsKept
 pub mod LinesRead
+pub mod WindowsRead

@@ -24,7 +24,7 @@ checked_limits : (S T : ReadSoFar) (l : AskedLine) (n : ℕ) (c : Result (Unit {
 checked_limits S T l n (Ok u) is = let same : record S { lines = S.lines ++ l ∷ [] } ≡ T = cc in ap (λ (T : ReadSoFar). T.limits) (sym same)
 checked_limits S T l n (Err f) is = cc
 
-asked_limits : (S T : ReadSoFar) (n : ℕ) (r : Result AskedLine fault.LineFault) → at_line n (r >>= with_asked S) ≡ Ok T → T.limits ≡ S.limits
+pub asked_limits : (S T : ReadSoFar) (n : ℕ) (r : Result AskedLine fault.LineFault) → at_line n (r >>= with_asked S) ≡ Ok T → T.limits ≡ S.limits
 asked_limits S T n (Ok l) is = checked_limits S T l n (check_last S.limits S.schema (S.lines ++ l ∷ []) l) is
 asked_limits S T n (Err f) is = cc
 

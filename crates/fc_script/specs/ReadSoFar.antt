@@ -41,6 +41,13 @@ with_rest r (l ∷ ls) = do
   now ← with_numbered r l
   with_rest now ls
 
+-- with some of them
+abbrev pub with_all : ReadSoFar → List Numbered → Result ReadSoFar ScriptFault
+with_all r [] = Ok r
+with_all r (l ∷ ls) = do
+  now ← with_numbered r l
+  with_all now ls
+
 -- the script of lines
 abbrev pub read_from : Limits → List Numbered → Result AskedScript ScriptFault
 read_from limits [] = Err (record { line = 0; fault = no_schema })

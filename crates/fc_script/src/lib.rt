@@ -8,6 +8,7 @@ mod limits;
 mod read;
 mod script;
 mod script_reader;
+mod windows;
 
 pub use fc_lines::{LineFault, ScriptFault, fault_line};
 pub use limits::{Limits, SCRIPT_BYTES, SCRIPT_LIMITS};

@@ -17,8 +17,24 @@ use fc_base::{Refusal, Schema};
 use fc_lines::{LineFault, Lines, ScriptFault, at_line, schema_on};
 use std::alloc::Global;
 
-// The schema on the first line, which has this number.
-fn read_schema(alloc: Global, number: u32, text: &[u8]) -> Result<Schema, Refusal<ScriptFault>>
+/// A script without a line that says something.
+pub(crate) const NO_SCHEMA: ScriptFault = ScriptFault {
+    line: 0,
+    fault: LineFault::NoSchema,
+};
+
+/// A script of too many bytes.
+pub(crate) const TOO_LONG: ScriptFault = ScriptFault {
+    line: 0,
+    fault: LineFault::TooLong,
+};
+
+/// The schema on the first line, which has this number.
+pub(crate) fn read_schema(
+    alloc: Global,
+    number: u32,
+    text: &[u8],
+) -> Result<Schema, Refusal<ScriptFault>>
     ensures { Answers (λ schema. schema) script_fault_view result
         (at_line_defined number (schema_of_line text.now)) }
 {
@@ -52,10 +68,7 @@ fn read_lines(
         (read_from (limits_view limits) (lines_left lines.entry)) }
 {
     let Some(text) = lines.next_said() else {
-        return Err(Refusal::Fault(ScriptFault {
-            line: 0,
-            fault: LineFault::NoSchema,
-        }));
+        return Err(Refusal::Fault(NO_SCHEMA));
     };
     let schema = read_schema(alloc, lines.number(), text)?;
     read_rest(alloc, limits, schema, lines)
@@ -71,10 +84,7 @@ fn read_in_lines(
         (read_in (limits_view limits) bytes.now) }
 {
     if bytes.len() > SCRIPT_BYTES {
-        return Err(Refusal::Fault(ScriptFault {
-            line: 0,
-            fault: LineFault::TooLong,
-        }));
+        return Err(Refusal::Fault(TOO_LONG));
     }
     read_lines(alloc, limits, Lines::new(bytes))
 }

@@ -1,12 +1,14 @@
 // Scripts as a run takes them.
 use crate::limits::{Limits, SCRIPT_LIMITS};
 use crate::read::read_script;
+use crate::windows::read_script_by;
 use fc_base::{Name, Refusal, Schema};
 use fc_docs::Batch;
 use fc_lines::ScriptFault;
 use fc_request::{Request, RequestFault};
 use std::alloc::Global;
 use std::sync::Arc;
+use std::thread::Threads;
 
 /// A search: the number of its session, from 0 in the order of the script's sessions, and what it asks, or the fault of
 /// that.
@@ -34,7 +36,7 @@ pub struct Script {
 }
 
 impl Script {
-    ghost use Rattle.std.specs.Prelude.{IfOk};
+    ghost use Rattle.std.specs.Prelude.{◌≤◌, IfOk};
     ghost use Rattle.fc_spec.specs.scripts.AskedScripts.{asked_script_of};
     ghost use Rattle.fc_spec.specs.scripts.ScriptParts.{parts_spelled};
     ghost use Rattle.fc_spec.specs.scripts.ScriptTotals.{script_limits};
@@ -55,7 +57,23 @@ impl Script {
         Script::read_within(alloc, SCRIPT_LIMITS, bytes)
     }
 
-    /// The same under other limits on documents and values.
+    /// The same, read by so many workers, 1 to 64: windows of some thousand lines are read side by side and gathered in order. One
+    /// worker makes no thread.
+    pub fn read_by<R: Threads + Sync>(
+        rt: &R,
+        alloc: Global,
+        workers: u32,
+        bytes: &[u8],
+    ) -> Result<Script, Refusal<ScriptFault>>
+        requires workers { (1 ≤ workers) × (workers ≤ 64) }
+        ensures answer { Answers parts_view script_fault_view result (parts_spelled script_limits bytes.now) }
+        ensures within { IfOk result (λ script. IfOk (asked_script_of script_limits bytes.now) (IsWithin script_limits)) }
+        ensures sound { IfOk result (IsSound script_limits) }
+    {
+        read_script_by(rt, alloc, workers as usize, SCRIPT_LIMITS, bytes)
+    }
+
+    /// The same as `read` under other limits on documents and values.
     pub fn read_within(
         alloc: Global,
         limits: Limits,

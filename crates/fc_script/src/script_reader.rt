@@ -2,6 +2,7 @@
 ghost use Rattle.fc_script.specs.WithinLimits.{AreWithin};
 
 mod steps;
+mod window;
 
 use crate::counts::DocumentCounts;
 use crate::gather::Gathered;
@@ -22,7 +23,7 @@ pub(crate) struct ScriptReader {
 }
 
 impl ScriptReader {
-    ghost use Rattle.std.specs.Prelude.{[], IfOk};
+    ghost use Rattle.std.specs.Prelude.{◌≡◌, [], IfOk};
     ghost use Rattle.fc_script.specs.LimitsView.{limits_view};
     ghost use Rattle.fc_script.specs.ReadSoFar.{ReadSoFar, script_so_far};
     ghost use Rattle.fc_script.specs.ReadView.{HasParts, HasRead};
@@ -43,6 +44,13 @@ impl ScriptReader {
             sessions: Vec::new(alloc),
             gathered,
         })
+    }
+
+    /// Its schema.
+    pub(crate) fn schema(&self) -> &Schema
+        ensures { result.now ≡ self.now.schema }
+    {
+        &self.schema
     }
 
     /// The script, where the lines end here.

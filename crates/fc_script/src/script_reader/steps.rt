@@ -14,7 +14,7 @@ const SYNC_LIMIT: usize = 4096;
 const SESSION_LIMIT: usize = 16;
 
 impl ScriptReader {
-    ghost use Rattle.std.specs.Prelude.{◌<◌, IfOk, IfSome};
+    ghost use Rattle.std.specs.Prelude.{◌≡◌, ◌<◌, IfOk, IfSome};
     ghost use Rattle.fc_docs.specs.View.{block_view};
     ghost use Rattle.fc_lines.specs.FaultView.{line_fault_view, script_fault_view};
     ghost use Rattle.fc_lines.specs.LineView.{asked_view, line_view};
@@ -28,8 +28,8 @@ impl ScriptReader {
     ghost use Rattle.fc_spec.specs.requests.ValidRequests.{IsValidRequest};
     ghost use Rattle.fc_spec.specs.scripts.Script.{add, asks, commit, sync};
 
-    // With a block for a shard.
-    fn with_block(
+    /// With a block for a shard.
+    pub(super) fn with_block(
         self,
         alloc: Global,
         shard: u32,
@@ -37,7 +37,8 @@ impl ScriptReader {
     ) -> Result<ScriptReader, Refusal<LineFault>>
         requires placed { shard < self.schema.shards }
         requires valid { IsBlockOf self.schema (block_view block) }
-        ensures { (S : ReadSoFar) → HasRead self S
+        ensures schema { IfOk result (λ r. r.schema ≡ self.schema) }
+        ensures meets { (S : ReadSoFar) → HasRead self S
             → Meets HasRead line_fault_view result (with_asked S (add shard (block_view block))) }
     {
         let ScriptReader {
@@ -63,7 +64,8 @@ impl ScriptReader {
         shard: Option<u32>,
     ) -> Result<ScriptReader, Refusal<LineFault>>
         requires placed { IfSome shard (λ shard. shard < self.schema.shards) }
-        ensures { (S : ReadSoFar) → HasRead self S
+        ensures schema { IfOk result (λ r. r.schema ≡ self.schema) }
+        ensures meets { (S : ReadSoFar) → HasRead self S
             → Meets HasRead line_fault_view result (with_asked S (commit shard)) }
     {
         let ScriptReader {
@@ -86,7 +88,8 @@ impl ScriptReader {
 
     // With the end of a phase.
     fn with_sync(self, alloc: Global) -> Result<ScriptReader, Refusal<LineFault>>
-        ensures { (S : ReadSoFar) → HasRead self S
+        ensures schema { IfOk result (λ r. r.schema ≡ self.schema) }
+        ensures meets { (S : ReadSoFar) → HasRead self S
             → Meets HasRead line_fault_view result (with_asked S sync) }
     {
         let ScriptReader {
@@ -115,7 +118,8 @@ impl ScriptReader {
     ) -> Result<ScriptReader, Refusal<LineFault>>
         requires valid { IfOk asked (λ request. IsValidRequest self.schema (request_view request)) }
         requires root { IfOk asked (λ request. IsRoot request.root) }
-        ensures { (S : ReadSoFar) → HasRead self S
+        ensures schema { IfOk result (λ r. r.schema ≡ self.schema) }
+        ensures meets { (S : ReadSoFar) → HasRead self S
             → Meets HasRead line_fault_view result (with_asked S (asks session (asked_view asked))) }
     {
         let ScriptReader {
@@ -142,7 +146,8 @@ impl ScriptReader {
         requires valid { IsLineOf self.schema (line_view line) }
         requires asked { IsAskedOf self.schema (line_view line) }
         requires root { HasRoot line }
-        ensures { (S : ReadSoFar) → HasRead self S
+        ensures schema { IfOk result (λ r. r.schema ≡ self.schema) }
+        ensures meets { (S : ReadSoFar) → HasRead self S
             → Meets HasRead line_fault_view result (with_asked S (line_view line)) }
     {
         match line {
@@ -153,9 +158,14 @@ impl ScriptReader {
         }
     }
 
-    // With the line of this text.
-    fn with_text(self, alloc: Global, text: &[u8]) -> Result<ScriptReader, Refusal<LineFault>>
-        ensures { (S : ReadSoFar) → HasRead self S
+    /// With the line of this text.
+    pub(super) fn with_text(
+        self,
+        alloc: Global,
+        text: &[u8],
+    ) -> Result<ScriptReader, Refusal<LineFault>>
+        ensures schema { IfOk result (λ r. r.schema ≡ self.schema) }
+        ensures meets { (S : ReadSoFar) → HasRead self S
             → Meets HasRead line_fault_view result (with_text_line S text.now) }
     {
         let line = line_on(alloc, &self.schema, text)?;

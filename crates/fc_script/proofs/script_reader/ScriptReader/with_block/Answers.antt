@@ -18,8 +18,8 @@ use Rattle.fc_script.proofs.ReadSteps.{with_block}
 use Rattle.fc_script.proofs.ReaderAnswers.{by_lines, so_far, taken, refused_as}
 use Rattle.fc_script.proofs.script_reader.ScriptReader.with_block.Goals as goal
 
-pub returns-in_err-documents : goal.returns-in_err-documents
-returns-in_err-documents c = by_lines c.args.self (λ S. Meets HasRead line_fault_view c.from_residual.result (with_asked S (add c.args.shard (block_view c.args.block)))) (λ m ls has.
+pub returns-in_err-documents-clause-meets : goal.returns-in_err-documents-clause-meets
+returns-in_err-documents-clause-meets c = by_lines c.args.self (λ S. Meets HasRead line_fault_view c.from_residual.result (with_asked S (add c.args.shard (block_view c.args.block)))) (λ m ls has.
     let p = err_from_is_err_and c.from_residual.result c.from_residual.ensures.1 in
     let block = block_view c.args.block in
     let shown = (c.in_err-documents.ensures.counted m (filter_map added ls) has.documents).0 in
@@ -39,8 +39,8 @@ invariant_of-result c =
       };
     }
 
-pub returns : goal.returns
-returns c = taken c.args.self c.in_ok-documents.documents c.args.self.sessions.items c.add.new.self (add c.args.shard (block_view c.args.block)) (λ m ls has.
+pub returns-clause-meets : goal.returns-clause-meets
+returns-clause-meets c = taken c.args.self c.in_ok-documents.documents c.args.self.sessions.items c.add.new.self (add c.args.shard (block_view c.args.block)) (λ m ls has.
     let block = block_view c.args.block in
     let counted = c.in_ok-documents.ensures.counted m (filter_map added ls) has.documents in (
       ap (λ bs. check_documents m c.args.self.schema (documents_in bs)) (added-add ls c.args.shard block) ∙ counted.0,

@@ -9,12 +9,12 @@ use Rattle.fc_script.proofs.ReadSteps.{with_search}
 use Rattle.fc_script.proofs.ReaderAnswers.{taken, refused}
 use Rattle.fc_script.proofs.script_reader.ScriptReader.with_search.Goals as goal
 
-pub returns-then-len-gt-SESSION_LIMIT : goal.returns-then-len-gt-SESSION_LIMIT
-returns-then-len-gt-SESSION_LIMIT c = refused c.args.self (asks c.args.session (asked_view c.args.asked)) _ (λ m ls has.
+pub returns-then-len-gt-SESSION_LIMIT-clause-meets : goal.returns-then-len-gt-SESSION_LIMIT-clause-meets
+returns-then-len-gt-SESSION_LIMIT-clause-meets c = refused c.args.self (asks c.args.session (asked_view c.args.asked)) _ (λ m ls has.
     few_sessions_then m c.args.self ls has c.args.session (asked_view c.args.asked) false _ c.in_ok-number.ensures.sessions (lt-leb (length c.session_number.new.sessions.items) 16 (omega (arith, c.if-len-gt-SESSION_LIMIT.true, c.len.ensures))))
 
-pub returns : goal.returns
-returns c = taken c.args.self c.args.self.documents c.session_number.new.sessions.items c.search.new.self (asks c.args.session (asked_view c.args.asked)) (λ m ls has.
+pub returns-clause-meets : goal.returns-clause-meets
+returns-clause-meets c = taken c.args.self c.args.self.documents c.session_number.new.sessions.items c.search.new.self (asks c.args.session (asked_view c.args.asked)) (λ m ls has.
     let asked = asked_view c.args.asked in
     let names = c.session_number.new.sessions.items in (
       few_sessions_then m c.args.self ls has c.args.session asked true _ c.in_ok-number.ensures.sessions (le-leb (length c.session_number.new.sessions.items) 16 (omega (arith, c.if-len-gt-SESSION_LIMIT.false, c.len.ensures))),
