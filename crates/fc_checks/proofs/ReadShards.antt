@@ -12,7 +12,7 @@ use Rattle.fc_spec.specs.laws.ScriptLaws.{WorldsAreWithin}
 use Rattle.fc_spec.specs.words.Lists.{joined}
 use Rattle.fc_spec.specs.words.Walks.{◌>>=◌}
 use Rattle.fc_spec.specs.scripts.AskedScripts.{AskedScript}
-use Rattle.fc_spec.specs.scripts.PhaseTexts.{world_added, world_at}
+use Rattle.fc_spec.specs.scripts.PinnedWorlds.{world_added, world_at}
 use Rattle.fc_spec.specs.scripts.Script.{stream}
 use Rattle.fc_spec.specs.scripts.ScriptFault.{ScriptFault}
 use Rattle.fc_spec.specs.scripts.ScriptParts.{batches, parts_of}

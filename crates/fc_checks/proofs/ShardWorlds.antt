@@ -9,7 +9,7 @@ use Rattle.fc_spec.specs.documents.World.{World}
 use Rattle.fc_spec.specs.requests.Request.{Request}
 use Rattle.fc_spec.specs.requests.ValidRequests.{IsValidRequest}
 use Rattle.fc_spec.specs.words.Lists.{joined}
-use Rattle.fc_spec.specs.scripts.PhaseTexts.{world_added}
+use Rattle.fc_spec.specs.scripts.PinnedWorlds.{world_added}
 use Rattle.fc_search.specs.Askable.{world_of}
 use Rattle.fc_store.specs.Generated.{Generated}
 

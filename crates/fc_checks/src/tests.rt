@@ -20,7 +20,7 @@ mod turns;
 
 use fc_io::{MemSink, MemSource};
 use fc_kind::FacetKind;
-use fc_run::{Gate, Status, run};
+use fc_run::{Book, Gate, Status, run};
 use std::alloc::Global;
 use std::sync::Wait;
 use std::test::Fail;
@@ -35,20 +35,22 @@ fn demand(found: &str, wanted: &str) -> Result<(), Fail> {
     }
 }
 
-// What is written of a script without a fault, where this gate is told how it goes on.
-fn written<R: Threads + Wait + Sync, G: Gate>(
+// What is written of a script without a fault, where this gate is told how it goes on, and this book what is sent.
+fn written<R: Threads + Wait + Sync, G: Gate, B: Book>(
     rt: &R,
     alloc: Global,
     script: &str,
     kinds: &[Box<dyn FacetKind>],
     gate: &G,
+    book: &mut B,
 ) -> Result<String, Fail>
     requires { Covers (map name kinds.now) }
 {
     let words = vec![in alloc; String::from_str(alloc, "facets")?]?;
     let mut source = MemSource::new(alloc, script.as_bytes(), 4096, &[])?;
     let mut sink = MemSink::new(alloc, 65_536, 4096, &[])?;
-    match run(rt, alloc, &words, &mut source, &mut sink, kinds, gate) {
+    let status = run(rt, alloc, &words, &mut source, &mut sink, kinds, gate, book);
+    match status {
         Status::Done => Ok(String::from_utf8_lossy(alloc, sink.written())?),
         status => Err(Fail::new(format_args!("{status:?}"))),
     }

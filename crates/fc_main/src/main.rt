@@ -7,7 +7,7 @@ use complaint::complaint;
 use fc_io::{StdSink, StdSource};
 use fc_kind::kinds_of;
 use fc_range::{QueryKind, RangeKind};
-use fc_run::{NoGate, Status, run};
+use fc_run::{NoBook, NoGate, Status, run};
 use fc_terms::TermsKind;
 use std::alloc::Global;
 use std::io;
@@ -44,7 +44,16 @@ fn run_program<R: Threads + Wait + Sync + Env + Input + Print + AllocGlobal>(rt:
     };
     let mut source = StdSource::new(rt.reader());
     let mut sink = StdSink::new(io::writer(rt));
-    run(rt, alloc, &words, &mut source, &mut sink, &kinds, &NoGate)
+    run(
+        rt,
+        alloc,
+        &words,
+        &mut source,
+        &mut sink,
+        &kinds,
+        &NoGate,
+        &mut NoBook,
+    )
 }
 
 fn main(rt: HostRuntime) -> ExitCode {

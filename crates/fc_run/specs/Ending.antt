@@ -3,6 +3,7 @@ use Rattle.std.specs.Prelude.{◌≡◌, ℕ, List, ◌++◌, Option, Result, Ok
 use Rattle.std.specs.Io.KnownBytes.{Appends}
 use Rattle.fc_spec.specs.documents.Val.{Text}
 use Rattle.fc_spec.specs.scripts.AskedScripts.{AskedScript, asked_script}
+use Rattle.fc_spec.specs.scripts.Booked.{Books}
 use Rattle.fc_spec.specs.scripts.Outputs.{IsOutputBy}
 use Rattle.fc_spec.specs.scripts.ScriptFault.{ScriptFault}
 use Rattle.fc_spec.specs.scripts.ScriptParts.{parts_of}
@@ -12,6 +13,7 @@ use Rattle.fc_base.specs.declared.error.Refusal.TheVariants.{Memory as NoMemory,
 use Rattle.fc_lines.specs.FaultView.{script_fault_view}
 use Rattle.fc_lines.specs.declared.fault.ScriptFault as code
 use Rattle.fc_io.specs.WriteEnd.{AppendsFront}
+use Rattle.fc_run.specs.Booking.{AreBookedIn}
 use Rattle.fc_run.specs.Outcome.{single_without_limits, ArePrinted, IsOneOutput, IsRefinedOutput, Leaves, OnDone, Wrote, WroteFor}
 use Rattle.fc_run.specs.declared.status.Status.{Status}
 use Rattle.fc_run.specs.declared.status.Status.TheVariants.{Usage, Read, Memory, Write}
@@ -56,20 +58,22 @@ IsEnded Usage = ⊥
 IsEnded Read = ⊥
 IsEnded status = ⊤
 
--- all that is promised of the text that is left, by what the bytes spell
-pub record IsLeft (status : Status) (spelled : Result AskedScript ScriptFault) (t : Text) : Type 0 where
+-- all that is promised of the text that is left, by what the bytes spell and by what the book tells before and after
+pub record IsLeft (status : Status) (before after : Option Books) (spelled : Result AskedScript ScriptFault) (t : Text) : Type 0 where
   pub leaves : Leaves status spelled t
   pub printed : OnDone status spelled ArePrinted t
+  pub booked : OnDone status spelled (AreBookedIn before after) t
 
 -- so of a script that was not read, for want of memory or since it has a fault
 abbrev pub IsRefused : Refusal code.ScriptFault → Status → (old new : Option (List ℕ)) → Type 0
-IsRefused NoMemory status old new = (spelled : Result AskedScript ScriptFault) → Wrote old new (IsLeft status spelled)
+IsRefused NoMemory status old new = (spelled : Result AskedScript ScriptFault) (before after : Option Books) → Wrote old new (IsLeft status before after spelled)
 IsRefused (Faulty f) status old new =
-    (spelled : Result AskedScript ScriptFault) → (spelled >>= λ S. Ok (parts_of S)) ≡ Err (script_fault_view f) → Wrote old new (IsLeft status spelled)
+    (spelled : Result AskedScript ScriptFault) (before after : Option Books) → (spelled >>= λ S. Ok (parts_of S)) ≡ Err (script_fault_view f) → Wrote old new (IsLeft status before after spelled)
 
 -- each clause on what is written, where these are the bytes of the script, if they are known
-pub record IsLeftOf (status : Status) (bytes old new : Option (List ℕ)) : Type 0 where
+pub record IsLeftOf (status : Status) (bytes old new : Option (List ℕ)) (before after : Option Books) : Type 0 where
   pub leaves : WroteFor bytes old new (λ all. Leaves status (asked_script all))
   pub single_index : WroteFor bytes old new (λ all. OnDone status (asked_script all) (IsOutputBy single_without_limits))
   pub refined : WroteFor bytes old new (λ all. OnDone status (asked_script all) IsRefinedOutput)
   pub one_output : WroteFor bytes old new (λ all. OnDone status (asked_script all) IsOneOutput)
+  pub booked : WroteFor bytes old new (λ all. OnDone status (asked_script all) (AreBookedIn before after))

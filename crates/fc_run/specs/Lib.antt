@@ -1,5 +1,7 @@
+pub mod Booking
 pub mod Ending
 pub mod Generations
+pub mod ListBook
 pub mod Outcome
 pub mod Phased
 pub mod Progress

@@ -1,11 +1,14 @@
 -- The laws that the promises of a run stand on.
-use Rattle.fc_spec.specs.laws.PhaseLaws.{PhasesAddUp}
+use Rattle.fc_spec.specs.laws.PhaseLaws.{BookedAreOutputs, PhasesAddUp}
+use Rattle.fc_spec.specs.laws.ScriptLaws.{SearchesAreFew, IsOnlyOutput, StandByPhase, WorldsAreWithin}
 use Rattle.fc_spec.specs.laws.RefinedPaths.{AreRefinedPathsExact}
-use Rattle.fc_spec.specs.laws.ScriptLaws.{IsOnlyOutput, WorldsAreWithin}
 use Rattle.fc_spec.specs.laws.WithoutLimits.{IsSingleWithoutLimits}
 
 pub record AreRunLaws : Type 0 where
   pub phases : PhasesAddUp
+  pub outputs : BookedAreOutputs
+  pub by_phase : StandByPhase
+  pub few : SearchesAreFew
   pub only : IsOnlyOutput
   pub worlds : WorldsAreWithin
   pub single : IsSingleWithoutLimits

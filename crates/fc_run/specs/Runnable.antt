@@ -5,13 +5,14 @@ use Rattle.fc_spec.specs.requests.ValidRequests.{IsValidRequest}
 use Rattle.fc_spec.specs.documents.Val.{same_text}
 use Rattle.fc_spec.specs.scripts.WorldLimits.{IsWithinLimits}
 use Rattle.fc_request.specs.RequestView.{IsRoot, request_view}
+use Rattle.fc_spec.specs.words.Lists.{joined}
 use Rattle.fc_script.specs.SoundScripts.{CutLists, IsSoundSearch}
 use Rattle.fc_script.specs.declared.script.Phase.{Phase}
 use Rattle.fc_script.specs.declared.script.Script.{Script}
 use Rattle.fc_script.specs.declared.script.Search.{Search}
 use Rattle.fc_store.specs.Generated.{Generated}
 use Rattle.fc_run.specs.Generations.{AreCommittable}
-use Rattle.fc_spec.specs.scripts.PhaseTexts.{world_at}
+use Rattle.fc_spec.specs.scripts.PinnedWorlds.{world_at}
 use Rattle.fc_run.specs.Searches.{lists_in, shards_view}
 
 -- its session is one of so many, and its request, where it has no fault, is valid for the schema of each generation and stands in a root as requests do
@@ -35,7 +36,11 @@ AreRising before (commits ∷ later) = ((i : ℕ) → slice_index before i ≤ s
 abbrev pub commits_in : List Phase → List (List ℕ)
 commits_in phases = map (λ p. p.commits.items) phases
 
--- there is a shard, but no more than 64, and no more than 16 sessions, which differ; the batches of each can be committed, and the phases can be run, one after another
+-- the searches of phases, one phase after another
+abbrev pub searches_in : List Phase → List Search
+searches_in phases = joined (map (λ p. p.searches.items) phases)
+
+-- there is a shard, but no more than 64, and no more than 16 sessions, which differ; the batches of each can be committed, and the phases can be run, one after another; they have no more searches than a script may have bytes
 pub record IsRunnable (s : Script) : Type 0 where
   pub some : 1 ≤ length s.batches.items
   pub few_shards : length s.batches.items ≤ 64
@@ -44,3 +49,4 @@ pub record IsRunnable (s : Script) : Type 0 where
   pub shards : AreCommittable (arc_value s.schema) (shards_view s.batches.items)
   pub phases : All (IsRunnablePhase s) s.phases.items
   pub rising : AreRising (map (λ shard. 0) s.batches.items) (commits_in s.phases.items)
+  pub few_searches : length (searches_in s.phases.items) ≤ 67_108_864

@@ -5,12 +5,13 @@ ghost use Rattle.fc_spec.specs.scripts.AskedScripts.{asked_script};
 ghost use Rattle.fc_spec.specs.scripts.Outputs.{IsOutputBy};
 ghost use Rattle.fc_io.specs.Faults.{Rose};
 ghost use Rattle.fc_kind.specs.Names.{Covers};
-ghost use Rattle.fc_run.specs.Outcome.{single_without_limits, IfDone, IsOneOutput, IsRefinedOutput, Leaves, OnDone, OnRead, OnWrite, WroteFor};
+ghost use Rattle.fc_run.specs.Booking.{AreBookedIn};
+ghost use Rattle.fc_run.specs.Outcome.{single_without_limits, IfDone, IsOneOutput, IsRefinedOutput, Leaves, OnDone, OnRead, OnUnasked, OnWrite, WroteFor};
 ghost use Rattle.fc_run.specs.Words.{asked_in, asks_demo, bytes_for};
 ghost use Rattle.fc_run.specs.declared.status.Status.TheVariants.{Memory, Usage};
 
-use crate::Status;
 use crate::sources::run_asked;
+use crate::{Book, Status};
 use fc_base::WantMemory;
 use fc_io::{Sink, Source};
 use fc_kind::FacetKind;
@@ -22,17 +23,19 @@ use std::thread::Threads;
 
 /// Reads a script from `source` and writes its answer to `sink`: one line for each search, in script order, its reply
 /// or the error of its request; or the one line of the script's first fault, and then nothing else. `words` are those of
-/// the command: the program's name, and then `--workers N` and `--demo N`, each at most once. `--workers` tells how many may drive
-/// the shards of a search at once, 1 to 64, and changes no reply; with `--demo` nothing is read, and the script is that of the demo
-/// with so many documents, 0 to 200,000. `kinds` holds a kind of facet of each name.
+/// the command: the program's name, and then `--workers N` and `--demo N`, each at most once. `--workers` tells how many may read
+/// lines, and drive the shards of a search, at once, 1 to 64, and changes no reply; with `--demo` nothing is read, and the script is
+/// that of the demo with so many documents, 0 to 200,000. `kinds` holds a kind of facet of each name.
 ///
 /// Every script is taken. In a phase with searches each shard's commits and each session's searches go on beside each other, in threads
 /// of their own; the clauses promise legal generations, and which of them a search uses only where `one_output` leaves no choice. The lines
-/// of a phase are written when its threads have ended. `gate` is told of each commit and each reply of such a phase.
+/// of a phase are written when its threads have ended. `gate` is told of each commit and each reply of such a phase. `book` is told what
+/// was sent for each search that has a reply, before the lines of its phase are written; searches are numbered from 0 over the whole
+/// script, those whose requests have faults too.
 ///
 /// The clauses on bytes hold where the source tells the bytes that it has left, and the sink those that were
-/// written.
-pub fn run<R: Threads + Wait + Sync, S: Source, K: Sink, G: Gate>(
+/// written; `booked` where, beside both, the book tells what it was told.
+pub fn run<R: Threads + Wait + Sync, S: Source, K: Sink, G: Gate, B: Book>(
     rt: &R,
     alloc: Global,
     words: &[String],
@@ -40,6 +43,7 @@ pub fn run<R: Threads + Wait + Sync, S: Source, K: Sink, G: Gate>(
     sink: &mut K,
     kinds: &[Box<dyn FacetKind>],
     gate: &G,
+    book: &mut B,
 ) -> Status
     requires covers { Covers (map name kinds.now) }
     ensures usage { result ≡ Usage → asked_in words.now ≡ None }
@@ -53,6 +57,8 @@ pub fn run<R: Threads + Wait + Sync, S: Source, K: Sink, G: Gate>(
     ensures read_source { OnRead result (asks_demo (asked_in words.now) ≡ false) }
     ensures read_unwritten { OnRead result (K.written sink.new ≡ K.written sink.old) }
     ensures end { IfDone result (asks_demo (asked_in words.now) ≡ false → IsAtEnd (S.left source.new)) }
+    ensures untold { asked_in words.now ≡ None → B.books book.new ≡ B.books book.old }
+    ensures unbooked { OnUnasked result (B.books book.new ≡ B.books book.old) }
     ensures write { OnWrite result (Rose (K.faults sink.old) (K.faults sink.new)) }
     ensures source_never_falls { S.faults source.old ≤ S.faults source.new }
     ensures sink_never_falls { K.faults sink.old ≤ K.faults sink.new }
@@ -65,9 +71,11 @@ pub fn run<R: Threads + Wait + Sync, S: Source, K: Sink, G: Gate>(
         (λ bytes. OnDone result (asked_script bytes) IsRefinedOutput) }
     ensures one_output { WroteFor (bytes_for (asked_in words.now) (S.left source.old)) (K.written sink.old) (K.written sink.new)
         (λ bytes. OnDone result (asked_script bytes) IsOneOutput) }
+    ensures booked { WroteFor (bytes_for (asked_in words.now) (S.left source.old)) (K.written sink.old) (K.written sink.new)
+        (λ bytes. OnDone result (asked_script bytes) (AreBookedIn (B.books book.old) (B.books book.new))) }
 {
     match read_words(alloc, words) {
-        Ok(Some(options)) => run_asked(rt, alloc, options, source, sink, kinds, gate),
+        Ok(Some(options)) => run_asked(rt, alloc, options, source, sink, kinds, gate, book),
         Ok(None) => Status::Usage,
         Err(WantMemory) => Status::Memory,
     }

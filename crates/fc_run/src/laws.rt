@@ -2,8 +2,8 @@
 ghost use Rattle.fc_run.specs.RunLaws.{AreRunLaws};
 
 use fc_spec::{
-    phases_write_outputs, refined_paths_are_exact, scripts_have_one_output, without_limits,
-    worlds_are_within_limits,
+    phase_ends_are_outputs, phases_write_outputs, refined_paths_are_exact, scripts_have_one_output,
+    searches_are_few, without_limits, worlds_are_within_limits,
 };
 
 /// All of them.
@@ -11,6 +11,8 @@ pub(crate) fn run_laws()
     ensures { AreRunLaws }
 {
     phases_write_outputs();
+    phase_ends_are_outputs();
+    searches_are_few();
     scripts_have_one_output();
     worlds_are_within_limits();
     without_limits();

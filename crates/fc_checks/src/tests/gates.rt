@@ -1,7 +1,7 @@
 // Workers go on beside each other: a gate holds the commits and a session until the other has moved.
 use super::kinds::kinds_in;
 use super::written;
-use fc_run::Gate;
+use fc_run::{Gate, NoBook};
 use std::hint::spin_loop;
 use std::sync::atomic::{AtomicU64, Ordering};
 use std::test::Fail;
@@ -128,7 +128,7 @@ fn workers_go_on_beside_each_other(rt: HostRuntime) -> Result<(), Fail> {
     let kinds = kinds_in(alloc)?;
     for (commits, script, wanted) in ROWS {
         let gate = Meeting::new(*commits);
-        let found = written(&rt, alloc, script, &kinds, &gate)?;
+        let found = written(&rt, alloc, script, &kinds, &gate, &mut NoBook)?;
         assert_eq!(rt; gate.late.load(Ordering::SeqCst), 0, "{commits}");
         demand_lines(&found, wanted)?;
     }

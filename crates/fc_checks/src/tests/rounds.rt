@@ -1,10 +1,12 @@
-// A search in three rounds through the coordinator, by hand.
-use super::demand;
+// A search in three rounds: through the coordinator, by hand, and what is booked of it.
 use super::documents::{request_of, schema_of};
+use super::kinds::kinds_in;
 use super::messages::{is_ask, message_of};
+use super::{demand, written};
 use fc_base::Name;
 use fc_coord::Coord;
 use fc_reply::reply_line;
+use fc_run::{ListBook, NoGate};
 use std::alloc::Global;
 use std::test::Fail;
 
@@ -76,6 +78,35 @@ fn line_told(alloc: Global, reversed: bool) -> Result<String, Fail> {
 fn three_rounds(rt: HostRuntime) -> Result<(), Fail> {
     for reversed in [false, true] {
         demand(&line_told(rt.alloc(), reversed)?, LINE)?;
+    }
+    Ok(())
+}
+
+const SCRIPT: &str = r#"{"schema":{"shards":2,"fields":{"cat":"string","size":"string"}}}
+{"add":{"doc":{"id":"1","cat":"x","size":"s"},"shard":0}}
+{"add":{"doc":{"id":"2","cat":"x","size":"s"},"shard":0}}
+{"add":{"doc":{"id":"3","cat":"x","size":"l"},"shard":0}}
+{"add":{"doc":{"id":"4","cat":"x","size":"l"},"shard":1}}
+{"add":{"doc":{"id":"5","cat":"x","size":"l"},"shard":1}}
+{"add":{"doc":{"id":"6","cat":"y","size":"m"},"shard":1}}
+{"add":{"doc":{"id":"7","cat":"y","size":"m"},"shard":1}}
+{"add":{"doc":{"id":"8","cat":"y","size":"m"},"shard":1}}
+{"commit":{}}
+{"sync":{}}
+{"search":{"session":"a","request":{"facet":{"cats":{"type":"terms","field":"cat","limit":1,"overrequest":0,"overrefine":0,"refine":true,"facet":{"sizes":{"type":"terms","field":"size","limit":1,"overrequest":0,"overrefine":0,"refine":true}}}}}}}
+"#;
+
+// Round, shard and bytes of each message: 9, for a bucket of all documents 25, for a list 8, for a bucket of a text of one byte 34.
+#[test]
+fn what_is_sent_is_booked(rt: HostRuntime) -> Result<(), Fail> {
+    let alloc = rt.alloc();
+    let mut book = ListBook::new(alloc)?;
+    written(&rt, alloc, SCRIPT, &kinds_in(alloc)?, &NoGate, &mut book)?;
+    let sent = book.get(0).ok_or("nothing is booked")?;
+    assert!(rt; sent.len() == 4 && book.get(1).is_none());
+    let wanted = [(1, 0, 118), (1, 1, 118), (2, 1, 85), (3, 0, 43)];
+    for (found, wanted) in sent.iter().zip(wanted) {
+        assert!(rt; (found.round, found.shard, found.length) == wanted);
     }
     Ok(())
 }

@@ -1,7 +1,7 @@
 // The batches of scripts that have no fault, and generations of them.
 ghost use Rattle.std.specs.Prelude.{◌≡◌, All, IfOk, map};
 ghost use Rattle.std.specs.Arc.{arc_value};
-ghost use Rattle.fc_spec.specs.scripts.PhaseTexts.{world_added};
+ghost use Rattle.fc_spec.specs.scripts.PinnedWorlds.{world_added};
 ghost use Rattle.fc_spec.specs.scripts.WorldLimits.{IsWithinLimits};
 ghost use Rattle.fc_spec.specs.words.Lists.{joined};
 ghost use Rattle.fc_script.specs.PartsView.{batches_view};

@@ -14,7 +14,7 @@ use fc_kind::FacetKind;
 use fc_reply::reply_line;
 use fc_request::Request;
 use fc_script::Script;
-use fc_search::{Probe, Turns, search};
+use fc_search::{NoProbe, Turns, search};
 use fc_store::Generation;
 use std::alloc::Global;
 use std::sync::Arc;
@@ -28,58 +28,39 @@ pub(super) struct Asked {
     pub(super) requests: &'static [&'static str],
 }
 
-fn numbers_of(alloc: Global, generations: &[Arc<Generation>]) -> Result<Vec<u64>, Fail> {
-    let mut numbers = Vec::new(alloc);
-    for generation in generations {
-        numbers.push(generation.number())?;
-    }
-    Ok(numbers)
-}
-
 // The line of a search of session a.
-fn line_of<R: Threads + Sync, T: Turns, P: Probe>(
+fn line_of<R: Threads + Sync, T: Turns>(
     rt: &R,
     alloc: Global,
-    generations: &[Arc<Generation>],
+    published: &[Arc<Generation>],
     schema: &Schema,
     request: &Request,
     kinds: &[Box<dyn FacetKind>],
     turns: &mut T,
     workers: u32,
-    probe: &mut P,
 ) -> Result<Vec<u8>, Fail>
     requires workers { (1 ≤ workers) × (workers ≤ 64) }
     requires covers { Covers (map name kinds.now) }
-    requires some { 1 ≤ length generations.now }
+    requires some { 1 ≤ length published.now }
     requires root { IsRoot request.now.root }
     requires valid { IsValidRequest schema.now (request_view request.now) }
-    requires schema { All (λ generation. generation.schema ≡ schema.now) (map arc_value generations.now) }
-    requires limits { IsWithinLimits (world_of (map arc_value generations.now)) }
+    requires schema { All (λ generation. generation.schema ≡ schema.now) (map arc_value published.now) }
+    requires limits { IsWithinLimits (world_of (map arc_value published.now)) }
 {
-    let reply = search(
-        rt,
-        alloc,
-        generations,
-        request,
-        kinds,
-        turns,
-        workers,
-        probe,
-    )?;
-    let numbers = numbers_of(alloc, generations)?;
-    let session = Name::new(alloc, "a")?;
-    Ok(reply_line(alloc, &reply, &numbers, &session)?)
+    let probe = &mut NoProbe;
+    let reply = search(rt, alloc, published, request, kinds, turns, workers, probe)?;
+    let numbers: Vec<u64> = published.iter().map(|one| one.number()).collect(alloc)?;
+    Ok(reply_line(alloc, &reply, &numbers, &Name::new(alloc, "a")?)?)
 }
 
-// The lines of what is asked, by so many workers; of one the turns go so. The probe is told of all messages.
-pub(super) fn lines_of<R: Threads + Sync, T: Turns, P: Probe>(
+// The lines of what is asked, by so many workers; of one the turns go so.
+pub(super) fn lines_of<R: Threads + Sync, T: Turns>(
     rt: &R,
     alloc: Global,
     asked: &Asked,
     kinds: &[Box<dyn FacetKind>],
     turns: &mut T,
     workers: u32,
-    probe: &mut P,
 ) -> Result<String, Fail>
     requires covers { Covers (map name kinds.now) }
     requires workers { (1 ≤ workers) × (workers ≤ 64) }
@@ -90,23 +71,15 @@ pub(super) fn lines_of<R: Threads + Sync, T: Turns, P: Probe>(
         batches,
         ..
     } = script;
-    let generations = generations_of(alloc, &schema, batches, asked.earlier)?;
-    if generations.is_empty() {
+    let published = generations_of(alloc, &schema, batches, asked.earlier)?;
+    if published.is_empty() {
         return Err("no shard".into());
     }
     let mut text = Vec::new(alloc);
     for request in asked.requests {
         let request = request_of(alloc, &schema, request)?;
         let line = line_of(
-            rt,
-            alloc,
-            &generations,
-            &schema,
-            &request,
-            kinds,
-            turns,
-            workers,
-            probe,
+            rt, alloc, &published, &schema, &request, kinds, turns, workers,
         )?;
         text.extend_from_slice(&line)?;
     }

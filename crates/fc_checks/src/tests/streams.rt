@@ -1,7 +1,7 @@
 // Sources and sinks that falter: what fails is told, and not tried again.
 use super::kinds::kinds_in;
 use fc_io::{AllRead, MemSink, MemSource, StdSink, StdSource, WriteEnd, read_all, write_all};
-use fc_run::{NoGate, Status, run};
+use fc_run::{ListBook, NoGate, Status, run};
 use std::alloc::Global;
 use std::io;
 use std::io::{Read, Write};
@@ -84,7 +84,7 @@ const ANSWER: &str =
 "#;
 
 // A run over streams: the calls of the source that fail, the room of the sink and its calls that fail; the status, the faults
-// of both and what is written. What fails is not tried again, though the next call would fail too.
+// of both and what is written. What fails is not tried again, though the next call would fail too; what is sent is booked first.
 const STREAMS: &[(&[u32], usize, &[u32], Status, (u64, u64), &str)] = &[
     (&[], 1000, &[], Status::Done, (0, 0), ANSWER),
     (&[1], 1000, &[], Status::Read, (1, 0), ""),
@@ -102,14 +102,18 @@ fn runs_over_streams(rt: HostRuntime) -> Result<(), Fail> {
     let kinds = kinds_in(alloc)?;
     let words = vec![in alloc; String::from_str(alloc, "facets")?]?;
     for (failing_reads, room, failing_writes, status, counted, written) in STREAMS {
-        let mut source = MemSource::new(alloc, SCRIPT.as_bytes(), 16, failing_reads)?;
+        let mut input = MemSource::new(alloc, SCRIPT.as_bytes(), 16, failing_reads)?;
         let mut sink = MemSink::new(alloc, *room, 7, failing_writes)?;
-        let found = run(&rt, alloc, &words, &mut source, &mut sink, &kinds, &NoGate);
-        let faults = (source.faults(), sink.faults());
+        let mut book = ListBook::new(alloc)?;
+        let found = run(
+            &rt, alloc, &words, &mut input, &mut sink, &kinds, &NoGate, &mut book,
+        );
+        let faults = (input.faults(), sink.faults());
         assert!(rt;
             found == *status && sink.written() == written.as_bytes() && faults == *counted,
             "{failing_reads:?}, {room}, {failing_writes:?}: {found:?}"
         );
+        assert!(rt; book.get(0).is_some() != (*status == Status::Read));
     }
     Ok(())
 }

@@ -1,9 +1,9 @@
-// Who is asked for a turn, how often, every order of four turns; workers that count at the same time; and what is sent.
+// Who is asked for a turn, how often, every order of four turns; and workers that count at the same time.
 use super::demand;
 use super::kinds::{Calls, kinds_in, watched_kinds};
 use super::noting::Noting;
 use super::searches::{Asked, lines_of};
-use fc_search::{FromList, NoProbe, RoundProbe, RoundRobin};
+use fc_search::{FromList, RoundRobin};
 use std::alloc::Global;
 use std::sync::Arc;
 use std::test::Fail;
@@ -87,7 +87,7 @@ fn turns_are_noted(rt: HostRuntime) -> Result<(), Fail> {
         let calls = Arc::new(alloc, Calls::new(false))?;
         let kinds = watched_kinds(alloc, &calls)?;
         let mut turns = Noting::new(calls);
-        let lines = lines_of(&rt, alloc, asked, &kinds, &mut turns, 1, &mut NoProbe)?;
+        let lines = lines_of(&rt, alloc, asked, &kinds, &mut turns, 1)?;
         demand(&lines, wanted)?;
         turns.look();
         assert!(rt;
@@ -116,16 +116,12 @@ fn every_list_of_four(rt: HostRuntime) -> Result<(), Fail> {
     for (asked, wanted, _, _) in ROWS {
         for number in 0..16 {
             let mut turns = FromList::new(list_of(alloc, number)?);
-            let lines = lines_of(&rt, alloc, asked, &kinds, &mut turns, 1, &mut NoProbe)?;
+            let lines = lines_of(&rt, alloc, asked, &kinds, &mut turns, 1)?;
             demand(&lines, wanted)?;
         }
     }
     Ok(())
 }
-
-// The round, the shard and the length of each message of the first row's second search. A message takes 9 bytes, its bucket of all
-// documents 25, a list 8, and a bucket of a text of one byte 34.
-const SENT: &[(u32, u32, u64)] = &[(1, 0, 76), (1, 1, 76), (2, 1, 43)];
 
 // In the first row each of two shards counts, and no call goes on before the other shard's has begun.
 #[test]
@@ -135,14 +131,8 @@ fn workers_meet(rt: HostRuntime) -> Result<(), Fail> {
     let calls = Arc::new(alloc, Calls::new(true))?;
     let kinds = watched_kinds(alloc, &calls)?;
     let mut turns = RoundRobin::new();
-    let mut probe = RoundProbe::new();
-    let lines = lines_of(&rt, alloc, asked, &kinds, &mut turns, 2, &mut probe)?;
+    let lines = lines_of(&rt, alloc, asked, &kinds, &mut turns, 2)?;
     demand(&lines, wanted)?;
     assert_eq!(rt; calls.alone(), 0);
-    let sent = probe.sent(alloc)?;
-    assert!(rt; sent.len() == 3 && probe.messages(1) == 2 && probe.length(2, 0).is_none());
-    for (found, wanted) in sent.iter().zip(SENT) {
-        assert!(rt; (found.round, found.shard, found.length) == *wanted);
-    }
     Ok(())
 }

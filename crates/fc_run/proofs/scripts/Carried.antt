@@ -12,7 +12,7 @@ use Rattle.fc_docs.specs.declared.block.Batch.{Batch}
 use Rattle.fc_script.specs.PartsView.{batches_view}
 use Rattle.fc_script.specs.SoundScripts.{CutLists}
 use Rattle.fc_run.specs.Generations.{AreCommittable, IsCommittable, generations_at}
-use Rattle.fc_spec.specs.scripts.PhaseTexts.{world_at}
+use Rattle.fc_spec.specs.scripts.PinnedWorlds.{world_at}
 use Rattle.fc_run.specs.Searches.{lists_in, shards_view, Shard}
 use Rattle.fc_run.specs.Progress.{CanCarry, CanCarryAll, Progress, all_carried, all_progress_at, progress_at}
 use Rattle.fc_run.proofs.scripts.Commits.{Fits, can_carry, carried_is, few_documents}

@@ -1,16 +1,18 @@
 -- The lines of a phase, over the batches of its stores and over those of the script.
-use Rattle.std.proofs.Common.{◌≡◌, ℕ, zero, suc, ◌-◌, ◌≤◌, List, [], ◌∷◌, ◌++◌, Bool, true, false, length, map, take, drop, flat_map, Ok, Err, refl, sym, ◌∙◌, ap, arith}
+use Rattle.std.proofs.Common.{◌≡◌, ℕ, zero, suc, ◌-◌, ◌≤◌, List, [], ◌∷◌, ◌++◌, Bool, true, false, length, map, take, drop, flat_map, Some, Ok, Err, refl, sym, ◌∙◌, ap, arith}
 use Rattle.std.specs.Prelude.{if◌then◌else◌}
 use Rattle.std.proofs.lemmas.List.{length-map, take-map, take-take, take_all}
 use Rattle.std.proofs.lemmas.List.Folds.{flat_map-map}
 use Rattle.fc_spec.specs.documents.Document as documents
 use Rattle.fc_spec.specs.documents.Schema.{Schema}
 use Rattle.fc_spec.specs.documents.Val.{Text, same_text}
+use Rattle.fc_spec.specs.messages.Trace.{trace}
 use Rattle.fc_spec.specs.scripts.AskedScripts.{Asked}
 use Rattle.fc_spec.specs.scripts.Lines.{reply_line}
 use Rattle.fc_spec.specs.scripts.Outputs.{Replies}
 use Rattle.fc_spec.specs.scripts.Phases.{Search}
-use Rattle.fc_spec.specs.scripts.PhaseTexts.{ArePhaseLines, IsLineOver, least_after, world_at}
+use Rattle.fc_spec.specs.scripts.PinnedWorlds.{world_at}
+use Rattle.fc_spec.specs.scripts.SearchLines.{least_after, SearchLine, ArePhaseLines, IsLineOver}
 use Rattle.fc_spec.specs.words.Lists.{joined}
 use Rattle.fc_docs.specs.View.{batch_view}
 use Rattle.fc_docs.specs.declared.block.Batch.{Batch}
@@ -92,24 +94,25 @@ least_above low g least session c here all = go (same_text session c)
 
 -- over shards of the same worlds a phase has the same lines
 module _ (reply : Replies) (A B : List (List documents.Batch)) (low high : List ℕ) (same : (g : List ℕ) → Below low g → Below g high → world_at A g ≡ world_at B g) where
-  same_line : (from : List ℕ) (session : Text) (a : Asked) (Rest Later : List ℕ → Text → Type 0) (t : Text) → Below low from → ((g : List ℕ) (rest : Text) → Below low g → Rest g rest → Later g rest)
-      → IsLineOver reply A from high session a Rest t → IsLineOver reply B from high session a Later t
-  same_line from session (Ok r) Rest Later t least next (g, rest, between, is, more) = (
+  same_line : (from : List ℕ) (session : Text) (a : Asked) (Then Later : List ℕ → Type 0) (l : SearchLine) → Below low from → ((g : List ℕ) → Below low g → Then g → Later g)
+      → IsLineOver reply A from high session a Then l → IsLineOver reply B from high session a Later l
+  same_line from session (Ok r) Then Later l least next (g, between, text, sent, more) = (
     g,
-    rest,
     between,
-    is ∙ ap (λ W. reply_line (reply r W) g session ++ rest) (same g above between.below),
-    next g rest above more,
+    text ∙ ap (λ W. reply_line (reply r W) g session) (same g above between.below),
+    sent ∙ ap (λ W. Some (trace r W)) (same g above between.below),
+    next g above more,
   )
     where
       above : Below low g
       above i = let first = least i in let then_ = between.above i in omega (arith, first, then_)
-  same_line from session (Err f) Rest Later t least next (rest, is, more) = (rest, is, next from rest least more)
+  same_line from session (Err f) Then Later l least next (text, sent, more) = (text, sent, next from least more)
 
-  pub same_lines : (least : Text → List ℕ) (qs : List (Search Asked)) (t : Text) → ((c : Text) → Below low (least c)) → ArePhaseLines reply A high least qs t → ArePhaseLines reply B high least qs t
-  same_lines least [] t all are = are
-  same_lines least (q ∷ qs) t all are =
-      same_line (least q.session) q.session q.request (λ g rest. ArePhaseLines reply A high (least_after least q.session g) qs rest)
-      (λ g rest. ArePhaseLines reply B high (least_after least q.session g) qs rest) t (all q.session)
-      (λ g rest above more. same_lines (least_after least q.session g) qs rest (λ c. least_above low g least q.session c above all) more)
+  pub same_lines : (least : Text → List ℕ) (qs : List (Search Asked)) (ls : List SearchLine) → ((c : Text) → Below low (least c)) → ArePhaseLines reply A high least qs ls → ArePhaseLines reply B high least qs ls
+  same_lines least [] [] all are = are
+  same_lines least [] (l ∷ ls) all are = absurd are
+  same_lines least (q ∷ qs) [] all are = absurd are
+  same_lines least (q ∷ qs) (l ∷ ls) all are =
+      same_line (least q.session) q.session q.request (λ g. ArePhaseLines reply A high (least_after least q.session g) qs ls) (λ g. ArePhaseLines reply B high (least_after least q.session g) qs ls) l (all q.session)
+      (λ g above more. same_lines (least_after least q.session g) qs ls (λ c. least_above low g least q.session c above all) more)
       are

@@ -5,34 +5,32 @@ use Rattle.std.specs.Arc.{arc_value}
 use Rattle.std.specs.List.{enumerate_from}
 use Rattle.std.proofs.lemmas.List.{length-map}
 use Rattle.std.proofs.lemmas.List.Elements.{All-head, All-tail}
-use Rattle.fc_spec.specs.documents.Val.{Text}
 use Rattle.fc_spec.specs.replies.Distributed.{distributed}
-use Rattle.fc_spec.specs.scripts.PhaseTexts.{ArePhaseLines, AreTextsOf, IsTextOf}
 use Rattle.fc_spec.specs.scripts.WorldLimits.{IsWithinLimits}
 use Rattle.fc_spec.specs.words.Lists.{joined}
+use Rattle.fc_spec.specs.scripts.SearchLines.{SearchLine, AreLinesOfParts, AreLinesOfAll, ArePhaseLines}
 use Rattle.fc_script.specs.PartsView.{parts_view, phase_view, search_view}
 use Rattle.fc_script.specs.declared.script.Phase.{Phase}
 use Rattle.fc_script.specs.declared.script.Script.{Script}
-use Rattle.fc_work.specs.Phased.{Adds}
 use Rattle.fc_run.specs.Phased.{CanRun, chartered_batches, numbers_before}
 use Rattle.fc_run.specs.Progress.{CanCarryAll, Progress, all_carried, all_progress_at}
 use Rattle.fc_run.specs.Runnable.{AreRising, IsRunnable, IsRunnablePhase, commits_in}
 use Rattle.fc_run.specs.Searches.{Shard, lists_in, shards_view}
 use Rattle.fc_run.proofs.scripts.Carried.{AllFit, all_carried_is, all_fit, can_carry_all, progress_count, progress_generations, progress_numbers}
 use Rattle.fc_run.proofs.scripts.PhaseLines.{same_lines, world_whole, worlds_same}
-use Rattle.fc_run.proofs.scripts.PhaseSteps.{searches_of, text_done, text_more}
+use Rattle.fc_run.proofs.scripts.PhaseSteps.{lines_done, lines_more, searches_of}
 
 zeros_same : (shards : List Shard) → map {B = ℕ} (λ shard. 0) shards ≡ map {B = ℕ} (λ batches. 0) (shards_view shards)
 zeros_same [] = refl
 zeros_same (s ∷ shards) = ap (λ (rest : List ℕ). 0 ∷ rest) (zeros_same shards)
 
--- some phases are done: the shards are those of the last one's numbers, and the lines of the rest make the text whole
-pub record Between (s : Script) (done : ℕ) (before : List ℕ) (left : List Phase) (shards : List Progress) (text : Text) : Type 0 where
+-- some phases are done: the shards are those of the last one's numbers, and with the lines of the rest these are those of the script
+pub record Between (s : Script) (done : ℕ) (before : List ℕ) (left : List Phase) (shards : List Progress) (lines : List SearchLine) : Type 0 where
   pub are : shards ≡ all_progress_at (arc_value s.schema) (lists_in s.batches.items) before
   pub count : length before ≡ length s.batches.items
   pub rising : AreRising before (commits_in left)
   pub runnable : All (IsRunnablePhase s) left
-  pub whole : (t : Text) → AreTextsOf distributed (shards_view s.batches.items) before (map (phase_view s.sessions.items) (enumerate_from done left)) t → IsTextOf distributed (parts_view s) (text ++ t)
+  pub whole : (ls : List SearchLine) → AreLinesOfAll distributed (shards_view s.batches.items) before (map (phase_view s.sessions.items) (enumerate_from done left)) ls → AreLinesOfParts distributed (parts_view s) (lines ++ ls)
 
 -- the numbers of commits before any phase
 abbrev pub none_yet : Script → List ℕ
@@ -45,11 +43,11 @@ at_first s shards is first = record {
   count = length-map s.batches.items (λ shard. 0);
   rising = is.rising;
   runnable = is.phases;
-  whole = λ t more. subst (λ zeros. AreTextsOf distributed (shards_view s.batches.items) zeros (map (phase_view s.sessions.items) (enumerate_from 0 s.phases.items)) t) (zeros_same s.batches.items) more;
+  whole = λ ls more. subst (λ zeros. AreLinesOfAll distributed (shards_view s.batches.items) zeros (map (phase_view s.sessions.items) (enumerate_from 0 s.phases.items)) ls) (zeros_same s.batches.items) more;
 }
 
 -- before the next phase
-module _ (s : Script) (done : ℕ) (before : List ℕ) (p : Phase) (ps : List Phase) (shards : List Progress) (text : Text) (is : IsRunnable s) (now : Between s done before (p ∷ ps) shards text) where
+module _ (s : Script) (done : ℕ) (before : List ℕ) (p : Phase) (ps : List Phase) (shards : List Progress) (lines : List SearchLine) (is : IsRunnable s) (now : Between s done before (p ∷ ps) shards lines) where
   here : IsRunnablePhase s p
   here = All-head (IsRunnablePhase s) p ps now.runnable
 
@@ -77,16 +75,16 @@ module _ (s : Script) (done : ℕ) (before : List ℕ) (p : Phase) (ps : List Ph
         (ap (map (λ (q : Progress). q.generation)) now.are ∙ progress_generations (arc_value s.schema) s.batches.items before) here.searches;
   }
 
-  pub next : (later : List Progress) (after : Text) → later ≡ all_carried shards p.commits.items
-      → Adds text after (ArePhaseLines distributed (chartered_batches shards p.commits.items) p.commits.items (λ session. numbers_before shards) (map (search_view s.sessions.items done) p.searches.items))
-      → Between s (done + 1) p.commits.items ps later after
-  next later after made (own, more, lines) = record {
+  pub next : (later : List Progress) (own : List SearchLine) → later ≡ all_carried shards p.commits.items
+      → ArePhaseLines distributed (chartered_batches shards p.commits.items) p.commits.items (λ session. numbers_before shards) (map (search_view s.sessions.items done) p.searches.items) own
+      → Between s (done + 1) p.commits.items ps later (lines ++ own)
+  next later own made are = record {
     are = made ∙ ap (λ qs. all_carried qs p.commits.items) now.are
         ∙ all_carried_is (arc_value s.schema) (lists_in s.batches.items) before p.commits.items fit now.rising.0 (now.count ∙ sym lists);
     count = count;
     rising = now.rising.1;
     runnable = All-tail (IsRunnablePhase s) p ps now.runnable;
-    whole = text_more (shards_view s.batches.items) before s.sessions.items done p ps text after (IsTextOf distributed (parts_view s)) (own, more, over) now.whole;
+    whole = lines_more (shards_view s.batches.items) before s.sessions.items done p ps lines own (AreLinesOfParts distributed (parts_view s)) over now.whole;
   }
     where
       numbers : numbers_before shards ≡ before
@@ -99,9 +97,9 @@ module _ (s : Script) (done : ℕ) (before : List ℕ) (p : Phase) (ps : List Ph
           (λ g above below. worlds_same (arc_value s.schema) s.batches.items before p.commits.items g now.count count above below)
           (λ session. before) (map (search_view s.sessions.items done) p.searches.items) own (λ c i. omega arith)
           (subst (λ qs. ArePhaseLines distributed (chartered_batches qs p.commits.items) p.commits.items (λ session. before) (map (search_view s.sessions.items done) p.searches.items) own) now.are
-          (subst (λ low. ArePhaseLines distributed (chartered_batches shards p.commits.items) p.commits.items (λ session. low) (map (search_view s.sessions.items done) p.searches.items) own) numbers lines))
+          (subst (λ low. ArePhaseLines distributed (chartered_batches shards p.commits.items) p.commits.items (λ session. low) (map (search_view s.sessions.items done) p.searches.items) own) numbers are))
 
-pub at_last : (s : Script) (done : ℕ) (before : List ℕ) (shards : List Progress) (text : Text) (left : List Phase) → left ≡ [] → Between s done before left shards text → IsTextOf distributed (parts_view s) text
-at_last s done before shards text left none now =
-    text_done text (IsTextOf distributed (parts_view s))
-    (now.whole [] (subst (λ ps. AreTextsOf distributed (shards_view s.batches.items) before (map (phase_view s.sessions.items) (enumerate_from done ps)) []) (sym none) refl))
+pub at_last : (s : Script) (done : ℕ) (before : List ℕ) (shards : List Progress) (lines : List SearchLine) (left : List Phase) → left ≡ [] → Between s done before left shards lines → AreLinesOfParts distributed (parts_view s) lines
+at_last s done before shards lines left none now =
+    lines_done lines (AreLinesOfParts distributed (parts_view s))
+    (now.whole [] (subst (λ ps. AreLinesOfAll distributed (shards_view s.batches.items) before (map (phase_view s.sessions.items) (enumerate_from done ps)) []) (sym none) refl))

@@ -1,5 +1,5 @@
--- The searches of a phase over its generations, and what a phase adds to the text.
-use Rattle.std.proofs.Common.{◌≡◌, ℕ, ◌+◌, List, ◌∷◌, [], ◌++◌, map, Result, Ok, Err, IfOk, refl, sym, ◌∙◌, ap, subst, append_assoc, append-nil}
+-- The searches of a phase over its generations, and the lines that a phase adds.
+use Rattle.std.proofs.Common.{◌≡◌, ℕ, ◌+◌, List, ◌∷◌, [], ◌++◌, map, Result, Ok, Err, IfOk, refl, sym, subst, append_assoc, append-nil}
 use Rattle.std.specs.Prelude.{All}
 use Rattle.std.specs.List.{enumerate_from, zip}
 use Rattle.std.proofs.lemmas.List.Elements.{All-map, All-weaker}
@@ -8,7 +8,7 @@ use Rattle.fc_spec.specs.documents.Schema.{Schema}
 use Rattle.fc_spec.specs.documents.Val.{Text}
 use Rattle.fc_spec.specs.replies.Distributed.{distributed}
 use Rattle.fc_spec.specs.requests.ValidRequests.{IsValidRequest}
-use Rattle.fc_spec.specs.scripts.PhaseTexts.{ArePhaseLines, AreTextsOf}
+use Rattle.fc_spec.specs.scripts.SearchLines.{SearchLine, AreLinesOfAll, ArePhaseLines}
 use Rattle.fc_request.specs.RequestView.{request_view}
 use Rattle.fc_request.specs.declared.fault.RequestFault.{RequestFault}
 use Rattle.fc_request.specs.declared.request.Request.{Request}
@@ -17,7 +17,6 @@ use Rattle.fc_script.specs.SoundScripts.{IsSoundSearch}
 use Rattle.fc_script.specs.declared.script.Phase.{Phase}
 use Rattle.fc_script.specs.declared.script.Search.{Search}
 use Rattle.fc_store.specs.Generated.{Generated}
-use Rattle.fc_work.specs.Phased.{Adds}
 use Rattle.fc_run.specs.Generations.{generation_at, generations_at}
 use Rattle.fc_run.specs.Runnable.{IsSearchOf}
 
@@ -37,15 +36,14 @@ searches_of s shards numbers gs n qs is sound =
     schemas : All (λ g. g.schema ≡ s) gs
     schemas = subst (All (λ g. g.schema ≡ s)) (sym is) (All-map (λ g. g.schema ≡ s) (λ x. generation_at s x.0 x.1) (zip shards numbers) (λ k d below. refl))
 
--- ---- texts
+-- ---- lines
 
 -- the lines of a phase, behind those of the phases before it
-pub text_more : (shards : List (List Batch)) (before : List ℕ) (ss : List Text) (i : ℕ) (p : Phase) (ps : List Phase) (text now : Text) (Whole : Text → Type 0)
-    → Adds text now (ArePhaseLines distributed shards p.commits.items (λ session. before) (map (search_view ss i) p.searches.items))
-    → ((t : Text) → AreTextsOf distributed shards before (map (phase_view ss) (enumerate_from i (p ∷ ps))) t → Whole (text ++ t))
-    → (t : Text) → AreTextsOf distributed shards p.commits.items (map (phase_view ss) (enumerate_from (i + 1) ps)) t → Whole (now ++ t)
-text_more shards before ss i p ps text now Whole (own, is, lines) so_far t more =
-    subst Whole (sym (ap (λ u. u ++ t) is ∙ append_assoc text own t)) (so_far (own ++ t) (own, t, refl, lines, more))
+pub lines_more : (shards : List (List Batch)) (before : List ℕ) (ss : List Text) (i : ℕ) (p : Phase) (ps : List Phase) (lines own : List SearchLine) (Whole : List SearchLine → Type 0)
+    → ArePhaseLines distributed shards p.commits.items (λ session. before) (map (search_view ss i) p.searches.items) own
+    → ((ls : List SearchLine) → AreLinesOfAll distributed shards before (map (phase_view ss) (enumerate_from i (p ∷ ps))) ls → Whole (lines ++ ls))
+    → (ls : List SearchLine) → AreLinesOfAll distributed shards p.commits.items (map (phase_view ss) (enumerate_from (i + 1) ps)) ls → Whole ((lines ++ own) ++ ls)
+lines_more shards before ss i p ps lines own Whole are so_far ls more = subst Whole (sym (append_assoc lines own ls)) (so_far (own ++ ls) (own, ls, refl, are, more))
 
-pub text_done : (text : Text) (Whole : Text → Type 0) → Whole (text ++ []) → Whole text
-text_done text Whole is = subst Whole (append-nil text) is
+pub lines_done : (lines : List SearchLine) (Whole : List SearchLine → Type 0) → Whole (lines ++ []) → Whole lines
+lines_done lines Whole is = subst Whole (append-nil lines) is

@@ -1,26 +1,44 @@
--- What the searches of a script that was read write is all that is promised.
-use Rattle.std.proofs.Common.{◌≡◌, refl, subst, sym}
-use Rattle.fc_spec.specs.documents.Val.{Text}
+-- What the searches of a script that was read write, and what is booked of them, is all that is promised.
+use Rattle.std.proofs.Common.{◌≡◌, List, Option, None, Some, refl, subst, sym}
+use Rattle.std.specs.Prelude.{option_map}
 use Rattle.fc_spec.specs.replies.Distributed.{distributed}
 use Rattle.fc_spec.specs.scripts.AskedScripts.{AskedScript}
-use Rattle.fc_spec.specs.scripts.Outputs.{IsOutput}
-use Rattle.fc_spec.specs.scripts.PhaseTexts.{IsTextOf}
-use Rattle.fc_spec.specs.scripts.ScriptTotals.{script_limits}
+use Rattle.fc_spec.specs.scripts.Booked.{Books, IsBookedOutput, book_all}
+use Rattle.fc_spec.specs.scripts.Outputs.{Replies, IsOutput, IsOutputBy}
 use Rattle.fc_spec.specs.scripts.ScriptParts.{parts_of}
+use Rattle.fc_spec.specs.scripts.SearchLines.{SearchLine, AreLinesOfParts, sent_for, text_of}
 use Rattle.fc_script.specs.PartsView.{parts_view}
-use Rattle.fc_script.specs.SoundScripts.{IsSound}
 use Rattle.fc_script.specs.declared.script.Script.{Script}
+use Rattle.fc_run.specs.Booking.{AreBookedIn}
 use Rattle.fc_run.specs.Outcome.{single_without_limits, ArePrinted}
 use Rattle.fc_run.specs.RunLaws.{AreRunLaws}
-use Rattle.fc_run.proofs.scripts.SameReplies.{same_text}
+use Rattle.fc_run.proofs.scripts.SameReplies.{same_parts}
 
-pub printed : AreRunLaws → (S : AskedScript) (s : Script) (t : Text) → parts_of S ≡ parts_view s → IsSound script_limits s → IsTextOf distributed (parts_view s) t → ArePrinted S t
-printed laws S s t is sound text = record {
-  output = output;
-  single_index = laws.phases single_without_limits S t (subst (λ parts. IsTextOf single_without_limits parts t) (sym is) (same_text laws.single s t text));
-  refined = (distributed, λ r W. record { defined = refl; refined = (laws.refined r W).1; single_index = λ unlimited. laws.single r W unlimited }, output);
-  one_output = λ apart u other. laws.only distributed S u t apart other output;
-}
-  where
-    output : IsOutput S t
-    output = laws.phases distributed S t (subst (λ parts. IsTextOf distributed parts t) (sym is) text)
+module _ (laws : AreRunLaws) (S : AskedScript) (s : Script) (ls : List SearchLine) (is : parts_of S ≡ parts_view s) (lines : AreLinesOfParts distributed (parts_view s) ls) where
+  -- whatever is booked with it
+  output_by : (reply : Replies) → AreLinesOfParts reply (parts_view s) ls → IsOutputBy reply S (text_of ls)
+  output_by reply are =
+      laws.outputs reply S (text_of ls) none (book_all 0 (sent_for ls) none) (laws.phases reply S ls none (subst (λ parts. AreLinesOfParts reply parts ls) (sym is) are))
+    where
+      none : Books
+      none n = None
+
+  pub printed : ArePrinted S (text_of ls)
+  printed = record {
+    output = output;
+    single_index = output_by single_without_limits (same_parts laws.single s ls lines);
+    refined = (distributed, λ r W. record { defined = refl; refined = (laws.refined r W).1; single_index = λ unlimited. laws.single r W unlimited }, output);
+    one_output = λ apart u other. laws.only distributed S u (text_of ls) apart other output;
+  }
+    where
+      output : IsOutput S (text_of ls)
+      output = output_by distributed lines
+
+  booked : (m : Books) → IsBookedOutput S (text_of ls) m (book_all 0 (sent_for ls) m)
+  booked m = laws.phases distributed S ls m (subst (λ parts. AreLinesOfParts distributed parts ls) (sym is) lines)
+
+  pub booked_in : (before after : Option Books) → after ≡ option_map (book_all 0 (sent_for ls)) before → AreBookedIn before after S (text_of ls)
+  booked_in (Some m) (Some n) same = let told : n ≡ book_all 0 (sent_for ls) m = cc in subst (λ after. IsBookedOutput S (text_of ls) m after) (sym told) (booked m)
+  booked_in (Some m) None same = absurd (cc)
+  booked_in None (Some n) same = absurd (cc)
+  booked_in None None same = tt

@@ -7,8 +7,10 @@ use Rattle.fc_spec.specs.documents.Document as documents
 use Rattle.fc_spec.specs.documents.Schema.{Schema}
 use Rattle.fc_spec.specs.words.Walks.{◌>>=◌}
 use Rattle.fc_spec.specs.scripts.AskedScripts.{AskedScript}
+use Rattle.fc_spec.specs.scripts.Phases.{searches}
 use Rattle.fc_spec.specs.scripts.ScriptFault.{ScriptFault}
 use Rattle.fc_spec.specs.scripts.ScriptParts.{parts_of}
+use Rattle.fc_spec.specs.scripts.ScriptReading.{script_limit}
 use Rattle.fc_spec.specs.scripts.ScriptTotals.{script_limits}
 use Rattle.fc_spec.specs.scripts.ValidScripts.{IsWithin}
 use Rattle.fc_script.specs.PartsView.{batches_view, parts_view}
@@ -22,6 +24,7 @@ use Rattle.fc_run.specs.Runnable.{IsRunnable}
 use Rattle.fc_run.specs.Searches.{shards_view, Shard}
 use Rattle.fc_run.proofs.scripts.Limits.{read_within}
 use Rattle.fc_run.proofs.scripts.Rising.{few_batches, phases_rise}
+use Rattle.fc_run.proofs.scripts.SearchNumbers.{few_searches}
 use Rattle.fc_run.proofs.scripts.Sessions.{sessions_differ, sessions_few}
 
 -- as many documents as a script may have, as a commit may bring
@@ -40,8 +43,8 @@ committable s shards valid few = λ k d below. record { valid = all k d below; f
         All-map (λ bs. All (IsBatchOf s) bs) view shards
         (All-weaker (AreBatchesOf script_limits s) (λ shard. All (IsBatchOf s) (view shard)) (λ shard is. batches_of s (view shard) is) shards valid)
 
-runnable : AreRunLaws → (S : AskedScript) (s : Script) → parts_of S ≡ parts_view s → IsWithin script_limits S → IsSound script_limits s → IsRunnable s
-runnable laws S s is within sound = record {
+runnable : AreRunLaws → (S : AskedScript) (s : Script) → parts_of S ≡ parts_view s → IsWithin script_limits S → length (searches S.lines) ≤ script_limit → IsSound script_limits s → IsRunnable s
+runnable laws S s is within few sound = record {
   some = omega (arith, sound.shards, sound.schema.some_shards);
   few_shards = omega (arith, sound.shards, sound.schema.few_shards);
   few = sessions_few S s is within;
@@ -54,9 +57,10 @@ runnable laws S s is within sound = record {
     searches = (sound.phases k d below).searches;
   };
   rising = phases_rise S s is;
+  few_searches = few_searches laws.by_phase S s is few;
 }
 
 pub runnable_script : AreRunLaws → (spelled : Result AskedScript ScriptFault) (s : Script) → (spelled >>= λ S. Ok (parts_of S)) ≡ Ok (parts_view s)
-    → IfOk spelled (IsWithin script_limits) → IsSound script_limits s → IsRunnable s
-runnable_script laws (Ok S) s is within sound = runnable laws S s (cc) within sound
-runnable_script laws (Err f) s is within sound = absurd (cc)
+    → IfOk spelled (IsWithin script_limits) → IfOk spelled (λ S. length (searches S.lines) ≤ script_limit) → IsSound script_limits s → IsRunnable s
+runnable_script laws (Ok S) s is within few sound = runnable laws S s (cc) within few sound
+runnable_script laws (Err f) s is within few sound = absurd (cc)

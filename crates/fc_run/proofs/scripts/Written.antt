@@ -1,21 +1,14 @@
 -- What was written of a text, as what was written of a text with a fact.
-use Rattle.std.proofs.Common.{◌≡◌, ℕ, List, [], ◌++◌, Option, None, Some, Result, Ok, Err, sym, subst, append-nil}
+use Rattle.std.proofs.Common.{◌≡◌, ℕ, List, [], Option, None, Some, Err, sym, subst, append-nil}
 use Rattle.std.specs.Io.KnownBytes.{Appends}
-use Rattle.std.specs.Prelude.{IsErr}
 use Rattle.fc_spec.specs.documents.Val.{Text}
-use Rattle.fc_run.specs.Ending.{WritesAll, WritesNext, WritesPart}
-use Rattle.fc_run.specs.Outcome.{Wrote}
+use Rattle.fc_run.specs.Ending.{WritesNext, WritesPart}
 use Rattle.fc_run.specs.declared.stop.Stop.{Stop}
 use Rattle.fc_run.specs.declared.stop.Stop.TheVariants.{OutOfMemory, SinkFailed}
 
 pub appends_nothing : (old new : Option (List ℕ)) → new ≡ old → Appends old new []
 appends_nothing None new same = tt
 appends_nothing (Some xs) new same = subst (λ o. Appends (Some xs) o []) (sym same) (sym (append-nil xs))
-
--- a run that stopped left a front
-pub stopped : (ended : Result (Unit {0}) Stop) (old new : Option (List ℕ)) (P : Text → Type 0) → IsErr ended → Wrote old new (λ t. (rest : Text) × P (t ++ rest)) → WritesAll ended old new P
-stopped (Ok u) old new P is front = cc
-stopped (Err stop) old new P is front = front
 
 -- a text was written in part, which has the fact
 pub part_next : (A B : Type 0) (stop : Stop) (old new : Option (List ℕ)) (t : Text) (P : Text → Type 0) → WritesPart {A = A} (Err stop) old new t → P t → WritesNext {A = B} (Err stop) old new P

@@ -4,7 +4,7 @@ use Rattle.std.specs.Arc.{arc_value}
 use Rattle.std.specs.declared.alloc.Global.{Global}
 use Rattle.std.proofs.lemmas.List.{length-map}
 use Rattle.fc_spec.specs.replies.Distributed.{distributed}
-use Rattle.fc_spec.specs.scripts.PhaseTexts.{ArePhaseLines}
+use Rattle.fc_spec.specs.scripts.SearchLines.{ArePhaseLines}
 use Rattle.fc_spec.specs.scripts.WorldLimits.{IsWithinLimits}
 use Rattle.fc_spec.specs.words.Lists.{joined}
 use Rattle.fc_docs.specs.declared.block.Batch.{Batch}
@@ -70,10 +70,10 @@ again-requires g c =
     let ns = c.args.phase.commits.items in
     let os = c.in_ok-cut.cut.stores.items in
     let left = c.in_ok-cut.cut.left.items in
-    let gs = c.in_ok-last.last.items in
+    let gs = c.in_ok-ended.ended.generations.items in
     let are : charters_in os ≡ charters_to ps ns = c.in_ok-cut.ensures.charters ∙ ap (charters_to ps) c.deref-2.ensures.value in
     let rest = c.in_ok-cut.ensures.left ∙ ap (λ ns. all_left ps ns) c.deref-2.ensures.value in
-    let many = each_left ps ns os are c.requires.can.count c.requires.can.carry (map arc_value gs) (map (λ (own : Vec Batch Global). own.items) left) c.in_ok-last.ensures.generations rest in
+    let many = each_left ps ns os are c.requires.can.count c.requires.can.carry (map arc_value gs) (map (λ (own : Vec Batch Global). own.items) left) c.in_ok-ended.ensures.generations rest in
     ap length c.deref-3.ensures.value ∙ sym (length-map gs arc_value) ∙ many ∙ length-map left (λ (own : Vec Batch Global). own.items)
 
 pub returns-clause-shards : goal.returns-clause-shards
@@ -86,7 +86,7 @@ returns-clause-shards g c =
     let rest = c.in_ok-cut.ensures.left ∙ ap (λ ns. all_left ps ns) c.deref-2.ensures.value in
     c.in_ok-later-2.ensures
     ∙ ap (λ gs. joined_again (map arc_value gs) left) c.deref-3.ensures.value
-    ∙ carried_by ps ns os are (map arc_value c.in_ok-last.last.items) left c.in_ok-last.ensures.generations rest
+    ∙ carried_by ps ns os are (map arc_value c.in_ok-ended.ended.generations.items) left c.in_ok-ended.ensures.generations rest
 
 pub returns-clause-text : goal.returns-clause-text
 returns-clause-text g c number =
@@ -95,10 +95,11 @@ returns-clause-text g c number =
     let os = c.in_ok-cut.cut.stores.items in
     let qs = map (search_view c.args.names.now number) c.args.phase.searches.items in
     let are : charters_in os ≡ charters_to ps ns = c.in_ok-cut.ensures.charters ∙ ap (charters_to ps) c.deref-2.ensures.value in
-    let adds = c.in_ok-last.ensures.text number in (
+    let adds = c.in_ok-ended.ensures.text number in (
       adds.0,
       adds.1,
+      adds.2,
       subst (λ shards. ArePhaseLines distributed shards ns (λ session. numbers_before ps) qs adds.0) (batches_are ps ns os are)
           (subst (λ high. ArePhaseLines distributed (charters_of (readers_in os)) high (λ session. numbers_before ps) qs adds.0) (highest ps ns os are c.requires.can.count c.requires.can.carry)
-          (subst (λ low. ArePhaseLines distributed (charters_of (readers_in os)) (most_of (readers_in os)) (λ session. low) qs adds.0) (lowest ps ns os are c.requires.can.count) adds.2)),
+          (subst (λ low. ArePhaseLines distributed (charters_of (readers_in os)) (most_of (readers_in os)) (λ session. low) qs adds.0) (lowest ps ns os are c.requires.can.count) adds.3)),
     )

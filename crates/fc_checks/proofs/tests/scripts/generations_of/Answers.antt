@@ -2,7 +2,7 @@ use Rattle.std.proofs.Common.{◌≡◌, ◌++◌, ◌∷◌, [], ◌∙◌, ap,
 use Rattle.std.specs.Arc.{arc_value}
 use Rattle.std.proofs.lemmas.List.{map_push}
 use Rattle.std.proofs.lemmas.List.Elements.{All-head, All-push, All-tail}
-use Rattle.fc_spec.specs.scripts.PhaseTexts.{world_added}
+use Rattle.fc_spec.specs.scripts.PinnedWorlds.{world_added}
 use Rattle.fc_script.specs.PartsView.{batches_view}
 use Rattle.fc_run.specs.Searches.{shards_view}
 use Rattle.fc_search.specs.Askable.{world_of}

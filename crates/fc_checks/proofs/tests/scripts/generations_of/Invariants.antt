@@ -1,6 +1,6 @@
 use Rattle.std.proofs.Common.{◌≡◌, ◌++◌, map, All}
 use Rattle.std.specs.Arc.{arc_value}
-use Rattle.fc_spec.specs.scripts.PhaseTexts.{world_added}
+use Rattle.fc_spec.specs.scripts.PinnedWorlds.{world_added}
 use Rattle.fc_run.specs.Searches.{shards_view}
 use Rattle.fc_search.specs.Askable.{world_of}
 use Rattle.fc_checks.specs.Shards.{IsShardOf}
