@@ -40,12 +40,22 @@ def section(number, said):
         at = f", at {' &gt; '.join(name(label(one)) for one in said.path)}" if said.path else ""
         yield from fault(f"{number}. The request has a fault", faults.of_request(said),
                          f"{text(said.name)}, number {said.number}{at}, session {name(label(said.session))}")
+    elif isinstance(said, reading.Sent):
+        yield from sent(said)
     else:
         numbers = ", ".join(map(str, said.generations))
         yield f'<section class="reply">\n<h2>{number}. {documents(said.bucket.count)}</h2>'
         yield f'<p class="about">session {name(label(said.session))}, generations {numbers}</p>'
         yield from inside(said.bucket, "facets", 3, 0)
         yield "</section>"
+
+
+def sent(said):
+    yield f'<section class="reply">\n<h2>Search {said.search}: what was sent</h2>\n<table>'
+    yield "<tr>" + "".join(f"<th>{one}</th>" for one in reading.SENT_HEADS) + "</tr>"
+    for row in reading.sent_table(said):
+        yield "<tr>" + "".join(f"<td>{one:,}</td>" for one in row) + "</tr>"
+    yield "</table>\n</section>"
 
 
 def fault(title, words, told):

@@ -1,10 +1,13 @@
-"""What a line that the program writes says: a reply, the fault of a request, or the fault of the script."""
+"""What a line says: a reply, the fault of a request or the fault of the script, which the program writes, or what tools/book tells
+was sent for a search."""
 import json
 from collections import namedtuple
 
 Reply = namedtuple("Reply", "session generations bucket")
 RequestFault = namedtuple("RequestFault", "name number path session")
 ScriptFault = namedtuple("ScriptFault", "name number line detail")
+# Of what was sent for a search: for each round its number, and the bytes that each shard sent in it, by the numbers of the shards.
+Sent = namedtuple("Sent", "search rounds")
 # A value is an integer, a text, or None where there is none. Statistics are pairs of a name and a number, facets pairs of a
 # name and a Facet or, for a query facet, a Bucket.
 Bucket = namedtuple("Bucket", "value count statistics facets")
@@ -12,6 +15,7 @@ Bucket = namedtuple("Bucket", "value count statistics facets")
 Facet = namedtuple("Facet", "buckets beside")
 
 BESIDE = ("missing", "before", "between", "after")
+SENT_HEADS = ("round", "shards", "bytes", "most by one")
 
 
 class Wrong(Exception):
@@ -27,6 +31,8 @@ def read(line):
         raise Wrong("no JSON object")
     if "error" in said:
         return script_fault(said) if "line" in said else request_fault(said)
+    if "sent" in said:
+        return Sent(a_number(said, "search"), rounds(a_list(said, "sent", is_message)))
     return Reply(a_text(said, "session"), a_list(said, "generations", is_number), bucket(member(said, "facets")))
 
 
@@ -37,6 +43,24 @@ def script_fault(said):
 
 def request_fault(said):
     return RequestFault(a_text(said, "error"), a_number(said, "number"), a_list(said, "facet", is_text), a_text(said, "session"))
+
+
+def rounds(messages):
+    """The messages, each a round, a shard and its bytes, by rounds."""
+    found = {}
+    for number, shard, length in messages:
+        found.setdefault(number, {})[shard] = length
+    return sorted(found.items())
+
+
+def sent_table(said):
+    """For each round its number, how many shards sent something, how many bytes in all, and the most by one of them."""
+    for number, lengths in said.rounds:
+        yield number, len(lengths), sum(lengths.values()), max(lengths.values())
+
+
+def is_message(value):
+    return isinstance(value, list) and len(value) == 3 and all(map(is_number, value))
 
 
 def is_number(value):

@@ -27,6 +27,9 @@ h3, h4, .label { max-height: 6.5rem; overflow-y: auto }
 .nested .facet { background: none; border: 0; padding: 0 }
 ol { list-style: none; margin: 0; padding: 0 }
 li { padding: .2rem 0 }
+table { border-collapse: collapse; font-variant-numeric: tabular-nums }
+th, td { text-align: right; padding: .1rem .75rem .1rem 0 }
+th { color: var(--faint); font-weight: normal }
 .scroll { max-height: 24rem; overflow-y: auto; padding-right: .5rem }
 .row { display: grid; grid-template-columns: minmax(0, 1fr) auto; column-gap: .75rem }
 .count { font-variant-numeric: tabular-nums; text-align: right }

@@ -34,10 +34,20 @@ class Terminal:
             yield self.bold(f"{number}. session {self.label(said.session)}: the request has a fault")
             yield f"{STEP}{self.label(said.name)} ({said.number}){at}"
             yield from self.wrapped(faults.of_request(said))
+        elif isinstance(said, reading.Sent):
+            yield from self.sent(said)
         else:
             numbers = " ".join(map(str, said.generations))
             yield self.bold(f"{number}. session {self.label(said.session)}: {documents(said.bucket.count)}, generations {numbers}")
             yield from self.inside(said.bucket, STEP, 0)
+
+    def sent(self, said):
+        """For each round how many shards sent something, how many bytes in all, and the most of one."""
+        yield self.bold(f"search {said.search}: {sum(sum(lengths.values()) for _, lengths in said.rounds):,} bytes sent")
+        rows = [reading.SENT_HEADS, *([f"{one:,}" for one in row] for row in reading.sent_table(said))]
+        widths = [max(map(len, column)) for column in zip(*rows)]
+        for row in rows:
+            yield STEP + GAP.join(one.rjust(columns) for one, columns in zip(row, widths))
 
     def wrapped(self, words):
         return textwrap.wrap(words, max(self.columns, 20), initial_indent=STEP, subsequent_indent=STEP)
