@@ -28,11 +28,14 @@ NOT_RUN = (
     (".ci/run", "runs the gate, and at its end this check", None),
     ("tools/wrong-bodies fc_reply", "has the prover try each: minutes", "tools/wrong-bodies"),
     ("tools/wrong-bodies --since COMMIT", "has the prover try each: minutes", "tools/wrong-bodies"),
+    ("tools/book SCRIPT", "compiles without proofs: some minutes", "tools/book --help"),
     ("bench/run.py", "measures for half an hour", "bench/run.py --documents 200 --runs 1 --searches 1"),
     ("bench/run.py --inside", "measures for some minutes", "bench/run.py --inside --documents 200 --runs 1 --searches 1"),
     ("bench/kinds.py", "measures for some minutes", "bench/kinds.py --documents 1000 --runs 1 --searches 1"),
     ("bench/threads.py", "measures for some minutes", "bench/threads.py --documents 2000 --phases 50 --runs 1 --searches 4"),
     ("bench/cliffs.py", "measures for some minutes", "bench/cliffs.py --only faulty-requests small-commits --runs 1"),
+    ("bench/sent.py", "makes a program without its proofs, and measures for some minutes", "bench/sent.py --help"),
+    ("bench/compare.py", "measures for some minutes", "bench/compare.py --documents 1000 --runs 1 --searches 1"),
 )
 SHELL = ("rt", "cd", "(cd", "cat", "git", "python3", "sh", "bash")
 # A command: the number of its line, its text, what is run, and the status that this is to end with.

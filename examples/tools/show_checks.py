@@ -42,6 +42,7 @@ WRONG = [
     ('{"error":7,"facet":[],"number":1,"session":"s"}', "error is no text"),
     ('{"error":"x","facet":[7],"number":1,"session":"s"}', "facet is not the list that it is to be"),
     ('{"error":"x","line":"1","number":1}', "line is no whole number"),
+    ('{"search":0,"sent":[[1,0]]}', "sent is not the list that it is to be"), ('{"sent":[]}', "search is missing"),
 ]
 
 
@@ -92,6 +93,12 @@ def in_terminals():
            "  the document is not as the schema has it: a text has more than 32,766 bytes\n"
     with mock.patch.dict(os.environ, {"COLUMNS": "80"}):
         yield "the fault of a script", (0, text, ""), call(main, [], HERE, fault)
+    sent = b'{"search":7,"sent":[[1,0,118],[1,1,1118],[2,1,85],[3,0,43]]}\n'
+    text = "search 7: 1,364 bytes sent\n  round  shards  bytes  most by one\n      1       2  1,236        1,118\n" \
+           "      2       1     85           85\n      3       1     43           43\n"
+    yield "what was sent for a search", (0, text, ""), call(main, [], HERE, sent)
+    page = page_of([sent.decode().strip(), {"search": 0, "sent": []}])
+    yield "the same on a page", ([], True, True), (page.wrong, "1,236" in page.texts, "Search 0: what was sent" in page.texts)
     for is_plain, wanted in ((False, "\x1b[1mthe script has a fault in line 9\x1b[0m"), (True, "the script has a fault in line 9")):
         yield f"a terminal, {'without' if is_plain else 'with'} bold", (0, wanted), in_a_terminal(fault, {"NO_COLOR": "1"} if is_plain else {})
     with open("/dev/full", "wb") as device:

@@ -8,6 +8,7 @@ ALLOWED = {
     "main": set(), "h1": set(), "h2": set(), "h3": set(), "h4": set(), "section": {"class"}, "p": {"class"}, "b": set(),
     "code": set(), "bdi": {"dir"}, "dl": {"class"}, "dt": set(), "dd": set(), "div": {"class"}, "ol": {"class"},
     "li": {"class"}, "details": set(), "summary": {"class"}, "span": {"class", "style"}, "figure": set(), "figcaption": set(),
+    "table": set(), "tr": set(), "th": set(), "td": set(),
     "svg": {"role", "aria-label", "viewbox", "preserveaspectratio"}, "rect": {"x", "y", "width", "height"},
 }
 
