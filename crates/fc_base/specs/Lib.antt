@@ -1,4 +1,5 @@
 pub mod Answers
+pub mod IsText
 pub mod TextBytes
 pub mod ValidSchema
 pub mod View

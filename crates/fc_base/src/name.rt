@@ -1,22 +1,23 @@
 // Names of fields, tags and facets, and text values.
-ghost use Rattle.std.specs.Prelude.{◌≡◌, ◌==◌, IfOk, IsUtf8, refl, string_bytes};
+ghost use Rattle.std.specs.Prelude.{◌≡◌, ◌==◌, IfOk, IsUtf8, refl};
 ghost use Rattle.std.specs.Cmp.{partial_equiv_from_equiv};
 ghost use Rattle.std.specs.Cmp.Lexicographic.{pointwise, nat_list_cmp_total, nat_list_eq_equiv, texts_ties, texts_po};
 ghost use Rattle.std.specs.Ordering.{as_partial_cmp};
 ghost use Rattle.fc_spec.specs.documents.Val.{text_cmp};
 
-mod short;
 mod text;
 
 use crate::WantMemory;
 use std::alloc::Global;
 use std::cmp::Ordering;
+use std::fmt;
 use std::marker::Model;
 use text::Text;
 
 /// A text that nothing changes, seen as the list of its UTF-8 bytes. Its order is that of the
-/// bytes.
-#[derive(Debug, Drop)]
+/// bytes. The value is 16 bytes in size: a text of at most 14 bytes stands in it and takes no
+/// memory, one of at most 40 bytes takes one piece of memory, and a longer one two.
+#[derive(Drop)]
 pub struct Name {
     text: Text,
 }
@@ -27,8 +28,11 @@ impl Model for Name {
     ghost Value = { List ℕ };
 
     ghost use Rattle.fc_base.specs.TextBytes.{text_bytes};
+    ghost use Rattle.fc_base.specs.IsText.{IsText};
 
     ghost view = { λ name. text_bytes name.text };
+
+    ghost invariant = { λ name. IsText name.text };
 }
 
 impl Name {
@@ -39,15 +43,6 @@ impl Name {
         Ok(Name {
             text: Text::new(alloc, text)?,
         })
-    }
-
-    /// The name that is this text, which it takes over.
-    pub fn of(text: String) -> Name
-        ensures { result ≡ string_bytes text }
-    {
-        Name {
-            text: Text::of(text),
-        }
     }
 
     /// The UTF-8 bytes of the text.
@@ -70,6 +65,12 @@ impl Name {
         ensures { IfOk result (λ name. name ≡ self.now) }
     {
         Name::new(alloc, self.text())
+    }
+}
+
+impl fmt::Debug for Name {
+    fn fmt<W: fmt::Write>(&self, f: &mut fmt::Formatter<W>) -> fmt::Result {
+        f.debug_struct("Name").field("text", &self.text()).finish()
     }
 }
 

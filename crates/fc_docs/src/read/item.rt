@@ -16,8 +16,8 @@ use itoa::Buffer;
 use serde_json::Value;
 use std::alloc::Global;
 
-// The most bytes of a text.
-const TERM_LIMIT: usize = 32_766;
+/// The most bytes of a text.
+pub(crate) const TERM_LIMIT: usize = 32_766;
 
 /// The value that an item of a field of this type stands for, or its fault.
 pub(super) fn read_item(
@@ -35,7 +35,7 @@ pub(super) fn read_item(
     }
 }
 
-// A text, which is taken over, or a whole number of 64 bits, which stands for its decimal text.
+// A text, or a whole number of 64 bits, which stands for its decimal text.
 fn text_item(alloc: Global, json: Value) -> Result<Val, Refusal<DocFault>>
     ensures answer { Answers val_view fault_view result (text_item (view json)) }
     ensures valid { IfOk result (λ val. IsTrue (is_value_of string (val_view val))) }
@@ -43,7 +43,7 @@ fn text_item(alloc: Global, json: Value) -> Result<Val, Refusal<DocFault>>
     match json {
         Value::String(text) => {
             check_length(text.as_str())?;
-            Ok(Val::Text(Name::of(text)))
+            Ok(Val::Text(Name::new(alloc, text.as_str())?))
         }
         other => {
             let number = other.as_i64().ok_or(DocFault::WrongType)?;
