@@ -1,7 +1,7 @@
 -- The values of a document, cut into those of its fields.
 use Rattle.std.proofs.Common.{◌≡◌, ℕ, ◌+◌, List, [], ◌∷◌, ◌++◌, length, map, take, drop, arith, ◌∙◌, ap, ap₂}
 use Rattle.std.proofs.lemmas.List.{nil_from_length, take_all, length-map, length-drop, length-take-le, take-append-le, drop-append-le}
-use Rattle.std.proofs.lemmas.List.Sums.{sum_by-cons, sum_by_push}
+use Rattle.std.proofs.lemmas.List.Sums.{sum_by-cons}
 use Rattle.fc_base.specs.declared.field.FieldId.{FieldId}
 use Rattle.fc_base.specs.declared.value.Val.{Val}
 use Rattle.fc_base.specs.View.{val_view}
@@ -11,9 +11,6 @@ use Rattle.fc_docs.proofs.ValueCounts.{kept}
 
 pub count_first : (c : FieldId × ℕ) (cs : List (FieldId × ℕ)) → value_count (c ∷ cs) ≡ c.1 + value_count cs
 count_first c cs = sum_by-cons (λ (d : FieldId × ℕ). d.1) c cs
-
-pub count-push : (cs : List (FieldId × ℕ)) (c : FieldId × ℕ) → value_count (cs ++ c ∷ []) ≡ value_count cs + c.1
-count-push cs c = sum_by_push (λ (d : FieldId × ℕ). d.1) cs c
 
 -- one more field, behind those that are kept
 pub parts-push : (cs : List (FieldId × ℕ)) (vs : List Val) (c : FieldId × ℕ) (ws : List Val) → value_count cs ≡ length vs → c.1 ≡ length ws

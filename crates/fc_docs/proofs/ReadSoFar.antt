@@ -1,5 +1,5 @@
 -- A document that was read member by member, as far as the rest of the members.
-use Rattle.std.proofs.Common.{◌≡◌, ℕ, ◌<◌, List, [], ◌∷◌, length, set, replicate, Bool, true, false, not, ◌&&◌, nat_le, Option, Some, None, option_map, unwrap_or, Ok, slice_get, slice_index, arith, sym, ◌∙◌, refl, inl, inr, subst, String, Global, string_bytes}
+use Rattle.std.proofs.Common.{◌≡◌, ℕ, ◌<◌, List, [], length, get_or, set, replicate, Bool, true, false, not, ◌&&◌, nat_le, Option, Some, None, option_map, unwrap_or, Ok, slice_get, slice_index, arith, sym, ◌∙◌, refl, inl, inr, subst}
 use Rattle.std.specs.List.{AllByRecursion, list_all}
 use Rattle.std.specs.List.Sorted.{IsStrictlySortedBy}
 use Rattle.std.specs.Ordering.{match_ordering}
@@ -14,10 +14,8 @@ use Rattle.std.proofs.lemmas.List.Elements.{All-nil}
 use Rattle.std.proofs.lemmas.List.Quantifiers.{position-Some}
 use Rattle.std.proofs.lemmas.Map.Keys.{sorted_head, sorted_tail}
 use Rattle.std.proofs.lemmas.Map.Lookups.{exact_bytes}
-use Rattle.std.proofs.lemmas.Option.{get_or_from_slice_get, slice_get_within}
+use Rattle.std.proofs.lemmas.Option.{get_or_from_slice_get, slice_get-get_or, slice_get_within}
 use Rattle.serde_json.specs.Data.{Data, Members, no_members, member}
-use Rattle.serde_json.specs.View.{view, members_view}
-use Rattle.serde_json.specs.declared.value.Value.{Value}
 use Rattle.serde_json.specs.Find.{get_member}
 use Rattle.fc_spec.specs.documents.Val.{Text, text_cmp, same_text, Val}
 use Rattle.fc_spec.specs.documents.Document.{Document, values_of}
@@ -92,10 +90,15 @@ other_field : (role : Role) (s : Schema) (all : Members) (d : Document) (key : T
 other_field role s all d key v rest k f so_far at other =
     subst (λ (left : Option Data). IsRead f.kind (get_member f.name all) left (values_of d k)) (other_member f.name key v rest other) (so_far.parts k f at)
 
+-- before its member is read, a field has no values
+unread : (role : Role) (s : Schema) (all : Members) (d : Document) (key : Text) (v : Data) (rest : Members) (k : ℕ) (f : Field) → ReadSoFar role s all d (member key v rest) → slice_get s.fields k ≡ Some f → f.name ≡ key → (values_of d k ≡ []) × (get_member f.name all ≡ Some v)
+unread role s all d key v rest k f so_far at is =
+    let here : get_member f.name (member key v rest) ≡ Some v = rw (is, tied_itself nat_list_cmp_total key) refl in
+    subst (λ (left : Option Data). IsRead f.kind (get_member f.name all) left (values_of d k)) here (so_far.parts k f at)
+
 this_field : (role : Role) (s : Schema) (all : Members) (d : Document) (key : Text) (v : Data) (rest : Members) (k : ℕ) (f : Field) (vs : List Val) → ReadSoFar role s all d (member key v rest) → slice_get s.fields k ≡ Some f → f.name ≡ key → values_for f.kind v ≡ Ok vs → IsRead f.kind (get_member f.name all) (get_member f.name rest) vs
 this_field role s all d key v rest k f vs so_far at is good =
-    let here : get_member f.name (member key v rest) ≡ Some v = rw (is, tied_itself nat_list_cmp_total key) refl in
-    let read : IsRead f.kind (get_member f.name all) (Some v) (values_of d k) = subst (λ (left : Option Data). IsRead f.kind (get_member f.name all) left (values_of d k)) here (so_far.parts k f at) in
+    let read = unread role s all d key v rest k f so_far at is in
     let behind : get_member f.name rest ≡ None = rw is (no_member_below key rest (sorted_head text_cmp key (member_keys rest) so_far.ascend)) in
     let whole : vs ≡ values_in f.kind (get_member f.name all) = rw (read.1, good) refl in
     subst (λ (left : Option Data). IsRead f.kind (get_member f.name all) left vs) (sym behind) whole
@@ -108,6 +111,14 @@ name_of_found s key j f named at =
 
 kind_of_found : (s : Schema) (j : ℕ) (f : Field) (kind : FieldType) → slice_get s.fields j ≡ Some f → option_map (λ g. g.kind) (slice_get s.fields j) ≡ Some kind → f.kind ≡ kind
 kind_of_found s j f kind at typed = let both : Some f.kind ≡ Some kind = rw at at typed in cc
+
+pub no_values_yet : (role : Role) (s : Schema) (all : Members) (d : Document) (key : Text) (v : Data) (rest : Members) (j : ℕ) (kind : FieldType) → ReadSoFar role s all d (member key v rest) → field_given role s key v ≡ Ok (Some j) → option_map (λ f. f.kind) (slice_get s.fields j) ≡ Some kind → (j < length s.fields) × (values_of d j ≡ [])
+no_values_yet role s all d key v rest j kind so_far given typed =
+    let named = (gives_values role s key v j kind given typed).0 in
+    let below = (position-Some (λ (g : Field). same_text key g.name) s.fields j id_field named).0 in
+    let f = get_or s.fields j id_field in
+    let at = slice_get-get_or s.fields j id_field below in
+    (below, (unread role s all d key v rest j f so_far at (name_of_found s key j f named at)).0)
 
 pub one_more : (role : Role) (s : Schema) (all : Members) (d : Document) (key : Text) (v : Data) (rest : Members) (j : ℕ) (kind : FieldType) (vs : List Val) → ReadSoFar role s all d (member key v rest) → IsFieldList s.fields → field_given role s key v ≡ Ok (Some j) → option_map (λ f. f.kind) (slice_get s.fields j) ≡ Some kind → values_for kind v ≡ Ok vs → AreValuesOf kind vs → ReadSoFar role s all (set d j vs) rest
 one_more role s all d key v rest j kind vs so_far list given typed good are =
@@ -163,10 +174,3 @@ one_silent role s all d key v rest so_far list given =
   where
     named : (k : ℕ) (f : Field) → slice_get s.fields k ≡ Some f → f.name ≡ key → is_field_name key ≡ true
     named k f at is = rw (← is) (rw (get_or_from_slice_get s.fields k f f at) at (list.names k f (slice_get_within s.fields k f at)))
-
--- ---- at a turn of a loop over the members
-pub none_left : (role : Role) (s : Schema) (all : Members) (d : Document) (es : List (String Global × Value)) → ReadSoFar role s all d (members_view es) → es ≡ [] → ReadSoFar role s all d no_members
-none_left role s all d es so_far is = subst (λ (fs : List (String Global × Value)). ReadSoFar role s all d (members_view fs)) is so_far
-
-pub one_left : (role : Role) (s : Schema) (all : Members) (d : Document) (es fs : List (String Global × Value)) (e : String Global × Value) → ReadSoFar role s all d (members_view es) → es ≡ e ∷ fs → ReadSoFar role s all d (member (string_bytes e.0) (view e.1) (members_view fs))
-one_left role s all d es fs e so_far is = subst (λ (gs : List (String Global × Value)). ReadSoFar role s all d (members_view gs)) is so_far

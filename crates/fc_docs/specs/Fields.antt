@@ -1,6 +1,6 @@
 -- A document as the values of those fields that have some.
-use Rattle.std.specs.Prelude.{◌≡◌, ◌≢◌, ◌+◌, ◌<◌, ◌≤◌, ◌==◌, ⊤, ℕ, nat_lt, List, [], ◌∷◌, length, map, if◌then◌else◌}
-use Rattle.std.specs.List.{All, AllWithin, HoldsAt, filter, range_with_len}
+use Rattle.std.specs.Prelude.{◌≡◌, ◌+◌, ◌<◌, ◌≤◌, ◌==◌, ⊤, ℕ, List, [], ◌∷◌, length, map, if◌then◌else◌}
+use Rattle.std.specs.List.{All, range_with_len}
 use Rattle.fc_spec.specs.documents.Val.{Val}
 use Rattle.fc_spec.specs.documents.Document.{Document}
 
@@ -16,10 +16,6 @@ values_at (e ∷ es) n = if n == e.0 then e.1 else values_at es n
 -- each of the fields has a value
 abbrev pub HaveValues : FieldValues → Type 0
 HaveValues es = All (λ e. 0 < length e.1) es
-
--- those of the fields that have a value
-abbrev pub with_values : FieldValues → FieldValues
-with_values es = filter (λ e. nat_lt 0 (length e.1)) es
 
 -- the fields ascend from this number on, so none stands twice
 abbrev pub Ascend : ℕ → FieldValues → Type 0
@@ -38,19 +34,3 @@ pub record AreValuesOf (count : ℕ) (es : FieldValues) : Type 0 where
 -- the document of so many fields
 abbrev pub document_of : ℕ → FieldValues → Document
 document_of count es = map (values_at es) (range_with_len 0 count)
-
--- the field of this number stands at this place
-pub record StandsAt (es : FieldValues) (n place : ℕ) : Type 0 where
-  pub within : place < length es
-  pub here : HoldsAt (λ e. e.0 ≡ n) es place
-
--- the field of this number stands nowhere, and would go at this place
-pub record WouldGoAt (es : FieldValues) (n place : ℕ) : Type 0 where
-  pub within : place ≤ length es
-  pub before : AllWithin (λ e. e.0 < n) es 0 place
-  pub after : AllWithin (λ e. n < e.0) es place (length es)
-
--- new has these values in the field of this number, and in each other field what old has
-pub record SetsOnly (old new : FieldValues) (n : ℕ) (values : List Val) : Type 0 where
-  pub this_field : values_at new n ≡ values
-  pub other_fields : (m : ℕ) → m ≢ n → values_at new m ≡ values_at old m

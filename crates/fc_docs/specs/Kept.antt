@@ -1,21 +1,9 @@
--- How a draft and a document keep the values of their fields.
-use Rattle.std.specs.Prelude.{◌≡◌, ℕ, List, [], ◌∷◌, Vec, length, map, take, drop, sum_by}
-use Rattle.std.specs.declared.alloc.Global.{Global}
-use Rattle.fc_spec.specs.documents.Val as definition
+-- How a document keeps the values of its fields.
+use Rattle.std.specs.Prelude.{◌≡◌, ℕ, List, [], ◌∷◌, length, map, take, drop, sum_by}
 use Rattle.fc_base.specs.declared.field.FieldId.{FieldId}
 use Rattle.fc_base.specs.declared.value.Val.{Val}
 use Rattle.fc_base.specs.View.{val_view}
 use Rattle.fc_docs.specs.Fields.{FieldValues, AreValuesOf, HaveValues}
-
--- each field has a list of its own
-abbrev pub DraftedField : Type 0
-DraftedField = FieldId × Vec Val Global
-
-abbrev pub drafted_field : DraftedField → ℕ × List definition.Val
-drafted_field e = (e.0.0, map val_view e.1.items)
-
-abbrev pub drafted : List DraftedField → FieldValues
-drafted es = map drafted_field es
 
 -- the values stand one field behind the other, and each field has so many of them
 abbrev pub parts : List (FieldId × ℕ) → List Val → FieldValues

@@ -1,6 +1,6 @@
 // Documents.
-mod draft;
 mod fields;
+pub(crate) mod given;
 mod sums;
 
 ghost use Rattle.std.specs.Prelude.{◌≡◌, ℕ, ◌+◌, ◌-◌, ◌<◌, ◌≤◌, All, length, map, nat_le, slice_index, sum_by, if◌then◌else◌};
@@ -8,10 +8,10 @@ ghost use Rattle.std.specs.Bool.{OnTrue};
 ghost use Rattle.std.specs.List.{list_all, range_with_len};
 ghost use Rattle.fc_base.specs.View.{val_view};
 ghost use Rattle.fc_spec.specs.documents.Document.{values_of};
-ghost use Rattle.fc_docs.specs.Fields.{Ascend, HaveValues, values_at};
+ghost use Rattle.fc_docs.specs.Fields.{Ascend, HaveValues, document_of, values_at};
+ghost use Rattle.fc_docs.specs.Kept.{ArePartsOf, parts};
 ghost use Rattle.fc_docs.specs.Sums.{absolute_sum};
 
-pub(crate) use draft::Draft;
 use fc_base::{FieldId, Val};
 pub use fields::Fields;
 use std::marker::Model;
@@ -43,6 +43,18 @@ impl Model for Document {
 }
 
 impl Document {
+    /// The document of so many fields with so many values in each, one field behind the other.
+    fn of(fields: u16, counts: Vec<(FieldId, u32)>, values: Vec<Val>) -> Document
+        requires { ArePartsOf fields counts.items values.items }
+        ensures { result ≡ document_of fields (parts counts.items values.items) }
+    {
+        Document {
+            fields,
+            counts,
+            values,
+        }
+    }
+
     /// How many fields its schema has.
     pub fn field_count(&self) -> u16
         ensures { result ≡ length self.now }

@@ -2,11 +2,13 @@
 #![tactic(auto)]
 
 mod block;
+mod direct;
 mod document;
 mod fault;
 mod read;
 
 pub use block::{Batch, Block};
+pub use direct::read_directly;
 pub use document::{Document, Fields};
 pub use fault::DocFault;
 pub use read::read_block;

@@ -13,15 +13,16 @@ mod item;
 mod member;
 mod values;
 
-use crate::document::Draft;
+use crate::document::given::{document_of, give};
 use crate::{Block, DocFault, Document};
-use fc_base::{FieldId, Refusal, Schema};
-use member::{CHILDREN, Role, field_of};
+use fc_base::{Refusal, Schema};
+pub(crate) use item::TERM_LIMIT;
+pub(crate) use member::{CHILDREN, is_passed_over};
+use member::{Role, field_of};
 use serde_json::{Map, Value};
 use std::alloc::Global;
 use values::read_values;
-
-const ID: FieldId = FieldId(0);
+pub(crate) use values::takes;
 
 /// Reads an object of fields and their values as a parent, and its children, an array of such
 /// objects at `_childDocuments_`, which have none of their own. Other keys that begin and end with
@@ -113,17 +114,17 @@ fn read_members(
     ensures valid { IfOk result (IsDocumentOf schema.now) }
     ensures schema { IsValidSchema schema.now }
 {
-    let mut document = Draft::empty(alloc, schema.fields());
+    let fields = schema.fields();
+    let mut given = Vec::with_capacity(alloc, members.len())?;
     for (key, json) in members {
         let Some(field) = field_of(schema, role, key.as_str(), &json)? else {
             continue;
         };
         let values = read_values(alloc, schema.field_type(field), json)?;
-        document.set(field, values)?;
+        give(&mut given, field, values)?;
     }
-    if document.values(ID).is_empty() {
-        return Err(Refusal::Fault(DocFault::NoId));
+    match document_of(alloc, fields, given)? {
+        Some(document) => Ok(document),
+        None => Err(Refusal::Fault(DocFault::NoId)),
     }
-    let whole = document.finish(alloc)?;
-    Ok(whole)
 }

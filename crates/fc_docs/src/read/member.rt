@@ -12,7 +12,7 @@ use fc_base::{FieldId, Refusal, Schema};
 use serde_json::Value;
 
 /// The key of a parent's children.
-pub(super) const CHILDREN: &str = "_childDocuments_";
+pub(crate) const CHILDREN: &str = "_childDocuments_";
 
 /// The place of a document in its block.
 #[derive(Clone, Copy, PartialEq, Eq)]
@@ -46,7 +46,8 @@ pub(super) fn field_of(
     Ok(Some(field))
 }
 
-fn is_passed_over(key: &[u8]) -> bool
+/// Whether a key begins and ends with `_`.
+pub(crate) fn is_passed_over(key: &[u8]) -> bool
     ensures { result ≡ (nat_le 2 (length key.now) && is_underscored key.now) }
 {
     key.len() >= 2 && key[0] == b'_' && key[key.len() - 1] == b'_'

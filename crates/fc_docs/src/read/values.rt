@@ -33,8 +33,8 @@ pub(super) fn read_values(
     Ok(values)
 }
 
-// Whether a field of the type may have so many values.
-fn takes(kind: FieldType, count: usize) -> bool
+/// Whether a field of the type may have so many values.
+pub(crate) fn takes(kind: FieldType, count: usize) -> bool
     ensures { result ≡ takes (field_type_view kind) count }
 {
     match kind {
