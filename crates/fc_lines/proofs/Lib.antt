@@ -1,3 +1,4 @@
 pub mod FirstByte
 pub mod CutLines
 pub mod SoleMembers
+pub mod AddingLines

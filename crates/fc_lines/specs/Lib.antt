@@ -3,3 +3,4 @@ pub mod LineView
 pub mod AskedLines
 pub mod ValidLines
 pub mod LinesLeft
+pub mod AddedTokens

@@ -6,15 +6,18 @@ ghost use Rattle.fc_lines.specs.FaultView.{line_fault_view};
 ghost use Rattle.fc_lines.specs.LineView.{line_view};
 ghost use Rattle.fc_lines.specs.ValidLines.{HasRoot, IsLineOf};
 
+mod adding;
 mod reading;
 mod search;
 mod taking;
 
 use crate::fault::LineFault;
 use crate::value::value_on;
+use adding::added_on;
 use fc_base::{Name, Refusal, Schema};
 use fc_docs::Block;
 use fc_request::{Request, RequestFault};
+use json::Scratch;
 use reading::read_line;
 use std::alloc::Global;
 
@@ -31,12 +34,22 @@ pub enum Line {
     Search(Name, Box<Result<Request, RequestFault>>),
 }
 
-/// What a line after the schema says, or its fault. A fault of what a search asks is no fault of the line.
-pub fn line_on(alloc: Global, schema: &Schema, text: &[u8]) -> Result<Line, Refusal<LineFault>>
+/// What a line after the schema says, or its fault. A fault of what a search asks is no fault of the line. The scratch is
+/// memory in which a line is read: callers keep one from line to line, so that it is taken once, and nothing of a line is
+/// left in it that matters to another.
+pub fn line_on(
+    alloc: Global,
+    schema: &Schema,
+    scratch: &mut Scratch,
+    text: &[u8],
+) -> Result<Line, Refusal<LineFault>>
     ensures answer { Answers line_view line_fault_view result (asked_on schema.now text.now) }
     ensures valid { IfOk result (λ line. IsLineOf schema.now (line_view line)) }
     ensures root { IfOk result HasRoot }
 {
+    if let Some((shard, block)) = added_on(alloc, schema, scratch, text)? {
+        return Ok(Line::Add(shard, block));
+    }
     let json = value_on(alloc, text)?;
     read_line(alloc, schema, json)
 }
