@@ -15,6 +15,7 @@ use crate::script::Script;
 use crate::script_reader::ScriptReader;
 use fc_base::{Refusal, Schema};
 use fc_lines::{LineFault, Lines, ScriptFault, at_line, schema_on};
+use json::Scratch;
 use std::alloc::Global;
 
 /// A script without a line that says something.
@@ -52,8 +53,9 @@ fn read_rest(
         (with_rest (record { limits = limits_view limits; schema = schema; lines = [] }) (lines_left lines.entry)) }
 {
     let mut reading = ScriptReader::new(alloc, limits, schema)?;
+    let mut scratch = Scratch::new(alloc);
     while let Some(text) = lines.next_said() {
-        reading = reading.read(alloc, lines.number(), text)?;
+        reading = reading.read(alloc, &mut scratch, lines.number(), text)?;
     }
     Ok(reading.into_script(alloc)?)
 }

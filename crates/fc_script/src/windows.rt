@@ -16,6 +16,7 @@ use crate::script_reader::ScriptReader;
 use fc_base::{Refusal, Schema, WantMemory};
 use fc_lines::{Lines, ScriptFault};
 use fc_window::{Slot, fill, read_ahead};
+use json::Scratch;
 use std::alloc::Global;
 use std::thread::Threads;
 
@@ -41,6 +42,7 @@ fn read_window<R: Threads + Sync>(
     alloc: Global,
     workers: usize,
     reading: ScriptReader,
+    scratch: &mut Scratch,
     window: &mut [Slot<'_>],
 ) -> Result<ScriptReader, Refusal<ScriptFault>>
     requires { 0 < workers }
@@ -48,7 +50,7 @@ fn read_window<R: Threads + Sync>(
         → Meets HasRead script_fault_view result (with_all S (map line_of window.old)) }
 {
     read_ahead(rt, alloc, workers, reading.schema(), window);
-    reading.with_window(alloc, window)
+    reading.with_window(alloc, scratch, window)
 }
 
 // The script of a schema and the lines behind it, window by window, each read by so many workers before its lines are
@@ -66,10 +68,11 @@ fn read_windows<R: Threads + Sync>(
         (with_rest (record { limits = limits_view limits; schema = schema; lines = [] }) (lines_left lines.entry)) }
 {
     let mut reading = ScriptReader::new(alloc, limits, schema)?;
+    let mut scratch = Scratch::new(alloc);
     let mut window = Vec::new(alloc);
     while let Some(text) = lines.next_said() {
         begin(&mut window, text, &mut lines)?;
-        reading = read_window(rt, alloc, workers, reading, &mut window)?;
+        reading = read_window(rt, alloc, workers, reading, &mut scratch, &mut window)?;
     }
     Ok(reading.into_script(alloc)?)
 }

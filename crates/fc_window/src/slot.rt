@@ -6,6 +6,7 @@ ghost use Rattle.fc_window.specs.Ahead.{IsAhead, IsPlaced};
 use fc_base::{Refusal, Schema};
 use fc_docs::Block;
 use fc_lines::{Line, LineFault, line_on};
+use json::Scratch;
 use std::alloc::Global;
 use std::mem;
 
@@ -21,23 +22,23 @@ pub struct Slot<'a> {
 }
 
 // The shard and the block that a line adds, or its fault. Of another line nothing is told.
-fn block_on(alloc: Global, schema: &Schema, text: &[u8]) -> Ahead
+fn block_on(alloc: Global, schema: &Schema, scratch: &mut Scratch, text: &[u8]) -> Ahead
     ensures answer { IsAhead (asked_on schema.now text.now) result }
     ensures placed { IfOk result (IsPlaced schema.now) }
 {
-    match line_on(alloc, schema, text)? {
+    match line_on(alloc, schema, scratch, text)? {
         Line::Add(shard, block) => Ok(Some((shard, block))),
         _ => Ok(None),
     }
 }
 
 // The same, where the line begins as blocks are written as a rule, so that no search is read twice.
-fn block_ahead(alloc: Global, schema: &Schema, text: &[u8]) -> Ahead
+fn block_ahead(alloc: Global, schema: &Schema, scratch: &mut Scratch, text: &[u8]) -> Ahead
     ensures answer { IsAhead (asked_on schema.now text.now) result }
     ensures placed { IfOk result (IsPlaced schema.now) }
 {
     if text.starts_with(b"{\"add\"") {
-        block_on(alloc, schema, text)
+        block_on(alloc, schema, scratch, text)
     } else {
         Ok(None)
     }
@@ -61,10 +62,10 @@ impl<'a> Slot<'a> {
     }
 
     /// Reads it ahead of its turn, where it begins as a block is written as a rule.
-    pub fn read(&mut self, alloc: Global, schema: &Schema)
+    pub fn read(&mut self, alloc: Global, schema: &Schema, scratch: &mut Scratch)
         ensures { IsReadFrom schema.now self.old self.new }
     {
-        self.ahead = block_ahead(alloc, schema, self.text);
+        self.ahead = block_ahead(alloc, schema, scratch, self.text);
     }
 
     /// Takes what was read of it, after which nothing is.

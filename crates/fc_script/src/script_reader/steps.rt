@@ -5,6 +5,7 @@ use fc_base::{Name, Refusal};
 use fc_docs::Block;
 use fc_lines::{Line, LineFault, ScriptFault, at_line, line_on};
 use fc_request::{Request, RequestFault};
+use json::Scratch;
 use std::alloc::Global;
 
 // The most sync lines of a script.
@@ -162,13 +163,14 @@ impl ScriptReader {
     pub(super) fn with_text(
         self,
         alloc: Global,
+        scratch: &mut Scratch,
         text: &[u8],
     ) -> Result<ScriptReader, Refusal<LineFault>>
         ensures schema { IfOk result (λ r. r.schema ≡ self.schema) }
         ensures meets { (S : ReadSoFar) → HasRead self S
             → Meets HasRead line_fault_view result (with_text_line S text.now) }
     {
-        let line = line_on(alloc, &self.schema, text)?;
+        let line = line_on(alloc, &self.schema, scratch, text)?;
         self.with_line(alloc, line)
     }
 
@@ -176,13 +178,14 @@ impl ScriptReader {
     pub(crate) fn read(
         self,
         alloc: Global,
+        scratch: &mut Scratch,
         number: u32,
         text: &[u8],
     ) -> Result<ScriptReader, Refusal<ScriptFault>>
         ensures { (S : ReadSoFar) → HasRead self S
             → Meets HasRead script_fault_view result (with_numbered S (number, text.now)) }
     {
-        self.with_text(alloc, text)
+        self.with_text(alloc, scratch, text)
             .map_err(|refusal| at_line(number, refusal))
     }
 }

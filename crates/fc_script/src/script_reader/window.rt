@@ -3,6 +3,7 @@ use super::ScriptReader;
 use fc_base::Refusal;
 use fc_lines::{LineFault, ScriptFault, at_line};
 use fc_window::{Ahead, Slot};
+use json::Scratch;
 use std::alloc::Global;
 
 impl ScriptReader {
@@ -19,6 +20,7 @@ impl ScriptReader {
     fn with_ahead(
         self,
         alloc: Global,
+        scratch: &mut Scratch,
         text: &[u8],
         ahead: Ahead,
     ) -> Result<ScriptReader, Refusal<LineFault>>
@@ -30,7 +32,7 @@ impl ScriptReader {
     {
         match ahead {
             Ok(Some((shard, block))) => self.with_block(alloc, shard, block),
-            Ok(None) => self.with_text(alloc, text),
+            Ok(None) => self.with_text(alloc, scratch, text),
             Err(refusal) => Err(refusal),
         }
     }
@@ -39,6 +41,7 @@ impl ScriptReader {
     fn with_slot(
         self,
         alloc: Global,
+        scratch: &mut Scratch,
         slot: &mut Slot<'_>,
     ) -> Result<ScriptReader, Refusal<ScriptFault>>
         requires { HasSaid self.schema slot.old }
@@ -49,7 +52,7 @@ impl ScriptReader {
         let number = slot.number;
         let text = slot.text;
         let ahead = slot.take();
-        self.with_ahead(alloc, text, ahead)
+        self.with_ahead(alloc, scratch, text, ahead)
             .map_err(|refusal| at_line(number, refusal))
     }
 
@@ -57,6 +60,7 @@ impl ScriptReader {
     pub(crate) fn with_window(
         self,
         alloc: Global,
+        scratch: &mut Scratch,
         window: &mut [Slot<'_>],
     ) -> Result<ScriptReader, Refusal<ScriptFault>>
         requires { All (HasSaid self.schema) window.old }
@@ -65,7 +69,7 @@ impl ScriptReader {
     {
         let mut reading = self;
         for slot in window.iter_mut() {
-            reading = reading.with_slot(alloc, slot)?;
+            reading = reading.with_slot(alloc, scratch, slot)?;
         }
         Ok(reading)
     }
