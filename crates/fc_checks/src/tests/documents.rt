@@ -11,10 +11,11 @@ ghost use Rattle.fc_refine.specs.CountableRanges.{AreCountable};
 ghost use Rattle.fc_request.specs.RequestView.{IsRoot, request_view};
 
 use fc_base::Schema;
-use fc_docs::{Batch, Block, read_block};
+use fc_docs::{Batch, Block, read_directly};
 use fc_reading::valid_requests_are_countable;
 use fc_request::Request;
 use fc_spec::{texts_are_json, valid_requests_have_few_rounds};
+use json::{Reader, Scratch};
 use serde_json::Value;
 use std::alloc::Global;
 use std::sync::Arc;
@@ -28,8 +29,7 @@ fn json_of(alloc: Global, text: &str) -> Result<Value, Fail>
 }
 
 pub(super) fn schema_of(alloc: Global, text: &str) -> Result<Arc<Schema>, Fail> {
-    let schema = Schema::read(alloc, &json_of(alloc, text)?)?;
-    Ok(Arc::new(alloc, schema)?)
+    Ok(Arc::new(alloc, Schema::read(alloc, &json_of(alloc, text)?)?)?)
 }
 
 // A request, with the facts that a coordinator wants of it.
@@ -41,16 +41,17 @@ pub(super) fn request_of(alloc: Global, schema: &Schema, text: &str) -> Result<R
 {
     valid_requests_are_countable();
     valid_requests_have_few_rounds();
-    let json = json_of(alloc, text)?;
-    Ok(Request::read(alloc, schema, &json)?)
+    Ok(Request::read(alloc, schema, &json_of(alloc, text)?)?)
 }
 
-// A block of at most 1,000 children.
+// A block of at most 1,000 children, read directly from its tokens.
 fn block_of(alloc: Global, schema: &Schema, text: &str) -> Result<Block, Fail>
     ensures valid { IfOk result (λ block. IsBlockOf schema.now (block_view block)) }
     ensures few { IfOk result (λ block. length block.children.items ≤ 1_000) }
 {
-    let block = read_block(alloc, schema, json_of(alloc, text)?)?;
+    let mut scratch = Scratch::new(alloc);
+    let mut reader = Reader::new(text, &mut scratch)?;
+    let block = read_directly(alloc, schema, &mut reader)?.ok_or("no block")?;
     if block.children.len() > 1_000 {
         return Err("many children".into());
     }
