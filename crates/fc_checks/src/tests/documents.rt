@@ -41,7 +41,8 @@ pub(super) fn request_of(alloc: Global, schema: &Schema, text: &str) -> Result<R
 {
     valid_requests_are_countable();
     valid_requests_have_few_rounds();
-    Ok(Request::read(alloc, schema, &json_of(alloc, text)?)?)
+    let json = json_of(alloc, text)?;
+    Ok(Request::read(alloc, schema, &json)?)
 }
 
 // A block of at most 1,000 children, read directly from its tokens.
