@@ -33,10 +33,7 @@ pub(super) fn message_of(alloc: Global, buckets: &[(&str, u64)]) -> Result<Messa
 }
 
 fn has_text(key: &Key, text: &str) -> bool {
-    match key {
-        Key::Value(Val::Text(name)) => name.text() == text,
-        _ => false,
-    }
+    matches!(key, Key::Value(Val::Text(name)) if name.text() == text)
 }
 
 // Whether it is a bucket along these texts, each of the first node.
