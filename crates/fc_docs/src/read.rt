@@ -13,7 +13,7 @@ mod item;
 mod member;
 mod values;
 
-use crate::document::given::{document_of, give};
+use crate::document::given::{document_given, give};
 use crate::{Block, DocFault, Document};
 use fc_base::{Refusal, Schema};
 pub(crate) use item::TERM_LIMIT;
@@ -123,7 +123,7 @@ fn read_members(
         let values = read_values(alloc, schema.field_type(field), json)?;
         give(&mut given, field, values)?;
     }
-    match document_of(alloc, fields, given)? {
+    match document_given(alloc, fields, given)? {
         Some(document) => Ok(document),
         None => Err(Refusal::Fault(DocFault::NoId)),
     }

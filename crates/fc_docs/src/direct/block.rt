@@ -8,7 +8,7 @@ ghost use Rattle.fc_docs.specs.DirectState.{AreRead, GivesChild, GivesChildren, 
 ghost use Rattle.fc_docs.specs.View.{block_view};
 
 use super::fields::{Stop, read_fields};
-use crate::document::given::document_of;
+use crate::document::given::document_given;
 use crate::{Block, Document};
 use fc_base::{FieldId, Schema, Val, WantMemory};
 use json::{Reader, Token};
@@ -37,7 +37,7 @@ pub fn read_directly(
     let Some(children) = read_family(alloc, schema, reader, &mut seen, &mut given)? else {
         return Ok(None);
     };
-    match document_of(alloc, fields, given)? {
+    match document_given(alloc, fields, given)? {
         Some(parent) => Ok(Some(Block { children, parent })),
         None => Ok(None),
     }
@@ -142,7 +142,7 @@ fn read_child(
     let mut given = Vec::with_capacity(alloc, 8)?;
     let mut seen = [false; 256];
     match read_fields(alloc, schema, reader, &mut seen, &mut given)? {
-        Stop::End => document_of(alloc, schema.fields(), given),
+        Stop::End => document_given(alloc, schema.fields(), given),
         _ => Ok(None),
     }
 }

@@ -25,7 +25,7 @@ pub(crate) fn give(
 }
 
 /// The document of so many fields that has these values, where it has an `id`.
-pub(crate) fn document_of(
+pub(crate) fn document_given(
     alloc: Global,
     fields: u16,
     given: Vec<(FieldId, Val)>,

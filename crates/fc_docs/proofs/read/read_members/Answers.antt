@@ -40,8 +40,8 @@ loop-key-preserved-in_default c =
     let given : field_given (role_view c.args.role) c.args.schema.now (string_bytes c.in-Some.key) (view c.in-Some.json) ≡ Ok None = rw (← c.as_str.ensures.value) (rw c.in_default.is at c.in_ok-field.ensures.answer) in
     one_silent _ _ _ _ _ _ _ _ so_far c.fields-fields.ensures.valid.list given
 
-pub document_of-requires : goal.document_of-requires
-document_of-requires c = c.loop-key.invariant.below
+pub document_given-requires : goal.document_given-requires
+document_given-requires c = c.loop-key.invariant.below
 
 pub returns-in-Some-3-clause-answer : goal.returns-in-Some-3-clause-answer
 returns-in-Some-3-clause-answer c =

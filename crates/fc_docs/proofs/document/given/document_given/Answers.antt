@@ -6,8 +6,8 @@ use Rattle.fc_docs.proofs.GivenPairs.{rise}
 use Rattle.fc_docs.proofs.GivenDocument.{are_distinct, are_parts, is_document, first_given, has_id}
 use Rattle.fc_docs.proofs.NoId.{none_at_all, none_of_id}
 use Rattle.fc_docs.proofs.PairOrder.{AreSortedPairs}
-use Rattle.fc_docs.proofs.document.given.document_of.Goals as goal
-use Rattle.fc_docs.proofs.document.given.document_of.Goals.{then-is_empty-via-then-is_empty, then-is_empty-via-else-is_empty+then-ne}
+use Rattle.fc_docs.proofs.document.given.document_given.Goals as goal
+use Rattle.fc_docs.proofs.document.given.document_given.Goals.{then-is_empty-via-then-is_empty, then-is_empty-via-else-is_empty+then-ne}
 
 pub packed-requires : goal.packed-requires
 packed-requires c =
