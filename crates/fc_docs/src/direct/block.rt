@@ -125,6 +125,8 @@ fn read_each(
     }
     Ok(Some(children))
 }
+    // They are kept for the whole run.
+    children.shrink_to_fit();
 
 fn read_child(
     alloc: Global,

@@ -18,4 +18,4 @@ items-preserved c =
 pub returns-clause-each : goal.returns-clause-each
 returns-clause-each c =
     let ended : after_end_array c.items.reader ≡ Some c.take_end_array.new.self = grind arith in
-    all_so_far c.args.schema.now c.args.reader.now c.items.reader c.take_end_array.new.self c.items.children.items c.items.invariant ended
+    rw c.shrink_to_fit.ensures.items (all_so_far c.args.schema.now c.args.reader.now c.items.reader c.take_end_array.new.self c.items.children.items c.items.invariant ended)
