@@ -15,9 +15,11 @@ use json::{Reader, Token};
 use std::alloc::Global;
 
 /// Reads a block from the tokens of its text, which come next, as `read_block` reads it from the tree of them, and without
-/// one. None says nothing: where a block has a fault, where a key stands twice in a document, or where an array, an object, a
-/// fraction or a large number stands at a key that is passed over, `read_block` tells what it is. (Guide: Indexing Nested
-/// Child Documents)
+/// one. None says nothing, nor is anything said of where the reader stands then. It is answered where the text spells no block
+/// or one with a fault, where the key of a field or that of the children stands twice in a document, where a child has the key
+/// of children at all, be it with null or `[]`, and where a key that is passed over has an array, an object, or a number that
+/// is `-0` or no integer of 64 bits signed. `read_block` tells what such a text is. The only error is want of memory. (Guide:
+/// Indexing Nested Child Documents)
 pub fn read_directly(
     alloc: Global,
     schema: &Schema,
@@ -123,10 +125,10 @@ fn read_each(
             None => return Ok(None),
         }
     }
-    Ok(Some(children))
-}
     // They are kept for the whole run.
     children.shrink_to_fit();
+    Ok(Some(children))
+}
 
 fn read_child(
     alloc: Global,

@@ -18,13 +18,13 @@ use json::{Reader, Token};
 use std::alloc::Global;
 
 /// What ended the reading of members.
-#[derive(Clone, Copy, PartialEq, Eq)]
+#[derive(Drop)]
 pub(super) enum Stop {
     /// The end of the object.
     End,
     /// The key of the children, whose value comes next.
     Children,
-    /// Something that is no document, or that is told elsewhere.
+    /// Anything else: what `read_block` has to tell.
     Other,
 }
 
