@@ -7,6 +7,7 @@ use Rattle.json.proofs.Grammar.{read_key-shorter}
 use Rattle.serde_json.specs.Data.{Members, null, object, no_members, put}
 use Rattle.serde_json.specs.Find.{get_member}
 use Rattle.serde_json.specs.Read.{converted, of_json}
+use Rattle.serde_json.proofs.Views.{get_member-put}
 use Rattle.fc_spec.specs.documents.Document.{Document, values_of}
 use Rattle.fc_spec.specs.documents.Schema.{Schema}
 use Rattle.fc_spec.specs.documents.BlockReading.{as_parent, child_documents, children_key, document_of}
@@ -18,7 +19,6 @@ use Rattle.fc_docs.proofs.DocumentRead.{is_document, is_read}
 use Rattle.fc_docs.proofs.JsonTokens.{member_read, object_opened}
 use Rattle.fc_docs.proofs.MembersOver.{all_over}
 use Rattle.fc_docs.proofs.MembersRead.{one_silent}
-use Rattle.fc_docs.proofs.PutMembers.{put_here}
 
 -- ---- the members of a parent
 pub alone : (s : Schema) (old new : List Token) (given after : Given) (seen seen_after : List Bool) → AreRead as_parent s no_members given seen → StopsAt s None old new given after seen seen_after → GivesFamily s old new after seen_after []
@@ -39,7 +39,7 @@ with_children s old middle new given between after seen seen_between seen_after 
     let d = gives.children.said in
     let found : Members = put children_key d so_far.all in
     let whole = gives.rest.so_far.goes as_parent found (one_silent as_parent s so_far.all between seen_between children_key d list refl so_far.read) in
-    let at_key : get_member children_key whole.all ≡ Some d = whole.children ∙ put_here children_key d so_far.all in
+    let at_key : get_member children_key whole.all ≡ Some d = whole.children ∙ get_member-put children_key d so_far.all in
     let less : length middle < length stops.before = read_key-shorter stops.before (Some children_key) middle stops.stop in
     let shorter : length gives.middle < length middle = gives.shorter in
     record {

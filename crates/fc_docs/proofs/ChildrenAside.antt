@@ -19,7 +19,7 @@ use Rattle.fc_spec.specs.words.Walks.{◌>>=◌}
 use Rattle.fc_spec.specs.documents.BlockReading.{as_parent, block_of, check_members, child_documents, children_key, document_of_members, field_values, member_values}
 use Rattle.fc_base.specs.ValidSchema.{IsFieldList}
 use Rattle.fc_spec.proofs.words.Texts.{equal}
-use Rattle.fc_docs.proofs.ReadSoFar.{no_name}
+use Rattle.fc_docs.proofs.MemberFields.{no_name}
 
 abbrev pub is_children : String Global → Bool
 is_children k = same_text children_key (string_bytes k)

@@ -16,10 +16,9 @@ use Rattle.fc_docs.specs.Direct.{Given, document_given}
 use Rattle.fc_docs.specs.DirectState.{GivesChild, GivesChildren, GivesEach, GoesOver, StopsAt}
 use Rattle.fc_docs.proofs.DocumentRead.{is_document, is_read}
 use Rattle.fc_docs.proofs.Items.{behind, behind_nothing, one_more}
-use Rattle.fc_docs.proofs.JsonTokens.{array_opened, item_read, items_over, none_before, object_opened}
+use Rattle.fc_docs.proofs.JsonTokens.{array_opened, item_read, items_over, none_before, object_opened, token_alone}
 use Rattle.fc_docs.proofs.MembersOver.{all_over}
 use Rattle.fc_docs.proofs.MembersRead.{nothing_read}
-use Rattle.fc_docs.proofs.SingleTokens.{single}
 
 -- ---- one child
 module _ (s : Schema) (rest new : List Token) (given after : Given) (seen_after : List Bool) (none : given ≡ []) (stops : StopsAt s None rest new given after (replicate 256 false) seen_after) where
@@ -99,7 +98,7 @@ all_so_far s old middle new ds so_far ended =
 -- ---- the value of the children
 pub no_children : (s : Schema) (old new : List Token) → old ≡ Token.null ∷ new → GivesChildren s old new []
 no_children s old new first =
-    record { said = null; spells = λ depth enough. ap (λ ts. converted of_json (value depth ts)) first ∙ single Token.null new null refl depth; documents = refl; valid = All-nil (IsDocumentOf s) }
+    record { said = null; spells = λ depth enough. ap (λ ts. converted of_json (value depth ts)) first ∙ token_alone depth Token.null new null refl; documents = refl; valid = All-nil (IsDocumentOf s) }
 
 array_of : (s : Schema) (old rest new : List Token) (ds : List Document) → old ≡ Token.begin_array ∷ rest → GivesEach s rest new ds → GivesChildren s old new ds
 array_of s old rest new ds first gives =

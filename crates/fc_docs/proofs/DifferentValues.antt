@@ -1,10 +1,9 @@
 -- Values that were sorted, and of which equal ones were dropped, are the different values.
-use Rattle.std.proofs.Common.{◌≡◌, List, [], ◌∷◌, map, Bool, true, false, cond, ◌||◌, refl, sym, ◌∙◌, ap}
-use Rattle.std.specs.List.{All, dedup, dedup_from, list_any}
+use Rattle.std.proofs.Common.{◌≡◌, List, [], ◌∷◌, map, Bool, true, ◌||◌, refl, sym, ◌∙◌, ap}
+use Rattle.std.specs.List.{All, list_any}
 use Rattle.std.specs.List.Retain.{IsFiltered, DiffersFromLast}
 use Rattle.std.specs.List.Sorted.{IsPermutation, IsSorted, IsStrictlySortedBy}
 use Rattle.std.specs.Ordering.{on}
-use Rattle.std.proofs.Math.Bool.{or_self_left}
 use Rattle.std.proofs.lemmas.List.Elements.{All-map}
 use Rattle.std.proofs.lemmas.List.Filters.{All-dedup, dedup_is}
 use Rattle.std.proofs.lemmas.List.Kept.{IsStrictlySortedBy-dedup}
@@ -19,6 +18,7 @@ use Rattle.fc_spec.proofs.documents.ValOrder.{same_val_exact}
 use Rattle.fc_base.specs.declared.value.Val.{Val}
 use Rattle.fc_base.specs.ValOrder.{vals_total}
 use Rattle.fc_base.specs.View.{val_view}
+use Rattle.fc_docs.proofs.Deduped.{any_dedup}
 
 -- the values xs, sorted as ys, of which zs are the different ones
 pub record AreSorted (xs ys zs : List Val) : Type 0 where
@@ -27,19 +27,6 @@ pub record AreSorted (xs ys zs : List Val) : Type 0 where
   pub kept : IsFiltered (DiffersFromLast (on val_view same_val)) [] ys zs
 
 -- ---- the same values
-any_dedup_from : (p : Val → Bool) → ((x y : Val) → on val_view same_val x y ≡ true → p x ≡ p y) → (k : Val) (xs : List Val) → list_any p (dedup_from (on val_view same_val) k xs) ≡ (p k || list_any p xs)
-any_dedup_from p same k [] = refl
-any_dedup_from p same k (x ∷ xs) = go (on val_view same_val x k) refl (any_dedup_from p same k xs) (any_dedup_from p same x xs)
-  where
-    go : (b : Bool) → on val_view same_val x k ≡ b → list_any p (dedup_from (on val_view same_val) k xs) ≡ (p k || list_any p xs) → list_any p (dedup_from (on val_view same_val) x xs) ≡ (p x || list_any p xs)
-        → list_any p (cond b (dedup_from (on val_view same_val) k xs) (k ∷ dedup_from (on val_view same_val) x xs)) ≡ (p k || (p x || list_any p xs))
-    go true is first next = first ∙ rw (same x k is) (sym (or_self_left (p k) (list_any p xs)))
-    go false is first next = ap (λ b. p k || b) next
-
-any_dedup : (p : Val → Bool) → ((x y : Val) → on val_view same_val x y ≡ true → p x ≡ p y) → (xs : List Val) → list_any p (dedup (on val_view same_val) xs) ≡ list_any p xs
-any_dedup p same [] = refl
-any_dedup p same (x ∷ xs) = any_dedup_from p same x xs
-
 has_view : (v : definition.Val) (xs : List Val) → has_val v (map val_view xs) ≡ list_any (λ x. same_val v (val_view x)) xs
 has_view v [] = refl
 has_view v (x ∷ xs) = ap (λ b. same_val v (val_view x) || b) (has_view v xs)
@@ -48,7 +35,7 @@ same_values : (v : definition.Val) (xs ys zs : List Val) → AreSorted xs ys zs 
 same_values v xs ys zs h =
     let p : Val → Bool = λ x. same_val v (val_view x) in
     let alike : (x y : Val) → on val_view same_val x y ≡ true → p x ≡ p y = λ x y e. ap (λ w. same_val v w) (same_val_exact (val_view x) (val_view y) e) in
-    has_view v zs ∙ ap (list_any p) (dedup_is (on val_view same_val) ys zs h.kept) ∙ any_dedup p alike ys ∙ sym (list_any-IsPermutation p xs ys h.moved) ∙ sym (has_view v xs)
+    has_view v zs ∙ ap (list_any p) (dedup_is (on val_view same_val) ys zs h.kept) ∙ any_dedup (on val_view same_val) p alike ys ∙ sym (list_any-IsPermutation p xs ys h.moved) ∙ sym (has_view v xs)
 
 -- ---- in index order
 strictly : (xs ys zs : List Val) → AreSorted xs ys zs → IsStrictlySortedBy (on val_view val_cmp) zs

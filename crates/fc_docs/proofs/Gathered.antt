@@ -1,8 +1,8 @@
 -- The values that were given, field by field.
-use Rattle.std.proofs.Common.{◌≡◌, ◌≢◌, ℕ, ◌<◌, ◌+◌, List, [], ◌∷◌, ◌++◌, Bool, true, false, cond, eqb, length, map, replicate, set, arith, refl, sym, subst, ◌∙◌, ap, inl, inr}
+use Rattle.std.proofs.Common.{◌≡◌, ℕ, ◌<◌, ◌+◌, List, [], ◌++◌, length, map, replicate, set, arith, sym, subst, ◌∙◌, inl, inr}
 use Rattle.std.specs.List.{range_with_len}
 use Rattle.std.proofs.lemmas.Bool.{cases_eq}
-use Rattle.std.proofs.lemmas.List.{append-nil, get_or-replicate, get_or-set_other, get_or-set_same, length-replicate, length-set}
+use Rattle.std.proofs.lemmas.List.{get_or-replicate, get_or-set_other, get_or-set_same, length-replicate, length-set}
 use Rattle.std.proofs.lemmas.List.FromFn.{fill_by_all, get_or-map-range_with_len, length-map-range_with_len}
 use Rattle.std.proofs.lemmas.Map.Keys.{sorted_from_all_adjacent}
 use Rattle.fc_spec.specs.documents.Val.{Val, text, distinct, val_cmp}
@@ -11,7 +11,7 @@ use Rattle.fc_spec.specs.documents.Columns.{IsAscending}
 use Rattle.fc_spec.specs.documents.Document.{Document, values_of}
 use Rattle.fc_spec.proofs.documents.Ascending.{same_ascending, distinct_ascends, has_val-distinct}
 use Rattle.fc_docs.specs.Direct.{Given, document_given, given_to, giving}
-use Rattle.fc_docs.proofs.Entries.{other, same}
+use Rattle.fc_docs.proofs.GivenValues.{given_elsewhere, given_here}
 
 abbrev pub gathered : ℕ → Given → Document
 gathered fields ps = map (λ n. given_to n ps) (range_with_len 0 fields)
@@ -26,37 +26,14 @@ pub gathered-nothing : (fields : ℕ) → gathered fields [] ≡ replicate field
 gathered-nothing fields =
     sym (fill_by_all (λ n. given_to n []) (replicate fields []) fields [] (length-replicate fields []) (λ k within. get_or-replicate fields k [] [] within))
 
--- ---- the values of one more field
-given_to-append : (n : ℕ) (ps qs : Given) → given_to n (ps ++ qs) ≡ given_to n ps ++ given_to n qs
-given_to-append n [] qs = refl
-given_to-append n (p ∷ ps) qs = go (eqb n p.0) (given_to-append n ps qs)
-  where
-    go : (b : Bool) → given_to n (ps ++ qs) ≡ given_to n ps ++ given_to n qs
-        → cond b (p.1 ∷ given_to n (ps ++ qs)) (given_to n (ps ++ qs)) ≡ cond b (p.1 ∷ given_to n ps) (given_to n ps) ++ given_to n qs
-    go true later = ap (λ vs. p.1 ∷ vs) later
-    go false later = later
-
-giving_here : (n : ℕ) (vs : List Val) → given_to n (giving n vs) ≡ vs
-giving_here n [] = refl
-giving_here n (v ∷ vs) = rw (same n) (ap (λ ws. v ∷ ws) (giving_here n vs))
-
-giving_elsewhere : (n m : ℕ) (vs : List Val) → n ≢ m → given_to n (giving m vs) ≡ []
-giving_elsewhere n m [] apart = refl
-giving_elsewhere n m (v ∷ vs) apart = rw (other n m apart) (giving_elsewhere n m vs apart)
-
-here : (n : ℕ) (ps : Given) (vs : List Val) → given_to n ps ≡ [] → given_to n (ps ++ giving n vs) ≡ vs
-here n ps vs none = given_to-append n ps (giving n vs) ∙ ap (λ ws. ws ++ given_to n (giving n vs)) none ∙ giving_here n vs
-
-elsewhere : (n m : ℕ) (ps : Given) (vs : List Val) → n ≢ m → given_to n (ps ++ giving m vs) ≡ given_to n ps
-elsewhere n m ps vs apart = given_to-append n ps (giving m vs) ∙ ap (λ ws. given_to n ps ++ ws) (giving_elsewhere n m vs apart) ∙ append-nil (given_to n ps)
-
+-- the values of one more field
 pub gathered-more : (fields j : ℕ) (ps : Given) (vs : List Val) → j < fields → values_of (gathered fields ps) j ≡ [] → gathered fields (ps ++ giving j vs) ≡ set (gathered fields ps) j vs
 gathered-more fields j ps vs below none =
     let before : given_to j ps ≡ [] = sym (values_of-gathered fields ps j below) ∙ none in
     sym (fill_by_all (λ n. given_to n (ps ++ giving j vs)) (set (gathered fields ps) j vs) fields [] (length-set _ _ _ ∙ length-gathered fields ps)
     (λ k within. elim (cases_eq k j) [
-      | inl is ↦ rw is (get_or-set_same (gathered fields ps) j vs [] (rw (length-gathered fields ps) below) ∙ sym (here j ps vs before))
-      | inr apart ↦ get_or-set_other (gathered fields ps) j k vs [] apart ∙ values_of-gathered fields ps k within ∙ sym (elsewhere k j ps vs apart)
+      | inl is ↦ rw is (get_or-set_same (gathered fields ps) j vs [] (rw (length-gathered fields ps) below) ∙ sym (given_here j ps vs before))
+      | inr apart ↦ get_or-set_other (gathered fields ps) j k vs [] apart ∙ values_of-gathered fields ps k within ∙ sym (given_elsewhere k j ps vs apart)
     ]))
 
 -- ---- values that ascend are different

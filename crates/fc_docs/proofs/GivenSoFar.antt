@@ -1,16 +1,16 @@
 -- The values given are kept one by one.
-use Rattle.std.proofs.Common.{◌≡◌, ℕ, List, [], ◌∷◌, ◌++◌, length, eqb, Bool, cond, true, false, arith, refl, sym, subst, ◌∙◌, ap}
+use Rattle.std.proofs.Common.{◌≡◌, ℕ, List, [], ◌∷◌, ◌++◌, length, arith, refl, sym, subst, ◌∙◌, ap}
 use Rattle.std.proofs.lemmas.List.{append-nil, append_assoc, length-append}
 use Rattle.std.proofs.lemmas.List.Elements.{All-nil}
 use Rattle.fc_base.specs.declared.field.FieldId.{FieldId}
 use Rattle.fc_base.specs.declared.value.Val as code
 use Rattle.fc_base.specs.View.{val_view}
-use Rattle.fc_spec.specs.documents.Val.{Val}
 use Rattle.fc_docs.specs.Direct.{Given, given_to}
 use Rattle.fc_docs.specs.Fields.{Ascend, HaveValues, values_at}
 use Rattle.fc_docs.specs.Kept.{parts, value_count}
 use Rattle.fc_docs.specs.Runs.{AreGiven, Rise, one_more}
 use Rattle.fc_docs.proofs.Entries.{Entry}
+use Rattle.fc_docs.proofs.GivenValues.{given_to-append}
 use Rattle.fc_docs.proofs.MoreValues.{Upto, parts-one_more, upto-more, upto-later, ascend-more, have_values-more, values_at-more}
 use Rattle.fc_docs.proofs.OneMore.{Count, count-one_more}
 
@@ -35,13 +35,6 @@ none_yet all rise = record {
   values = λ n. refl;
 }
 
-first_given : (n : ℕ) (p : ℕ × Val) (ps : Given) → given_to n (p ∷ ps) ≡ given_to n (p ∷ []) ++ given_to n ps
-first_given n p ps = go (eqb n p.0)
-  where
-    go : (b : Bool) → cond b (p.1 ∷ given_to n ps) (given_to n ps) ≡ cond b (p.1 ∷ []) [] ++ given_to n ps
-    go true = refl
-    go false = refl
-
 pub one_more_yet : (all rest : Given) (cs : List Count) (vs : List code.Val) (field : FieldId) (v : code.Val) → SoFar all ((field.0, val_view v) ∷ rest) cs vs → SoFar all rest (one_more cs field) (vs ++ v ∷ [])
 one_more_yet all rest cs vs field v h =
     let es = parts cs vs in
@@ -58,7 +51,7 @@ one_more_yet all rest cs vs field v h =
           ap (λ fs. values_at fs n ++ given_to n rest) is
           ∙ ap (λ ws. ws ++ given_to n rest) (values_at-more 0 es field.0 (val_view v) h.ascending below n)
           ∙ append_assoc (values_at es n) (given_to n ((field.0, val_view v) ∷ [])) (given_to n rest)
-          ∙ ap (λ ws. values_at es n ++ ws) (sym (first_given n (field.0, val_view v) rest))
+          ∙ ap (λ ws. values_at es n ++ ws) (sym (given_to-append n ((field.0, val_view v) ∷ []) rest))
           ∙ h.values n;
     }
 

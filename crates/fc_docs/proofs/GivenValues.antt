@@ -1,38 +1,43 @@
 -- Values that were given to fields, and the different ones of a field.
-use Rattle.std.proofs.Common.{◌≡◌, ◌≢◌, ◌≤◌, ◌==◌, eqb, ℕ, suc, List, [], ◌∷◌, ◌++◌, length, Bool, true, false, if◌then◌else◌, All, IsTrue, arith, ap, refl}
+use Rattle.std.proofs.Common.{◌≡◌, ◌≢◌, ◌≤◌, ◌==◌, ℕ, suc, List, [], ◌∷◌, ◌++◌, length, Bool, true, false, if◌then◌else◌, All, IsTrue, arith, ap, ◌∙◌, refl}
 use Rattle.std.specs.Ordering.{match_ordering}
 use Rattle.std.specs.declared.cmp.Ordering.{Ordering}
 use Rattle.std.specs.declared.cmp.Ordering.TheVariants.{Less, Equal, Greater}
-use Rattle.std.proofs.lemmas.Bool.Decides.{nat_tests}
+use Rattle.std.proofs.lemmas.List.{append-nil}
 use Rattle.std.proofs.lemmas.List.Elements.{All-nil, All-cons, All-head, All-tail}
 use Rattle.std.proofs.lemmas.Map.Keys.{Less-from_sorted}
 use Rattle.fc_spec.specs.documents.Val.{Val, val_cmp, distinct, insert_val}
-use Rattle.fc_spec.specs.documents.Schema.{FieldType, string, strings, plong, plongs}
+use Rattle.fc_spec.specs.documents.Schema.{FieldType}
 use Rattle.fc_spec.specs.documents.BlockReading.{takes}
 use Rattle.fc_spec.specs.documents.ValidBlocks.{AreValuesOf, is_value_of}
 use Rattle.fc_spec.proofs.documents.Ascending.{distinct_ascends}
 use Rattle.fc_docs.specs.Direct.{Given, given_to, giving}
-use Rattle.fc_docs.proofs.Entries.{other}
+use Rattle.fc_docs.proofs.Entries.{other, same}
+use Rattle.fc_docs.proofs.Takes.{takes_fewer, takes_none}
 
 -- ---- those of one field
-pub given_append : (n : ℕ) (ps qs : Given) → given_to n (ps ++ qs) ≡ given_to n ps ++ given_to n qs
-given_append n [] qs = refl
-given_append n (p ∷ ps) qs = go (n == p.0) (given_append n ps qs)
+pub given_to-append : (n : ℕ) (ps qs : Given) → given_to n (ps ++ qs) ≡ given_to n ps ++ given_to n qs
+given_to-append n [] qs = refl
+given_to-append n (p ∷ ps) qs = go (n == p.0) (given_to-append n ps qs)
   where
     go : (b : Bool) → given_to n (ps ++ qs) ≡ given_to n ps ++ given_to n qs → (if b then p.1 ∷ given_to n (ps ++ qs) else given_to n (ps ++ qs)) ≡ (if b then p.1 ∷ given_to n ps else given_to n ps) ++ given_to n qs
     go true later = ap (λ vs. p.1 ∷ vs) later
     go false later = later
 
-same : (n : ℕ) → eqb n n ≡ true
-same n = grind (arith, nat_tests)
-
-pub giving_here : (n : ℕ) (vs : List Val) → given_to n (giving n vs) ≡ vs
+giving_here : (n : ℕ) (vs : List Val) → given_to n (giving n vs) ≡ vs
 giving_here n [] = refl
 giving_here n (v ∷ vs) = rw (same n) (ap (λ ws. v ∷ ws) (giving_here n vs))
 
-pub giving_elsewhere : (m n : ℕ) (vs : List Val) → m ≢ n → given_to m (giving n vs) ≡ []
+giving_elsewhere : (m n : ℕ) (vs : List Val) → m ≢ n → given_to m (giving n vs) ≡ []
 giving_elsewhere m n [] apart = refl
 giving_elsewhere m n (v ∷ vs) apart = rw (other m n apart) (giving_elsewhere m n vs apart)
+
+-- with more values of a field, which has none, or of another
+pub given_here : (n : ℕ) (given : Given) (vs : List Val) → given_to n given ≡ [] → given_to n (given ++ giving n vs) ≡ vs
+given_here n given vs none = given_to-append n given (giving n vs) ∙ ap (λ ws. ws ++ given_to n (giving n vs)) none ∙ giving_here n vs
+
+pub given_elsewhere : (m n : ℕ) (given : Given) (vs : List Val) → m ≢ n → given_to m (given ++ giving n vs) ≡ given_to m given
+given_elsewhere m n given vs apart = given_to-append m given (giving n vs) ∙ ap (λ ws. given_to m given ++ ws) (giving_elsewhere m n vs apart) ∙ append-nil (given_to m given)
 
 -- ---- the different ones
 All-insert_val : (P : Val → Type 0) (v : Val) (ws : List Val) → P v → All P ws → All P (insert_val v ws)
@@ -61,12 +66,6 @@ length-distinct : (vs : List Val) → length (distinct vs) ≤ length vs
 length-distinct [] = omega arith
 length-distinct (v ∷ vs) = omega (arith, length-insert_val v (distinct vs), length-distinct vs)
 
-takes_fewer : (kind : FieldType) (m n : ℕ) → m ≤ n → takes kind n ≡ true → takes kind m ≡ true
-takes_fewer string m n fewer few = grind (arith, nat_tests)
-takes_fewer strings m n fewer few = refl
-takes_fewer plong m n fewer few = grind (arith, nat_tests)
-takes_fewer plongs m n fewer few = refl
-
 pub are_values : (kind : FieldType) (vs : List Val) → takes kind (length vs) ≡ true → All (λ v. IsTrue (is_value_of kind v)) vs → AreValuesOf kind (distinct vs)
 are_values kind vs few valid =
     record {
@@ -74,12 +73,6 @@ are_values kind vs few valid =
       ascending = λ i j d before within. Less-from_sorted val_cmp (distinct vs) i j d (distinct_ascends vs) before within;
       few = takes_fewer kind (length (distinct vs)) (length vs) (length-distinct vs) few;
     }
-
-takes_none : (kind : FieldType) → takes kind 0 ≡ true
-takes_none string = refl
-takes_none strings = refl
-takes_none plong = refl
-takes_none plongs = refl
 
 pub no_values : (kind : FieldType) → AreValuesOf kind []
 no_values kind = are_values kind [] (takes_none kind) (All-nil (λ v. IsTrue (is_value_of kind v)))

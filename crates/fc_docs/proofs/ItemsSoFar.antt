@@ -14,6 +14,7 @@ use Rattle.fc_spec.specs.documents.ValidBlocks.{is_value_of}
 use Rattle.fc_spec.specs.words.Walks.{◌>>=◌, each}
 use Rattle.fc_docs.specs.Direct.{data_of, Given, giving, GivesItem, GivesValues}
 use Rattle.fc_docs.proofs.JsonTokens.{token_alone, array_opened, item_read, items_over, items_before, one_more_item, none_before}
+use Rattle.fc_docs.proofs.Takes.{takes_none, takes_one}
 
 -- of an array's tokens `all`, those before `rest` are items that give these values
 pub record ItemsSoFar (kind : FieldType) (all rest : List Token) (vs : List Val) : Type 0 where
@@ -23,18 +24,6 @@ pub record ItemsSoFar (kind : FieldType) (all rest : List Token) (vs : List Val)
   pub read : (depth : ℕ) → converted of_items (items (value depth) (length all) all) ≡ parse_map (items_before said) (converted of_items (items (value depth) turns rest))
   pub values : each (value_of kind) (without_nulls (items_before said no_items)) ≡ Ok vs
   pub valid : All (λ v. IsTrue (is_value_of kind v)) vs
-
-takes_none : (kind : FieldType) → takes kind 0 ≡ true
-takes_none schema.string = refl
-takes_none schema.strings = refl
-takes_none schema.plong = refl
-takes_none schema.plongs = refl
-
-takes_one : (kind : FieldType) → takes kind 1 ≡ true
-takes_one schema.string = refl
-takes_one schema.strings = refl
-takes_one schema.plong = refl
-takes_one schema.plongs = refl
 
 pub none_so_far : (kind : FieldType) (all : List Token) → ItemsSoFar kind all all []
 none_so_far kind all = record { said = []; turns = length all; enough = omega arith; read = λ depth. none_before _; values = refl; valid = All-nil _ }

@@ -31,6 +31,7 @@ pub mod PutMembers
 pub mod ReadSoFar
 pub mod Refused
 pub mod SingleTokens
+pub mod Takes
 pub mod TokenItems
 pub mod ValidBatches
 pub mod ValueCounts

@@ -1,19 +1,51 @@
 -- The field that a member gives values to, and what the member's values are then.
-use Rattle.std.proofs.Common.{◌≡◌, ℕ, List, [], length, Bool, true, false, ◌&&◌, nat_le, Option, Some, None, option_map, Result, Ok, Err, ok_or, slice_get, if◌then◌else◌, refl, ◌∙◌, ap}
+use Rattle.std.proofs.Common.{◌≡◌, ℕ, List, [], length, Bool, true, false, not, ◌&&◌, nat_le, Option, Some, None, option_map, Result, Ok, Err, ok_or, slice_get, slice_index, if◌then◌else◌, refl, sym, ◌∙◌, ap}
+use Rattle.std.specs.List.{list_all}
 use Rattle.std.proofs.lemmas.Bool.{and_parts}
+use Rattle.std.proofs.lemmas.List.Quantifiers.{position-Some}
+use Rattle.std.proofs.lemmas.Option.{get_or_from_slice_get, slice_get_within}
 use Rattle.serde_json.specs.Data.{Data}
 use Rattle.fc_spec.specs.documents.Val.{Text, Val, same_text}
 use Rattle.fc_spec.specs.documents.DocFault.{DocFault, unknown_field, deep_children}
-use Rattle.fc_spec.specs.documents.Schema.{FieldType, Schema, field_named}
-use Rattle.fc_spec.specs.documents.SchemaReading.{is_underscored}
+use Rattle.fc_spec.specs.documents.Schema.{Field, FieldType, Schema, field_named}
+use Rattle.fc_spec.specs.documents.SchemaReading.{is_digit, is_field_name, is_name_byte, is_underscored}
 use Rattle.fc_spec.specs.words.Walks.{◌>>=◌}
 use Rattle.fc_spec.specs.documents.BlockReading.{Role, as_parent, as_child, check_children, children_key, holds_nothing, member_values, type_in, values_for}
 use Rattle.fc_spec.proofs.words.Texts.{equal}
+use Rattle.fc_base.specs.ValidSchema.{IsFieldList}
 use Rattle.fc_docs.specs.Members.{field_given}
 
 -- another key that begins and ends with `_`
 abbrev pub is_passed_over : Text → Bool
 is_passed_over key = nat_le 2 (length key) && is_underscored key
+
+-- ---- the field that is found
+pub name_of_found : (s : Schema) (key : Text) (j : ℕ) (f : Field) → field_named s key ≡ Some j → slice_get s.fields j ≡ Some f → f.name ≡ key
+name_of_found s key j f named at =
+    let found = position-Some (λ (g : Field). same_text key g.name) s.fields j f named in
+    sym (equal key f.name (rw (get_or_from_slice_get s.fields j f f at) at found.1))
+
+pub kind_of_found : (s : Schema) (j : ℕ) (f : Field) (kind : FieldType) → slice_get s.fields j ≡ Some f → option_map (λ g. g.kind) (slice_get s.fields j) ≡ Some kind → f.kind ≡ kind
+kind_of_found s j f kind at typed = let both : Some f.kind ≡ Some kind = rw at at typed in cc
+
+-- ---- a name of a field
+last_fails : (a b c d : Bool) → (a && b && c && d && false) ≡ true → ⊥
+last_fails true true true true h = cc
+last_fails true true true false h = cc
+last_fails true true false d h = cc
+last_fails true false c d h = cc
+last_fails false b c d h = cc
+
+pub no_name : (t : Text) → is_field_name t ≡ true → is_underscored t ≡ true → ⊥
+no_name t good over =
+    let failing = rw over at good in
+    last_fails (nat_le 1 (length t)) (nat_le (length t) 64) (list_all is_name_byte t) (not (is_digit (slice_index t 0))) failing
+
+-- no field has the name of a key that is passed over
+pub never_named : (s : Schema) (key : Text) (n : ℕ) (f : Field) → IsFieldList s.fields → slice_get s.fields n ≡ Some f → is_underscored key ≡ true → f.name ≡ key → ⊥
+never_named s key n f list at over is =
+    let named : is_field_name key ≡ true = rw (← is) (rw (get_or_from_slice_get s.fields n f f at) at (list.names n f (slice_get_within s.fields n f at))) in
+    no_name key named over
 
 -- ---- what the code found
 pub ok_or_none : {A F : Type 0} (e f : F) (o : Option A) → Err e ≡ ok_or o f → o ≡ None → e ≡ f

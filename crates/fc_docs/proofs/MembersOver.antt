@@ -5,6 +5,7 @@ use Rattle.json.specs.Json.{members, read_key, value}
 use Rattle.json.proofs.Grammar.{read_key-shorter}
 use Rattle.serde_json.specs.Data.{Members, put}
 use Rattle.serde_json.specs.Read.{converted, of_members}
+use Rattle.serde_json.proofs.Views.{get_member-put_other}
 use Rattle.fc_spec.specs.documents.Val.{Text, same_text}
 use Rattle.fc_spec.specs.documents.Schema.{Schema}
 use Rattle.fc_spec.specs.documents.BlockReading.{Role, children_key}
@@ -12,7 +13,6 @@ use Rattle.fc_spec.proofs.words.Texts.{same_itself}
 use Rattle.fc_docs.specs.Direct.{Given}
 use Rattle.fc_docs.specs.DirectState.{AreRead, GivesMember, GoesOver, ReadTo}
 use Rattle.fc_docs.proofs.JsonTokens.{member_read, members_over}
-use Rattle.fc_docs.proofs.PutMembers.{put_elsewhere}
 
 pub none_over : (role : Role) (s : Schema) (found : Members) (ts : List Token) (given : Given) (seen : List Bool) → AreRead role s found given seen → GoesOver role s found ts ts given seen
 none_over role s found ts given seen read = record { all = found; read = read; children = refl; over = λ depth n some enough. (n, enough, refl) }
@@ -25,7 +25,7 @@ one_over role s found old before rest new given after seen seen_after key so_far
     record {
       all = put key member.said so_far.all;
       read = member.read role so_far.all so_far.read;
-      children = put_elsewhere children_key key member.said so_far.all apart ∙ so_far.children;
+      children = get_member-put_other children_key key member.said so_far.all apart ∙ so_far.children;
       over = λ depth n some enough.
           let turns = so_far.over depth n some enough in
           let more : length before ≤ turns.0 = turns.1 in

@@ -2,29 +2,26 @@
 use Rattle.std.proofs.Common.{◌≡◌, ◌≢◌, ◌<◌, ℕ, List, [], ◌++◌, length, set, replicate, All, IsTrue, Bool, true, false, Some, None, option_map, Ok, slice_get, slice_index_or, sym, ◌∙◌, ap, refl, subst, inl, inr}
 use Rattle.std.specs.Result.{result_unwrap_or}
 use Rattle.std.proofs.lemmas.Bool.{cases_eq}
-use Rattle.std.proofs.lemmas.List.{append-nil, get_or-set_same, get_or-set_other}
+use Rattle.std.proofs.lemmas.List.{get_or-set_same, get_or-set_other}
 use Rattle.std.proofs.lemmas.List.Elements.{All-nil, All-append, All-map}
-use Rattle.std.proofs.lemmas.List.Quantifiers.{position-Some}
-use Rattle.std.proofs.lemmas.Option.{get_or_from_slice_get, slice_get_within}
 use Rattle.serde_json.specs.Data.{Data, Members, no_members, put}
 use Rattle.serde_json.specs.Find.{get_member}
-use Rattle.fc_spec.specs.documents.Val.{Text, Val, distinct, same_text}
+use Rattle.serde_json.proofs.Views.{get_member-put, get_member-put_other}
+use Rattle.fc_spec.specs.documents.Val.{Text, Val, distinct}
 use Rattle.fc_spec.specs.documents.Schema.{Field, FieldType, Schema, field_named}
-use Rattle.fc_spec.specs.documents.SchemaReading.{is_field_name}
 use Rattle.fc_spec.specs.words.Walks.{each}
 use Rattle.fc_spec.specs.documents.BlockReading.{Role, field_values, items_in, takes, value_of, values_for}
 use Rattle.fc_spec.specs.documents.ValidBlocks.{AreValuesOf, is_value_of}
-use Rattle.fc_spec.proofs.words.Texts.{equal}
 use Rattle.fc_base.specs.ValidSchema.{IsFieldList}
 use Rattle.fc_base.proofs.NamesDiffer.{only_one}
 use Rattle.fc_docs.specs.Direct.{Given, given_to, giving}
 use Rattle.fc_docs.specs.DirectState.{AreRead}
 use Rattle.fc_docs.specs.Members.{field_given}
-use Rattle.fc_docs.proofs.GivenValues.{are_values, given_append, giving_here, giving_elsewhere, no_values}
-use Rattle.fc_docs.proofs.MemberFields.{gives_nothing, gives_values}
+use Rattle.fc_docs.proofs.GivenValues.{are_values, given_here, given_elsewhere, no_values}
+use Rattle.fc_docs.proofs.MemberFields.{gives_nothing, gives_values, kind_of_found, name_of_found, never_named}
 use Rattle.fc_docs.proofs.MemberValues.{values_are}
-use Rattle.fc_docs.proofs.PutMembers.{put_here, put_elsewhere, put_checked}
-use Rattle.fc_docs.proofs.ReadSoFar.{no_name, values_in}
+use Rattle.fc_docs.proofs.PutMembers.{put_checked}
+use Rattle.fc_docs.proofs.ReadSoFar.{values_in}
 
 nothing : (role : Role) (s : Schema) (count : ℕ) → AreRead role s no_members [] (replicate count false)
 nothing role s count =
@@ -41,7 +38,7 @@ nothing_read role s given count none = subst (λ ps. AreRead role s no_members p
 
 -- ---- a field of another name
 other_field : (f : Field) (key : Text) (d : Data) (found : Members) → (f.name ≡ key → ⊥) → field_values (put key d found) f ≡ field_values found f
-other_field f key d found other = ap (values_in f.kind) (put_elsewhere f.name key d found other)
+other_field f key d found other = ap (values_in f.kind) (get_member-put_other f.name key d found other)
 
 -- ---- a member that gives nothing
 pub one_silent : (role : Role) (s : Schema) (found : Members) (given : Given) (seen : List Bool) (key : Text) (d : Data) → IsFieldList s.fields → field_given role s key d ≡ Ok None → AreRead role s found given seen → AreRead role s (put key d found) given seen
@@ -49,23 +46,13 @@ one_silent role s found given seen key d list silent read =
     let nothing = gives_nothing role s key d silent in
     record {
       checked = put_checked role s key d [] found nothing.0 read.checked;
-      values = λ n f at. read.values n f at ∙ sym (other_field f key d found (λ is. no_name key (named n f at is) nothing.1));
+      values = λ n f at. read.values n f at ∙ sym (other_field f key d found (never_named s key n f list at nothing.1));
       valid = read.valid;
       unseen = read.unseen;
       within = read.within;
     }
-  where
-    named : (n : ℕ) (f : Field) → slice_get s.fields n ≡ Some f → f.name ≡ key → is_field_name key ≡ true
-    named n f at is = rw (← is) (rw (get_or_from_slice_get s.fields n f f at) at (list.names n f (slice_get_within s.fields n f at)))
 
 -- ---- a member of a field
-name_of_found : (s : Schema) (key : Text) (j : ℕ) (f : Field) → field_named s key ≡ Some j → slice_get s.fields j ≡ Some f → f.name ≡ key
-name_of_found s key j f named at =
-    let found = position-Some (λ (g : Field). same_text key g.name) s.fields j f named in
-    sym (equal key f.name (rw (get_or_from_slice_get s.fields j f f at) at found.1))
-
-kind_of_found : (s : Schema) (j : ℕ) (f : Field) (kind : FieldType) → slice_get s.fields j ≡ Some f → option_map (λ g. g.kind) (slice_get s.fields j) ≡ Some kind → f.kind ≡ kind
-kind_of_found s j f kind at typed = let both : Some f.kind ≡ Some kind = rw at at typed in cc
 
 -- the value of a member, which gives these values to the field
 pub record GivesTo (s : Schema) (key : Text) (d : Data) (n : ℕ) (kind : FieldType) (vs : List Val) : Type 0 where
@@ -75,16 +62,10 @@ pub record GivesTo (s : Schema) (key : Text) (d : Data) (n : ℕ) (kind : FieldT
   pub few : takes kind (length vs) ≡ true
   pub valid : All (λ v. IsTrue (is_value_of kind v)) vs
 
-given_here : (n : ℕ) (given : Given) (vs : List Val) → given_to n given ≡ [] → given_to n (given ++ giving n vs) ≡ vs
-given_here n given vs none = given_append n given (giving n vs) ∙ ap (λ ws. ws ++ given_to n (giving n vs)) none ∙ giving_here n vs
-
-given_elsewhere : (m n : ℕ) (given : Given) (vs : List Val) → m ≢ n → given_to m (given ++ giving n vs) ≡ given_to m given
-given_elsewhere m n given vs apart = given_append m given (giving n vs) ∙ ap (λ ws. given_to m given ++ ws) (giving_elsewhere m n vs apart) ∙ append-nil (given_to m given)
-
 this_field : (s : Schema) (found : Members) (key : Text) (d : Data) (n : ℕ) (f : Field) (kind : FieldType) (vs : List Val) → GivesTo s key d n kind vs → slice_get s.fields n ≡ Some f → field_values (put key d found) f ≡ distinct vs
 this_field s found key d n f kind vs gives at =
     let is = name_of_found s key n f gives.named at in
-    let found_here : get_member f.name (put key d found) ≡ Some d = ap (λ name. get_member name (put key d found)) is ∙ put_here key d found in
+    let found_here : get_member f.name (put key d found) ≡ Some d = ap (λ name. get_member name (put key d found)) is ∙ get_member-put key d found in
     let good : values_for f.kind d ≡ Ok (distinct vs) = ap (λ k. values_for k d) (kind_of_found s n f kind at gives.typed) ∙ values_are kind d vs (distinct vs) gives.values gives.few refl in
     ap (values_in f.kind) found_here ∙ ap (λ r. result_unwrap_or r []) good
 

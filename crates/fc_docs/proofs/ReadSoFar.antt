@@ -1,6 +1,6 @@
 -- A document that was read member by member, as far as the rest of the members.
-use Rattle.std.proofs.Common.{◌≡◌, ℕ, ◌<◌, List, [], length, get_or, set, replicate, Bool, true, false, not, ◌&&◌, nat_le, Option, Some, None, option_map, unwrap_or, Ok, slice_get, slice_index, arith, sym, ◌∙◌, refl, inl, inr, subst}
-use Rattle.std.specs.List.{AllByRecursion, list_all}
+use Rattle.std.proofs.Common.{◌≡◌, ℕ, ◌<◌, List, [], length, get_or, set, replicate, Option, Some, None, option_map, unwrap_or, Ok, slice_get, sym, ◌∙◌, refl, inl, inr, subst}
+use Rattle.std.specs.List.{AllByRecursion}
 use Rattle.std.specs.List.Sorted.{IsStrictlySortedBy}
 use Rattle.std.specs.Ordering.{match_ordering}
 use Rattle.std.specs.Result.{result_unwrap_or}
@@ -10,25 +10,23 @@ use Rattle.std.specs.Cmp.Lexicographic.{nat_list_cmp_total}
 use Rattle.std.proofs.lemmas.Bool.{cases_lt, cases_eq}
 use Rattle.std.proofs.lemmas.Cmp.{tied_itself}
 use Rattle.std.proofs.lemmas.List.{get_or_past, get_or-replicate, get_or-set_same, get_or-set_other, length-replicate, length-set}
-use Rattle.std.proofs.lemmas.List.Elements.{All-nil}
 use Rattle.std.proofs.lemmas.List.Quantifiers.{position-Some}
 use Rattle.std.proofs.lemmas.Map.Keys.{sorted_head, sorted_tail}
 use Rattle.std.proofs.lemmas.Map.Lookups.{exact_bytes}
-use Rattle.std.proofs.lemmas.Option.{get_or_from_slice_get, slice_get-get_or, slice_get_within}
+use Rattle.std.proofs.lemmas.Option.{slice_get-get_or}
 use Rattle.serde_json.specs.Data.{Data, Members, no_members, member}
 use Rattle.serde_json.specs.Find.{get_member}
 use Rattle.fc_spec.specs.documents.Val.{Text, text_cmp, same_text, Val}
 use Rattle.fc_spec.specs.documents.Document.{Document, values_of}
-use Rattle.fc_spec.specs.documents.Schema.{Field, FieldType, string, strings, plong, plongs, Schema, field_named}
-use Rattle.fc_spec.specs.documents.SchemaReading.{is_digit, is_field_name, is_name_byte, is_underscored}
-use Rattle.fc_spec.specs.documents.BlockReading.{Role, check_members, takes, values_for}
-use Rattle.fc_spec.specs.documents.ValidBlocks.{AreValuesOf, is_value_of}
+use Rattle.fc_spec.specs.documents.Schema.{Field, FieldType, Schema, field_named}
+use Rattle.fc_spec.specs.documents.BlockReading.{Role, check_members, values_for}
+use Rattle.fc_spec.specs.documents.ValidBlocks.{AreValuesOf}
 use Rattle.fc_base.specs.ValidSchema.{id_field, IsFieldList}
 use Rattle.fc_base.proofs.Members.{member_keys}
 use Rattle.fc_base.proofs.NamesDiffer.{only_one}
-use Rattle.fc_spec.proofs.words.Texts.{equal}
 use Rattle.fc_docs.specs.Members.{field_given}
-use Rattle.fc_docs.proofs.MemberFields.{gives_nothing, gives_values}
+use Rattle.fc_docs.proofs.GivenValues.{no_values}
+use Rattle.fc_docs.proofs.MemberFields.{gives_nothing, gives_values, kind_of_found, name_of_found, never_named}
 
 -- the values that the member of a field's name gives, where there is one
 abbrev pub values_in : FieldType → Option Data → List Val
@@ -53,15 +51,6 @@ none_of_empty n k = elim (cases_lt k n) [ inl below ↦ get_or-replicate n k [] 
 nothing_yet : (kind : FieldType) (found : Option Data) → IsRead kind found found []
 nothing_yet kind None = refl
 nothing_yet kind (Some d) = (refl, refl)
-
-takes_none : (kind : FieldType) → takes kind 0 ≡ true
-takes_none string = refl
-takes_none strings = refl
-takes_none plong = refl
-takes_none plongs = refl
-
-no_values : (kind : FieldType) → AreValuesOf kind []
-no_values kind = record { of_type = All-nil (λ v. is_value_of kind v ≡ true); ascending = λ i j d before within. absurd (omega arith); few = takes_none kind }
 
 pub nothing_read : (role : Role) (s : Schema) (all : Members) (n : ℕ) → n ≡ length s.fields → IsStrictlySortedBy text_cmp (member_keys all) → ReadSoFar role s all (replicate n []) all
 nothing_read role s all n count ascend =
@@ -104,14 +93,6 @@ this_field role s all d key v rest k f vs so_far at is good =
     subst (λ (left : Option Data). IsRead f.kind (get_member f.name all) left vs) (sym behind) whole
 
 -- ---- a member of a field
-name_of_found : (s : Schema) (key : Text) (j : ℕ) (f : Field) → field_named s key ≡ Some j → slice_get s.fields j ≡ Some f → f.name ≡ key
-name_of_found s key j f named at =
-    let found = position-Some (λ (g : Field). same_text key g.name) s.fields j f named in
-    sym (equal key f.name (rw (get_or_from_slice_get s.fields j f f at) at found.1))
-
-kind_of_found : (s : Schema) (j : ℕ) (f : Field) (kind : FieldType) → slice_get s.fields j ≡ Some f → option_map (λ g. g.kind) (slice_get s.fields j) ≡ Some kind → f.kind ≡ kind
-kind_of_found s j f kind at typed = let both : Some f.kind ≡ Some kind = rw at at typed in cc
-
 pub no_values_yet : (role : Role) (s : Schema) (all : Members) (d : Document) (key : Text) (v : Data) (rest : Members) (j : ℕ) (kind : FieldType) → ReadSoFar role s all d (member key v rest) → field_given role s key v ≡ Ok (Some j) → option_map (λ f. f.kind) (slice_get s.fields j) ≡ Some kind → (j < length s.fields) × (values_of d j ≡ [])
 no_values_yet role s all d key v rest j kind so_far given typed =
     let named = (gives_values role s key v j kind given typed).0 in
@@ -149,28 +130,13 @@ one_more role s all d key v rest j kind vs so_far list given typed good are =
     here_valid k f at same below = let at_j : slice_get s.fields j ≡ Some f = rw same at at in rw (set_here k same below, kind_of_found s j f kind at_j typed) are
 
 -- ---- a member that gives nothing
-last_fails : (a b c d : Bool) → (a && b && c && d && false) ≡ true → ⊥
-last_fails true true true true h = cc
-last_fails true true true false h = cc
-last_fails true true false d h = cc
-last_fails true false c d h = cc
-last_fails false b c d h = cc
-
-pub no_name : (t : Text) → is_field_name t ≡ true → is_underscored t ≡ true → ⊥
-no_name t good over =
-    let failing = rw over at good in
-    last_fails (nat_le 1 (length t)) (nat_le (length t) 64) (list_all is_name_byte t) (not (is_digit (slice_index t 0))) failing
-
 pub one_silent : (role : Role) (s : Schema) (all : Members) (d : Document) (key : Text) (v : Data) (rest : Members) → ReadSoFar role s all d (member key v rest) → IsFieldList s.fields → field_given role s key v ≡ Ok None → ReadSoFar role s all d rest
 one_silent role s all d key v rest so_far list given =
     let nothing = gives_nothing role s key v given in
     record {
       faults = so_far.faults ∙ rw nothing.0 refl;
       lists = so_far.lists;
-      parts = λ k f at. other_field role s all d key v rest k f so_far at (λ is. no_name key (named k f at is) nothing.1);
+      parts = λ k f at. other_field role s all d key v rest k f so_far at (never_named s key k f list at nothing.1);
       valid = so_far.valid;
       ascend = sorted_tail text_cmp key (member_keys rest) so_far.ascend;
     }
-  where
-    named : (k : ℕ) (f : Field) → slice_get s.fields k ≡ Some f → f.name ≡ key → is_field_name key ≡ true
-    named k f at is = rw (← is) (rw (get_or_from_slice_get s.fields k f f at) at (list.names k f (slice_get_within s.fields k f at)))

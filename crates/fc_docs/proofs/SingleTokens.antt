@@ -3,24 +3,12 @@ use Rattle.std.proofs.Common.{◌≡◌, ℕ, List, ◌∷◌, Option, Some, Non
 use Rattle.std.specs.Bool.{OnTrue}
 use Rattle.json.specs.Token.{Token}
 use Rattle.json.specs.Json.{value}
-use Rattle.json.proofs.Grammar.{value_is}
 use Rattle.serde_json.specs.Data as tree
 use Rattle.serde_json.specs.Data.{Data}
 use Rattle.serde_json.specs.Find.{as_i64}
 use Rattle.serde_json.specs.Read.{converted, of_json, number_of}
 use Rattle.fc_docs.specs.Direct.{data_of, Spells}
-
-pub single : (t : Token) (ts : List Token) (d : Data) → data_of t ≡ Some d → (depth : ℕ) → converted of_json (value depth (t ∷ ts)) ≡ Some (d, ts)
-single Token.begin_object ts d is depth = absurd (cc)
-single Token.end_object ts d is depth = absurd (cc)
-single Token.begin_array ts d is depth = absurd (cc)
-single Token.end_array ts d is depth = absurd (cc)
-single (Token.key s) ts d is depth = absurd (cc)
-single (Token.string s) ts d is depth = ap (converted of_json) (value_is depth (Token.string s ∷ ts)) ∙ ap (option_map (λ x. (x, ts))) is
-single (Token.number s) ts d is depth = ap (converted of_json) (value_is depth (Token.number s ∷ ts)) ∙ ap (option_map (λ x. (x, ts))) is
-single (Token.boolean b) ts d is depth = ap (converted of_json) (value_is depth (Token.boolean b ∷ ts)) ∙ ap (option_map (λ x. (x, ts))) is
-single Token.null ts d is depth = ap (converted of_json) (value_is depth (Token.null ∷ ts)) ∙ ap (option_map (λ x. (x, ts))) is
-single Token.bad ts d is depth = absurd (cc)
+use Rattle.fc_docs.proofs.JsonTokens.{token_alone}
 
 -- a number of which an integer was found is one
 pub number_single : (s : List ℕ) (found : Option ℤ) → IfSome found (λ z. option_and_then as_i64 (number_of s) ≡ Some z) → (b : Bool) → b ≡ is_some found → OnTrue b ((d : Data) × (data_of (Token.number s) ≡ Some d))
@@ -33,5 +21,5 @@ number_single s found is true some = go (number_of s) found is some
 number_single s found is false none = tt
 
 pub single_spelled : (b : Bool) (t : Token) (old new : List Token) → OnTrue b ((d : Data) × (data_of t ≡ Some d)) → old ≡ t ∷ new → OnTrue b ((d : Data) × Spells 1 old new d)
-single_spelled true t old new is first = (is.0, λ depth some. ap (λ ts. converted of_json (value depth ts)) first ∙ single t new is.0 is.1 depth)
+single_spelled true t old new is first = (is.0, λ depth some. ap (λ ts. converted of_json (value depth ts)) first ∙ token_alone depth t new is.0 is.1)
 single_spelled false t old new is first = tt
