@@ -16,6 +16,7 @@ pub mod Prefixes
 pub mod TermLists
 pub mod TermOrder
 pub mod Numberings
+pub mod Reordered
 pub mod Grown
 pub mod Ranked
 pub mod Ends

@@ -3,7 +3,6 @@ use Rattle.std.proofs.Common.{◌≡◌, ◌≢◌, ℕ, suc, ◌<◌, ◌==◌,
 use Rattle.std.proofs.lemmas.Cmp.{nat_list_cmp_total, tied_itself}
 use Rattle.std.proofs.lemmas.List.{get_or-map, length-map}
 use Rattle.std.proofs.lemmas.List.Folds.{Any-from_list_any}
-use Rattle.std.proofs.lemmas.Map.Keys.{Less-from_sorted}
 use Rattle.std.specs.List.{AllPairs, list_any, flat_map}
 use Rattle.std.specs.List.Sorted.{IsStrictlySortedBy}
 use Rattle.fc_spec.specs.documents.Val.{Text, Val, text, long, text_cmp, val_cmp, has_val, distinct}
@@ -33,13 +32,13 @@ module _ (entries : Entries) (numbering : IsNumbering entries) where
       let is = get_or-map (λ (entry : Text × ℕ). entry.1) entries k ([], d) d place in
       omega (arith, is, numbering.below (get_or entries k ([], d)).1 (number_of_entry entries k ([], d) place))
 
-  pub numbers_differ : IsStrictlySortedBy text_cmp (texts_of entries) → AllPairs (λ earlier later. earlier ≢ later) (numbers_in entries)
-  numbers_differ sorted i j d before inside same =
+  pub numbers_differ : IsAscending text_cmp (texts_of entries) → AllPairs (λ earlier later. earlier ≢ later) (numbers_in entries)
+  numbers_differ ascending i j d before inside same =
       let size = length-map entries (λ (entry : Text × ℕ). entry.1) in
       let texts_size = length-map entries (λ (entry : Text × ℕ). entry.0) in
       let texts : get_or (texts_of entries) i [] ≡ get_or (texts_of entries) j [] =
       sym (text_of_place i ([], d) (omega arith)) ∙ ap (text_numbered entries) same ∙ text_of_place j ([], d) (omega arith) in
-      let less = Less-from_sorted text_cmp (texts_of entries) i j [] sorted before (omega arith) in
+      let less = ascending i j [] before (omega arith) in
       let tied = ap (λ t. text_cmp t (get_or (texts_of entries) j [])) texts ∙ tied_itself nat_list_cmp_total (get_or (texts_of entries) j []) in
       let wrong = sym less ∙ tied in cc
 

@@ -6,17 +6,18 @@ ghost use Rattle.fc_base.specs.View.{val_view};
 
 use crate::TextColumn;
 use crate::entries::Entries;
-use crate::numbers::{into_texts, number_of, ranks};
-use fc_base::{Name, Val, WantMemory};
+use crate::numbers::{in_order, into_texts, number_of, ranks};
+use crate::term::Term;
+use fc_base::{Val, WantMemory};
+use indexmap::IndexMap;
 use std::alloc::Global;
-use std::collections::BTreeMap;
 use std::marker::Model;
 
 /// Makes a column of texts, position by position. After want of memory it is only dropped.
 #[derive(Debug, Drop)]
 pub struct TextBuilder {
     // Each text, with its number: the numbers count the texts in the order in which they came.
-    numbers: BTreeMap<Name, u32>,
+    numbers: IndexMap<Term, u32>,
     // The numbers of the texts of each position.
     rows: Entries<u32>,
     // A call wanted memory, and a position may be half made.
@@ -43,7 +44,7 @@ impl TextBuilder {
         ensures { IfOk result (λ builder. builder ≡ []) }
     {
         Ok(TextBuilder {
-            numbers: BTreeMap::new(alloc),
+            numbers: IndexMap::new(alloc),
             rows: Entries::new(alloc),
             spent: false,
             alloc,
@@ -99,8 +100,9 @@ impl TextBuilder {
         if self.spent {
             return Err(WantMemory);
         }
-        let ranks = ranks(self.alloc, &self.numbers)?;
-        let terms = into_texts(self.alloc, self.numbers)?;
+        let sorted = in_order(self.alloc, self.numbers)?;
+        let ranks = ranks(self.alloc, &sorted)?;
+        let terms = into_texts(self.alloc, sorted)?;
         let mut rows = self.rows;
         rows.renumber(&ranks);
         let ordinals = rows.rows(self.alloc)?;

@@ -12,6 +12,7 @@ mod numbers;
 mod ordered;
 mod rows;
 mod sums;
+mod term;
 mod text;
 
 pub use builder::TextBuilder;

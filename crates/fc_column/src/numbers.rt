@@ -5,14 +5,15 @@ ghost use Rattle.fc_spec.specs.documents.Val.{Text, same_text, text_cmp};
 ghost use Rattle.fc_column.specs.Terms.{has_text};
 ghost use Rattle.fc_column.specs.Numbering.{IsNumbering, has_number, text_numbered};
 
+use crate::term::Term;
 use fc_base::{Name, WantMemory};
+use indexmap::IndexMap;
 use std::alloc::Global;
-use std::collections::BTreeMap;
 
 /// The number of a text, which gets the next one where it has none.
 pub fn number_of(
     alloc: Global,
-    numbers: &mut BTreeMap<Name, u32>,
+    numbers: &mut IndexMap<Term, u32>,
     text: &Name,
 ) -> Result<u32, WantMemory>
     requires { IsNumbering numbers.old.entries }
@@ -28,26 +29,50 @@ pub fn number_of(
     ensures other_texts { (n : ℕ) → has_number n numbers.old.entries ≡ true
         → text_numbered numbers.new.entries n ≡ text_numbered numbers.old.entries n }
 {
-    if let Some(number) = numbers.get(text) {
+    if let Some(number) = numbers.get(text.text()) {
         return Ok(*number);
     }
     let number = numbers.len();
     if number >= u32::MAX as usize {
         return Err(WantMemory);
     }
-    numbers.insert(text.copy(alloc)?, number as u32)?;
+    let term = Term {
+        text: text.copy(alloc)?,
+    };
+    numbers.insert(term, number as u32)?;
     Ok(number as u32)
 }
 
-/// The place of each text in the order of the texts, by its number.
-pub fn ranks(alloc: Global, numbers: &BTreeMap<Name, u32>) -> Result<Vec<u32>, WantMemory>
-    requires { IsNumbering numbers.now.entries }
-    ensures len { IfOk result (λ ranks. vec_len ranks ≡ length numbers.now.entries) }
-    ensures ranks { IfOk result (λ ranks. (k : ℕ) → k < length numbers.now.entries
-        → slice_index ranks.items (slice_index (map (λ entry. entry.1) numbers.now.entries) k) ≡ k) }
+/// The texts in ascending order, each with its number.
+pub fn in_order(
+    alloc: Global,
+    numbers: IndexMap<Term, u32>,
+) -> Result<Vec<(Term, u32)>, WantMemory>
+    requires { IsNumbering numbers.entries }
+    ensures numbering { IfOk result (λ sorted. IsNumbering sorted.items) }
+    ensures ascending { IfOk result (λ sorted. IsAscending text_cmp (map (λ entry. entry.0) sorted.items)) }
+    ensures texts { IfOk result (λ sorted. (t : Text) → has_text t (map (λ entry. entry.0) sorted.items)
+        ≡ has_text t (map (λ entry. entry.0) numbers.entries)) }
+    ensures has { IfOk result (λ sorted. (n : ℕ) → has_number n numbers.entries ≡ true
+        → has_number n sorted.items ≡ true) }
+    ensures numbered { IfOk result (λ sorted. (n : ℕ) → has_number n numbers.entries ≡ true
+        → text_numbered sorted.items n ≡ text_numbered numbers.entries n) }
 {
-    let in_order: Vec<u32> = numbers.values().copied().collect(alloc)?;
-    places(alloc, &in_order)
+    let mut sorted: Vec<(Term, u32)> = numbers.into_iter().collect(alloc)?;
+    sorted.sort_unstable_by(|a, b| a.0.cmp(&b.0));
+    Ok(sorted)
+}
+
+/// The place of each text among these, by its number.
+pub fn ranks(alloc: Global, sorted: &[(Term, u32)]) -> Result<Vec<u32>, WantMemory>
+    requires numbering { IsNumbering sorted.now }
+    requires ascending { IsAscending text_cmp (map (λ entry. entry.0) sorted.now) }
+    ensures len { IfOk result (λ ranks. vec_len ranks ≡ length sorted.now) }
+    ensures ranks { IfOk result (λ ranks. (k : ℕ) → k < length sorted.now
+        → slice_index ranks.items (slice_index (map (λ entry. entry.1) sorted.now) k) ≡ k) }
+{
+    let numbers: Vec<u32> = sorted.iter().map(|entry| entry.1).collect(alloc)?;
+    places(alloc, &numbers)
 }
 
 // The place of each number in a list of different numbers.
@@ -66,10 +91,13 @@ fn places(alloc: Global, numbers: &[u32]) -> Result<Vec<u32>, WantMemory>
     Ok(places)
 }
 
-/// The texts in ascending order.
-pub fn into_texts(alloc: Global, numbers: BTreeMap<Name, u32>) -> Result<Vec<Name>, WantMemory>
-    ensures texts { IfOk result (λ texts. texts.items ≡ map (λ entry. entry.0) numbers.entries) }
-    ensures ascending { IfOk result (λ texts. IsAscending text_cmp texts.items) }
+/// The texts without their numbers.
+pub fn into_texts(alloc: Global, sorted: Vec<(Term, u32)>) -> Result<Vec<Term>, WantMemory>
+    ensures { IfOk result (λ texts. texts.items ≡ map (λ entry. entry.0) sorted.items) }
 {
-    Ok(numbers.into_keys().collect(alloc)?)
+    let mut texts = Vec::with_capacity(alloc, sorted.len())?;
+    for (term, _) in sorted {
+        texts.push(term)?;
+    }
+    Ok(texts)
 }

@@ -13,6 +13,7 @@ ghost use Rattle.fc_column.specs.Terms.{terms_of, terms_below, terms_up_to, ordi
 use crate::bits::mark;
 use crate::lists::Lists;
 use crate::rows::Rows;
+use crate::term::Term;
 use fc_base::Name;
 use std::marker::Model;
 
@@ -21,7 +22,7 @@ use std::marker::Model;
 /// ordinal of a term is how many stand below it.
 #[derive(Debug, Drop)]
 pub struct TextColumn {
-    pub(crate) terms: Vec<Name>,
+    pub(crate) terms: Vec<Term>,
     pub(crate) ordinals: Rows<u32>,
     // The positions of each ordinal.
     pub(crate) positions: Lists<u32>,
@@ -60,7 +61,7 @@ impl TextColumn {
         requires { ord < length (terms_of self.now) }
         ensures { result.now ≡ slice_index_or (terms_of self.now) ord [] }
     {
-        &self.terms[ord as usize]
+        &self.terms[ord as usize].text
     }
 
     /// The ordinals of the texts of a position, in ascending order.
@@ -79,7 +80,7 @@ impl TextColumn {
         ensures ordinal { IfSome result (λ ord. ord ≡ terms_below self.now text.now) }
         ensures within { IfSome result (λ ord. ord < length (terms_of self.now)) }
     {
-        match self.terms.binary_search_by(|term| term.bytes().cmp(text)) {
+        match self.terms.binary_search_by(|term| term.text.bytes().cmp(text)) {
             Ok(place) => Some(place as u32),
             Err(_) => None,
         }
@@ -90,7 +91,7 @@ impl TextColumn {
         ensures { result ≡ terms_below self.now text.now }
     {
         self.terms
-            .partition_point(|term| term.bytes().cmp(text).is_lt()) as u32
+            .partition_point(|term| term.text.bytes().cmp(text).is_lt()) as u32
     }
 
     /// How many terms stand below a text, by its UTF-8 bytes, or are the text.
@@ -98,7 +99,7 @@ impl TextColumn {
         ensures { result ≡ terms_up_to self.now text.now }
     {
         self.terms
-            .partition_point(|term| term.bytes().cmp(text).is_le()) as u32
+            .partition_point(|term| term.text.bytes().cmp(text).is_le()) as u32
     }
 
     /// The ordinals of the terms that begin with a prefix, by its UTF-8 bytes: from the first number up to but not
@@ -112,7 +113,7 @@ impl TextColumn {
     {
         let from = self
             .terms
-            .partition_point(|term| term.bytes().cmp(prefix).is_lt());
+            .partition_point(|term| term.text.bytes().cmp(prefix).is_lt());
         let to = self
             .terms
             .partition_point(|term| begins_or_is_below(term, prefix));
@@ -165,8 +166,8 @@ impl TextColumn {
 }
 
 // Whether a term is below a prefix or begins with it.
-fn begins_or_is_below(term: &Name, prefix: &[u8]) -> bool
+fn begins_or_is_below(term: &Term, prefix: &[u8]) -> bool
     ensures { result ≡ (is_lt (text_cmp term.now prefix.now) || starts_with nat_eq term.now prefix.now) }
 {
-    term.bytes().cmp(prefix).is_lt() || term.bytes().starts_with(prefix)
+    term.text.bytes().cmp(prefix).is_lt() || term.text.bytes().starts_with(prefix)
 }

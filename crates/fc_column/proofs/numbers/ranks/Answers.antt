@@ -4,12 +4,12 @@ use Rattle.fc_column.proofs.numbers.ranks.Goals as goal
 
 pub places-requires-clause-below : goal.places-requires-clause-below
 places-requires-clause-below c =
-    let entries = c.args.numbers.now.entries in
+    let entries = c.args.sorted.now in
     let are : c.deref.result.now ≡ numbers_in entries = search rules in
-    subst (λ l. All (λ n. n < length l) l) (sym are) (numbers_below entries c.requires)
+    subst (λ l. All (λ n. n < length l) l) (sym are) (numbers_below entries c.requires.numbering)
 
 pub places-requires-clause-different : goal.places-requires-clause-different
 places-requires-clause-different c =
-    let entries = c.args.numbers.now.entries in
+    let entries = c.args.sorted.now in
     let are : c.deref.result.now ≡ numbers_in entries = search rules in
-    subst (AllPairs (λ earlier later. earlier ≢ later)) (sym are) (numbers_differ entries c.requires c.values.ensures.ordered)
+    subst (AllPairs (λ earlier later. earlier ≢ later)) (sym are) (numbers_differ entries c.requires.numbering c.requires.ascending)
