@@ -23,6 +23,7 @@ pub mod MembersGiven
 pub mod MembersOver
 pub mod MembersRead
 pub mod MoreValues
+pub mod Naturals
 pub mod NoId
 pub mod OneMore
 pub mod PairOrder

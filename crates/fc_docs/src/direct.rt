@@ -5,3 +5,4 @@ mod item;
 mod values;
 
 pub use block::read_directly;
+pub use item::integer_of;

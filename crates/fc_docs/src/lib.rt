@@ -8,7 +8,7 @@ mod fault;
 mod read;
 
 pub use block::{Batch, Block};
-pub use direct::read_directly;
+pub use direct::{integer_of, read_directly};
 pub use document::{Document, Fields};
 pub use fault::DocFault;
 pub use read::read_block;

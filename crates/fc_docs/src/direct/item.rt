@@ -63,8 +63,9 @@ fn number_given(alloc: Global, kind: FieldType, digits: &str) -> Result<Option<V
     }
 }
 
-/// The integer of 64 bits signed that a number's text is, where it is one and not `-0`.
-pub(super) fn integer_of(digits: &str) -> Option<i64>
+/// The integer of 64 bits signed that the text of a number's token is, as `serde_json` reads it. None says nothing. It is
+/// answered where the text is no such integer, as that of a fraction or an exponent, or is `-0`.
+pub fn integer_of(digits: &str) -> Option<i64>
     ensures { IfSome result (λ number. option_and_then as_i64 (number_of digits.now) ≡ Some number) }
 {
     let bytes = digits.as_bytes();
