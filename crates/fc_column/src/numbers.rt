@@ -44,10 +44,7 @@ pub fn number_of(
 }
 
 /// The texts in ascending order, each with its number.
-pub fn in_order(
-    alloc: Global,
-    numbers: IndexMap<Term, u32>,
-) -> Result<Vec<(Term, u32)>, WantMemory>
+pub fn in_order(alloc: Global, numbers: IndexMap<Term, u32>) -> Result<Vec<(Term, u32)>, WantMemory>
     requires { IsNumbering numbers.entries }
     ensures numbering { IfOk result (λ sorted. IsNumbering sorted.items) }
     ensures ascending { IfOk result (λ sorted. IsAscending text_cmp (map (λ entry. entry.0) sorted.items)) }

@@ -80,7 +80,10 @@ impl TextColumn {
         ensures ordinal { IfSome result (λ ord. ord ≡ terms_below self.now text.now) }
         ensures within { IfSome result (λ ord. ord < length (terms_of self.now)) }
     {
-        match self.terms.binary_search_by(|term| term.text.bytes().cmp(text)) {
+        match self
+            .terms
+            .binary_search_by(|term| term.text.bytes().cmp(text))
+        {
             Ok(place) => Some(place as u32),
             Err(_) => None,
         }
