@@ -56,7 +56,7 @@ pub fn in_order(alloc: Global, numbers: IndexMap<Term, u32>) -> Result<Vec<(Term
         → text_numbered sorted.items n ≡ text_numbered numbers.entries n) }
 {
     let mut sorted: Vec<(Term, u32)> = numbers.into_iter().collect(alloc)?;
-    sorted.sort_unstable_by(|a, b| a.0.cmp(&b.0));
+    sorted.sort_by(|a, b| a.0.cmp(&b.0))?;
     Ok(sorted)
 }
 
