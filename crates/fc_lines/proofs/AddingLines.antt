@@ -1,5 +1,7 @@
 -- The tokens of a line that adds a block, and what the line says.
-use Rattle.std.proofs.Common.{◌≡◌, ℕ, ◌-◌, ◌<◌, ◌≤◌, List, [], ◌∷◌, length, codes, Option, Some, None, IfSome, Result, Ok, Err, IfOk, refl, ap, ◌∙◌, arith, IsUtf8}
+use Rattle.std.proofs.Common.{◌≡◌, ℕ, ◌-◌, ◌<◌, ◌≤◌, List, [], ◌∷◌, length, codes, Option, Some, None, option_map, option_and_then, IfSome, Result, Ok, Err, IfOk, refl, ap, ◌∙◌, arith, IsUtf8, ℤ, pos, negsuc, sym}
+use Rattle.std.specs.Int.{FitsUnsignedBits}
+use Rattle.std.specs.Int.RustNames.{unsigned_abs}
 use Rattle.std.proofs.lemmas.Bool.{le-leb, lt-ltb}
 use Rattle.json.specs.Token.{Token}
 use Rattle.json.specs.Json as json
@@ -7,6 +9,7 @@ use Rattle.json.specs.Json.{parse_map, if_last}
 use Rattle.json.specs.Lex.{tokens}
 use Rattle.json.proofs.Grammar.{left, skip_value-shorter}
 use Rattle.serde_json.specs.Data.{Data, object, number, unsigned, Members, no_members, member, put}
+use Rattle.serde_json.specs.Find.{as_i64}
 use Rattle.serde_json.specs.Read.{converted, of_json, number_of, read}
 use Rattle.fc_spec.specs.documents.BlockReading.{block_of}
 use Rattle.fc_spec.specs.documents.Document.{Block}
@@ -15,6 +18,7 @@ use Rattle.fc_spec.specs.scripts.LineReading.{added_shard, add_of}
 use Rattle.fc_spec.specs.scripts.Script.{add}
 use Rattle.fc_docs.specs.Direct.{GivesBlock, Spells}
 use Rattle.fc_docs.proofs.JsonTokens.{converted_some, member_read, members_over, object_opened, token_alone}
+use Rattle.fc_docs.proofs.Naturals.{unsigned_from}
 use Rattle.fc_lines.specs.AddedTokens.{GivesAdded, GivesShard, GivesShardBehind, SaysAdd, SpellsMembers, add_members}
 use Rattle.fc_lines.specs.AskedLines.{asked_on}
 use Rattle.fc_lines.proofs.CutLines.{json_of_read}
@@ -40,11 +44,16 @@ members_ended new found depth n deep enough = members_over (json.value depth) fo
 
 -- ---- shards
 
-pub shard_given : (shards n : ℕ) (digits : List ℕ) (new : List Token) → number_of digits ≡ Some (unsigned n) → n < shards
+-- an integer that fits 32 bits without a sign
+pub natural_is : (z : ℤ) (n : ℕ) → FitsUnsignedBits 32 z → n ≡ unsigned_abs z → z ≡ pos n
+natural_is (pos m) n fits is = ap pos (sym is)
+natural_is (negsuc m) n fits is = absurd fits
+
+pub shard_given : (shards n : ℕ) (digits : List ℕ) (new : List Token) → option_and_then as_i64 (number_of digits) ≡ Some (pos n) → n < shards
     → GivesShard shards (Token.number digits ∷ new) new n
 shard_given shards n digits new is below = record {
   said = number (unsigned n);
-  spells = λ depth deep. token_alone depth (Token.number digits) new (number (unsigned n)) (rw is);
+  spells = λ depth deep. token_alone depth (Token.number digits) new (number (unsigned n)) (ap (option_map number) (unsigned_from digits n is));
   is = rw (lt-ltb n shards below) refl;
   below = below;
 }

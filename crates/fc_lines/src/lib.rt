@@ -10,7 +10,7 @@ mod schema_line;
 mod value;
 
 pub use fault::{LineFault, ScriptFault, at_line};
-pub use line::{Line, line_on};
+pub use line::{Line, begins_as_block, line_on};
 pub use lines::Lines;
 pub use refusal_line::fault_line;
 pub use schema_line::schema_on;

@@ -14,6 +14,7 @@ mod taking;
 use crate::fault::LineFault;
 use crate::value::value_on;
 use adding::added_on;
+pub use adding::begins_as_block;
 use fc_base::{Name, Refusal, Schema};
 use fc_docs::Block;
 use fc_request::{Request, RequestFault};

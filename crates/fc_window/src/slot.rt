@@ -5,7 +5,7 @@ ghost use Rattle.fc_window.specs.Ahead.{IsAhead, IsPlaced};
 
 use fc_base::{Refusal, Schema};
 use fc_docs::Block;
-use fc_lines::{Line, LineFault, line_on};
+use fc_lines::{Line, LineFault, begins_as_block, line_on};
 use json::Scratch;
 use std::alloc::Global;
 use std::mem;
@@ -37,7 +37,7 @@ fn block_ahead(alloc: Global, schema: &Schema, scratch: &mut Scratch, text: &[u8
     ensures answer { IsAhead (asked_on schema.now text.now) result }
     ensures placed { IfOk result (IsPlaced schema.now) }
 {
-    if text.starts_with(b"{\"add\"") {
+    if begins_as_block(text) {
         block_on(alloc, schema, scratch, text)
     } else {
         Ok(None)

@@ -1,6 +1,7 @@
 // Lines that add a block and have no fault, read from their tokens.
-ghost use Rattle.std.specs.Prelude.{◌≡◌, ◌∷◌, ◌<◌, [], codes, IfOk, IfSome, Ok};
+ghost use Rattle.std.specs.Prelude.{◌≡◌, ◌∷◌, ◌<◌, [], codes, IfOk, IfSome, Ok, nat_eq};
 ghost use Rattle.std.specs.Bool.{OnTrue};
+ghost use Rattle.std.specs.List.{starts_with};
 ghost use Rattle.json.specs.Token as token;
 ghost use Rattle.fc_spec.specs.documents.ValidBlocks.{IsBlockOf};
 ghost use Rattle.fc_spec.specs.scripts.Script.{add};
@@ -57,6 +58,13 @@ fn read_tokens(
     }
 }
 
+/// Whether a line begins as lines that add a block do as a rule. One that does not may add a block in another spelling.
+pub fn begins_as_block(text: &[u8]) -> bool
+    ensures { result ≡ starts_with nat_eq text.now (codes "{\"add\"") }
+{
+    text.starts_with(b"{\"add\"")
+}
+
 /// The shard and the block that a line adds, where it begins as such lines do as a rule. None says nothing: such a line may
 /// have a fault, or add a block in another spelling.
 pub(super) fn added_on(
@@ -70,7 +78,7 @@ pub(super) fn added_on(
     ensures valid { IfOk result (λ found. IfSome found (λ added.
         (added.0 < schema.now.shards) × IsBlockOf schema.now (block_view added.1))) }
 {
-    if !text.starts_with(b"{\"add\"") {
+    if !begins_as_block(text) {
         return Ok(None);
     }
     if text.len() > LINE_LIMIT {
