@@ -167,11 +167,20 @@ fn one_more(
 fn in_one(alloc: Global, batches: Vec<Batch>) -> Result<Batch, WantMemory>
     ensures { IfOk result (λ all. batch_view all ≡ joined (map batch_view batches.items)) }
 {
-    let mut blocks = Vec::new(alloc);
+    let mut blocks = Vec::with_capacity(alloc, room_for(&batches))?;
     for mut batch in batches {
         blocks.append(&mut batch.blocks)?;
     }
     Ok(Batch { blocks })
+}
+
+// The room that the blocks of all of them take.
+fn room_for(batches: &[Batch]) -> usize {
+    let mut room: usize = 0;
+    for batch in batches {
+        room = room.saturating_add(batch.blocks.len());
+    }
+    room
 }
 
 // Shares segments, with room for one more.
