@@ -61,11 +61,14 @@ fn pick(positions: &[u32], docs: &DocSet, into: &mut DocSet)
     }
 }
 
-// Whether the documents of the set have fewer integers than so many, where one without any counts as if it had one. It looks at
-// no more documents than that.
+// Whether the documents of the set have fewer integers than so many, where one without any counts as if it had one. It reads the
+// integers of none where the documents alone are as many.
 fn have_fewer(column: &LongColumn, docs: &DocSet, many: usize) -> bool
     requires { length docs.now ≡ length column.now }
 {
+    if docs.count() as usize >= many {
+        return false;
+    }
     let mut left = many;
     for at in docs.iter() {
         let own = column.values_of(at).len().max(1);
