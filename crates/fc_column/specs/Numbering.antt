@@ -1,4 +1,4 @@
--- Texts with numbers, in the order of the texts.
+-- Texts with numbers, in any order.
 use Rattle.std.specs.Prelude.{◌≡◌, ℕ, ◌^◌, ◌<◌, Bool, true, cond, ◌==◌, List, [], ◌∷◌, length, All}
 use Rattle.std.specs.List.{list_any}
 use Rattle.fc_spec.specs.documents.Val.{Text}

@@ -59,8 +59,8 @@ impl TextBuilder {
     }
 
     /// Adds a position with these values, which stand in index order, each once. There are at most
-    /// 4,294,967,295 positions, values and terms, as a `u32` counts them: one more is answered as want
-    /// of memory.
+    /// 4,294,967,295 positions and values, as a `u32` counts them, and as many terms as a hash table has
+    /// room for (2,415,919,104): one more is answered as want of memory.
     pub fn push_doc(&mut self, values: &[Val]) -> Result<(), WantMemory>
         requires texts { All IsText (map val_view values.now) }
         requires ascending { IsAscending val_cmp (map val_view values.now) }

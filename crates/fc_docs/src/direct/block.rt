@@ -125,7 +125,7 @@ fn read_each(
             None => return Ok(None),
         }
     }
-    // They are kept for the whole run.
+    // They are kept until their block is committed.
     children.shrink_to_fit();
     Ok(Some(children))
 }

@@ -58,7 +58,8 @@ fn read_tokens(
     }
 }
 
-/// Whether a line begins as lines that add a block do as a rule. One that does not may add a block in another spelling.
+/// Whether a line begins with `{"add"`, as lines that add a block do as a rule. One that does not may add a block in another
+/// spelling.
 pub fn begins_as_block(text: &[u8]) -> bool
     ensures { result ≡ starts_with nat_eq text.now (codes "{\"add\"") }
 {
