@@ -8,10 +8,10 @@ use Rattle.std.specs.List.{list_any}
 use Rattle.fc_spec.specs.documents.Val.{Text, same_text, text_cmp}
 use Rattle.fc_spec.specs.documents.Columns.{IsAscending}
 use Rattle.fc_column.specs.Terms.{has_text}
-use Rattle.fc_column.specs.Numbering.{has_number, text_numbered, IsNumbering}
+use Rattle.fc_column.specs.Numbering.{has_number, text_numbered, IsNumbering, texts_numbered}
 use Rattle.fc_column.specs.TextBuilder.{IsSound}
 use Rattle.fc_column.specs.declared.builder.TextBuilder.TheInside.{Inside}
-use Rattle.fc_column.proofs.Numberings.{Entries, texts_of}
+use Rattle.fc_column.proofs.Numberings.{Entries}
 
 -- the entries got the texts of the next position, which has these numbers
 pub record Grown (old new : Entries) (next : List ℕ) (texts : List Text) : Type 0 where
@@ -20,7 +20,7 @@ pub record Grown (old new : Entries) (next : List ℕ) (texts : List Text) : Typ
   pub other_texts : (n : ℕ) → has_number n old ≡ true → text_numbered new n ≡ text_numbered old n
   pub numbered : All (λ n. has_number n new ≡ true) next
   pub made : map (text_numbered new) next ≡ texts
-  pub used : (t : Text) → has_text t (texts_of new) ≡ (has_text t (texts_of old) || has_text t texts)
+  pub used : (t : Text) → has_text t (texts_numbered new) ≡ (has_text t (texts_numbered old) || has_text t texts)
 
 or_last : (a b c : Bool) → (a || (b || c)) ≡ (b || (c || (a || false)))
 or_last true true c = refl
@@ -38,7 +38,7 @@ grown_none old next numbering none = record {
   other_texts = λ n has. refl;
   numbered = λ k d inside. absurd (omega (arith, ap length none));
   made = ap (map (text_numbered old)) none;
-  used = λ t. sym (or-false (has_text t (texts_of old)));
+  used = λ t. sym (or-false (has_text t (texts_numbered old)));
 }
 
 -- numbers that stay have the texts that they had
@@ -50,7 +50,7 @@ same_texts old new (n ∷ numbers) numbered same =
 
 pub grown_more : (old mid new : Entries) (next : List ℕ) (texts : List Text) (n : ℕ) (t : Text) → Grown old mid next texts
     → IsNumbering new → has_number n new ≡ true → text_numbered new n ≡ t
-    → ((u : Text) → has_text u (texts_of new) ≡ (same_text u t || has_text u (texts_of mid)))
+    → ((u : Text) → has_text u (texts_numbered new) ≡ (same_text u t || has_text u (texts_numbered mid)))
     → ((m : ℕ) → has_number m mid ≡ true → has_number m new ≡ true) → ((m : ℕ) → has_number m mid ≡ true → text_numbered new m ≡ text_numbered mid m)
     → Grown old new (next ++ n ∷ []) (texts ++ t ∷ [])
 grown_more old mid new next texts n t grown numbering has text added others other_texts = record {
@@ -60,8 +60,8 @@ grown_more old mid new next texts n t grown numbering has text added others othe
   numbered = All-push (λ m. has_number m new ≡ true) next n (λ k d inside. others (get_or next k d) (grown.numbered k d inside)) has;
   made = map-append (text_numbered new) next (n ∷ []) ∙ ap₂ (λ l u. l ++ u ∷ []) (same_texts mid new next grown.numbered other_texts ∙ grown.made) text;
   used = λ u. added u ∙ ap (λ b. same_text u t || b) (grown.used u)
-      ∙ or_last (same_text u t) (has_text u (texts_of old)) (has_text u texts)
-      ∙ ap (λ b. has_text u (texts_of old) || b) (sym (list_any-append (same_text u) texts (t ∷ [])));
+      ∙ or_last (same_text u t) (has_text u (texts_numbered old)) (has_text u texts)
+      ∙ ap (λ b. has_text u (texts_numbered old) || b) (sym (list_any-append (same_text u) texts (t ∷ [])));
 }
 
 -- ---- the positions that were there
@@ -82,7 +82,7 @@ rows_more old new rows next texts numbered grown =
     map-append (map (text_numbered new)) rows (next ∷ []) ∙ ap₂ (λ l t. l ++ t ∷ []) (same_rows old new rows numbered grown.other_texts) grown.made
 
 pub used_more : (old new : Entries) (next : List ℕ) (texts : List Text) (column : List (List Text)) → Grown old new next texts
-    → ((t : Text) → has_text t (texts_of old) ≡ list_any (has_text t) column) → (t : Text) → has_text t (texts_of new) ≡ list_any (has_text t) (column ++ texts ∷ [])
+    → ((t : Text) → has_text t (texts_numbered old) ≡ list_any (has_text t) column) → (t : Text) → has_text t (texts_numbered new) ≡ list_any (has_text t) (column ++ texts ∷ [])
 used_more old new next texts column grown used t =
     grown.used t ∙ ap₂ (λ a b. a || b) (used t) (sym (or-false (has_text t texts))) ∙ sym (list_any-append (has_text t) column (texts ∷ []))
 

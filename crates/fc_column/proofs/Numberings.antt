@@ -1,5 +1,5 @@
 -- Texts with numbers, after a look-up and after one more.
-use Rattle.std.proofs.Common.{◌≡◌, ℕ, suc, ◌+◌, ◌^◌, ◌<◌, inl, inr, Bool, true, false, true≢false, cond, ◌||◌, ◌==◌, Some, List, [], ◌∷◌, ◌++◌, length, get_or, map, All, refl, sym, ap, ap₂, ◌∙◌, subst, arith, eq-eqb, eqb-true, length-append}
+use Rattle.std.proofs.Common.{◌≡◌, ℕ, suc, ◌+◌, ◌^◌, ◌<◌, inl, inr, Bool, true, false, true≢false, cond, ◌||◌, ◌==◌, Some, List, [], ◌∷◌, ◌++◌, length, get_or, All, refl, sym, ap, ap₂, ◌∙◌, subst, arith, eq-eqb, eqb-true, length-append}
 use Rattle.std.proofs.lemmas.Bool.{or_parts, or_cases, or_right, false_from_ne_true}
 use Rattle.std.proofs.lemmas.List.{map-append, get_or-map, length-map}
 use Rattle.std.proofs.lemmas.List.Elements.{All-push}
@@ -8,13 +8,10 @@ use Rattle.std.specs.Cmp.Lexicographic.{pointwise, bytes_decides}
 use Rattle.std.specs.Map.{lookup}
 use Rattle.fc_spec.specs.documents.Val.{Text, same_text}
 use Rattle.fc_column.specs.Terms.{has_text}
-use Rattle.fc_column.specs.Numbering.{has_number, text_numbered, IsNumbering}
+use Rattle.fc_column.specs.Numbering.{has_number, text_numbered, IsNumbering, texts_numbered}
 
 abbrev pub Entries : Type 0
 Entries = List (Text × ℕ)
-
-abbrev pub texts_of : Entries → List Text
-texts_of entries = map (λ entry. entry.0) entries
 
 -- ---- a look-up that finds
 pub record Found (entries : Entries) (t : Text) (n : ℕ) : Type 0 where
@@ -38,7 +35,7 @@ entry_found (entry ∷ entries) t n gives = go (pointwise (◌==◌) t entry.0) 
 
 -- ---- an entry behind others
 -- the text of a number that is among the first
-text_of_first : (front back : Entries) (n : ℕ) → has_number n front ≡ true → text_numbered (front ++ back) n ≡ text_numbered front n
+pub text_of_first : (front back : Entries) (n : ℕ) → has_number n front ≡ true → text_numbered (front ++ back) n ≡ text_numbered front n
 text_of_first [] back n has = absurd (true≢false (sym has))
 text_of_first (entry ∷ front) back n has = go (entry.1 == n) has (text_of_first front back n)
   where
@@ -77,12 +74,12 @@ module _ (old new : Entries) (t : Text) (numbering : IsNumbering old) (is : new 
       ap (has_number m) is ∙ list_any-append (λ (entry : Text × ℕ). entry.1 == m) old ((t, length old) ∷ [])
       ∙ or_turned (has_number m old) (length old == m)
 
-  texts_more : (u : Text) → has_text u (texts_of new) ≡ (same_text u t || has_text u (texts_of old))
+  texts_more : (u : Text) → has_text u (texts_numbered new) ≡ (same_text u t || has_text u (texts_numbered old))
   texts_more u =
-      ap (λ l. has_text u (texts_of l)) is
+      ap (λ l. has_text u (texts_numbered l)) is
       ∙ ap (has_text u) (map-append (λ (entry : Text × ℕ). entry.0) old ((t, length old) ∷ []))
-      ∙ list_any-append (same_text u) (texts_of old) (t ∷ [])
-      ∙ or_turned (has_text u (texts_of old)) (same_text u t)
+      ∙ list_any-append (same_text u) (texts_numbered old) (t ∷ [])
+      ∙ or_turned (has_text u (texts_numbered old)) (same_text u t)
 
   new_has : has_number (length old) new ≡ true
   new_has = numbers_more (length old) ∙ ap (λ b. b || has_number (length old) old) (eq-eqb (length old) (length old) refl)
@@ -120,15 +117,15 @@ module _ (entries : Entries) (t : Text) (n : ℕ) (numbering : IsNumbering entri
       ap (λ entry. text_numbered entries entry.1) (sym here) ∙ numbering.own found.place (t, n) found.inside ∙ ap (λ entry. entry.0) here
 
   -- no text is new
-  found_texts : (u : Text) → has_text u (texts_of entries) ≡ (same_text u t || has_text u (texts_of entries))
+  found_texts : (u : Text) → has_text u (texts_numbered entries) ≡ (same_text u t || has_text u (texts_numbered entries))
   found_texts u = go (same_text u t) refl
     where
-      there : same_text u t ≡ true → has_text u (texts_of entries) ≡ true
+      there : same_text u t ≡ true → has_text u (texts_numbered entries) ≡ true
       there same =
-          list_any_at (same_text u) (texts_of entries) found.place t (omega (arith, found.inside, length-map entries (λ (entry : Text × ℕ). entry.0)))
+          list_any_at (same_text u) (texts_numbered entries) found.place t (omega (arith, found.inside, length-map entries (λ (entry : Text × ℕ). entry.0)))
           (ap (same_text u) (get_or-map (λ (entry : Text × ℕ). entry.0) entries found.place (t, n) t found.inside ∙ ap (λ entry. entry.0) (found.is (t, n))) ∙ same)
 
-      go : (b : Bool) → same_text u t ≡ b → has_text u (texts_of entries) ≡ (b || has_text u (texts_of entries))
+      go : (b : Bool) → same_text u t ≡ b → has_text u (texts_numbered entries) ≡ (b || has_text u (texts_numbered entries))
       go true same = there same
       go false other = refl
 
@@ -137,7 +134,7 @@ pub record IsNumberOf (old new : Entries) (t : Text) (n : ℕ) : Type 0 where
   pub numbering : IsNumbering new
   pub has : has_number n new ≡ true
   pub text : text_numbered new n ≡ t
-  pub texts : (u : Text) → has_text u (texts_of new) ≡ (same_text u t || has_text u (texts_of old))
+  pub texts : (u : Text) → has_text u (texts_numbered new) ≡ (same_text u t || has_text u (texts_numbered old))
   pub others : (m : ℕ) → has_number m old ≡ true → has_number m new ≡ true
   pub other_texts : (m : ℕ) → has_number m old ≡ true → text_numbered new m ≡ text_numbered old m
 

@@ -16,3 +16,7 @@ pub mod Terms
 pub mod Dictionary
 pub mod Numbering
 pub mod TextBuilder
+pub mod Kept
+pub mod LongMerger
+pub mod MergedTerms
+pub mod TextMerger

@@ -1,7 +1,10 @@
 -- Texts with numbers, in any order.
-use Rattle.std.specs.Prelude.{◌≡◌, ℕ, ◌^◌, ◌<◌, Bool, true, cond, ◌==◌, List, [], ◌∷◌, length, All}
+use Rattle.std.specs.Prelude.{◌≡◌, ℕ, ◌^◌, ◌<◌, Bool, true, cond, ◌==◌, List, [], ◌∷◌, length, map, All}
 use Rattle.std.specs.List.{list_any}
 use Rattle.fc_spec.specs.documents.Val.{Text}
+
+abbrev pub texts_numbered : List (Text × ℕ) → List Text
+texts_numbered entries = map (λ entry. entry.0) entries
 
 -- whether a text has the number
 abbrev pub has_number : ℕ → List (Text × ℕ) → Bool

@@ -4,10 +4,10 @@ ghost use Rattle.fc_spec.specs.documents.Columns.{IsText, IsAscending, texts_in}
 ghost use Rattle.fc_spec.specs.documents.Val.{val_cmp};
 ghost use Rattle.fc_base.specs.View.{val_view};
 
-use crate::TextColumn;
 use crate::entries::Entries;
-use crate::numbers::{in_order, into_texts, number_of, ranks};
+use crate::numbers::number_of;
 use crate::term::Term;
+use crate::{TextColumn, TextMerger};
 use fc_base::{Val, WantMemory};
 use indexmap::IndexMap;
 use std::alloc::Global;
@@ -100,17 +100,10 @@ impl TextBuilder {
         if self.spent {
             return Err(WantMemory);
         }
-        let sorted = in_order(self.alloc, self.numbers)?;
-        let ranks = ranks(self.alloc, &sorted)?;
-        let terms = into_texts(self.alloc, sorted)?;
-        let mut rows = self.rows;
-        rows.renumber(&ranks);
-        let ordinals = rows.rows(self.alloc)?;
-        let positions = rows.positions(self.alloc, terms.len() as u32)?;
-        Ok(TextColumn {
-            terms,
-            ordinals,
-            positions,
-        })
+        let count = self.numbers.len() as u32;
+        let texts: Vec<(Term, u32)> = self.numbers.into_iter().collect(self.alloc)?;
+        let merger = TextMerger::of(self.alloc, texts, count, self.rows);
+        let column = merger.finish()?;
+        Ok(column)
     }
 }

@@ -1,6 +1,6 @@
 // Items with their positions, in the order of the positions.
-ghost use Rattle.std.specs.Prelude.{◌≡◌, ◌<◌, ℕ, ℤ, Bool, ◌==◌, ◌&&◌, ◌∷◌, ◌++◌, [], length, map, replicate, slice_index, slice_index_or, count_by, vec_len, All, IfOk, OnOk, OnErr};
-ghost use Rattle.std.specs.List.{range_with_len};
+ghost use Rattle.std.specs.Prelude.{◌≡◌, ◌<◌, ◌+◌, ◌^◌, ℕ, ℤ, Bool, ◌==◌, ◌&&◌, ◌∷◌, ◌++◌, [], length, map, replicate, slice_index, slice_index_or, count_by, vec_len, All, IfOk, OnOk, OnErr};
+ghost use Rattle.std.specs.List.{items_where_true, range_with_len};
 ghost use Rattle.std.specs.List.Sorted.{IsStrictlyIncreasing};
 ghost use Rattle.fc_docset.specs.Positions.{positions};
 ghost use Rattle.fc_column.specs.Among.{is_among};
@@ -11,6 +11,7 @@ use crate::numbered::positions_of_numbers;
 use crate::ordered::in_order;
 use crate::rows::Rows;
 use fc_base::WantMemory;
+use fc_docset::DocSet;
 use std::alloc::Global;
 use std::marker::Model;
 
@@ -107,6 +108,36 @@ impl<T: Copy> Entries<T> {
 }
 
 impl Entries<u32> {
+    // Adds a position with these numbers, to each of which another is added.
+    fn add_row(&mut self, row: &[u32], more: u32) -> Result<(), WantMemory>
+        requires small { All (λ number. number + more < 2 ^ 32) row.now }
+        requires whole { self.old.next ≡ [] }
+        ensures { OnOk result (self.new ≡ record
+            { rows = self.old.rows ++ map (λ number. number + more) row.now ∷ []; next = [] }) }
+    {
+        for number in row {
+            self.push(*number + more)?;
+        }
+        self.end_row()
+    }
+
+    /// Adds the rows of the positions in a set, one behind the other; to each of their numbers another is added.
+    pub fn add_rows(&mut self, rows: &Rows<u32>, live: &DocSet, more: u32) -> Result<(), WantMemory>
+        requires length { length live.now ≡ length rows.now }
+        requires small { All (All (λ number. number + more < 2 ^ 32)) rows.now }
+        requires whole { self.old.next ≡ [] }
+        ensures { OnOk result (self.new ≡ record {
+          rows = self.old.rows
+              ++ map (map (λ number. number + more)) (items_where_true live.now rows.now);
+          next = [];
+        }) }
+    {
+        for at in live.iter() {
+            self.add_row(rows.row(at), more)?;
+        }
+        Ok(())
+    }
+
     /// Puts the number that stands at its place in the list in place of each item.
     pub fn renumber(&mut self, numbers: &[u32])
         requires within { All (All (λ item. item < length numbers.now)) self.old.rows }
@@ -134,6 +165,31 @@ impl Entries<u32> {
 }
 
 impl Entries<i64> {
+    // Adds a position with these integers.
+    fn add_row(&mut self, row: &[i64]) -> Result<(), WantMemory>
+        requires { self.old.next ≡ [] }
+        ensures { OnOk result (self.new
+            ≡ record { rows = self.old.rows ++ row.now ∷ []; next = [] }) }
+    {
+        for value in row {
+            self.push(*value)?;
+        }
+        self.end_row()
+    }
+
+    /// Adds the rows of the positions in a set, one behind the other.
+    pub fn add_rows(&mut self, rows: &Rows<i64>, live: &DocSet) -> Result<(), WantMemory>
+        requires length { length live.now ≡ length rows.now }
+        requires whole { self.old.next ≡ [] }
+        ensures { OnOk result (self.new ≡ record
+            { rows = self.old.rows ++ items_where_true live.now rows.now; next = [] }) }
+    {
+        for at in live.iter() {
+            self.add_row(rows.row(at))?;
+        }
+        Ok(())
+    }
+
     /// The integers in ascending order, and beside each its position.
     pub fn in_order(&self, alloc: Global) -> Result<(Vec<i64>, Vec<u32>), WantMemory>
         requires { self.now.next ≡ [] }

@@ -8,6 +8,7 @@ ghost use Rattle.fc_base.specs.View.{val_view};
 ghost use Rattle.fc_spec.specs.documents.IntegerTexts.{is_long};
 ghost use Rattle.fc_spec.specs.words.Lists.{is_empty};
 ghost use Rattle.fc_column.specs.Longs.{AreThere, is_between, has_between};
+ghost use Rattle.fc_column.specs.Ordered.{AreInOrder};
 
 use crate::bits::mark;
 use crate::entries::Entries;
@@ -59,6 +60,36 @@ impl LongColumn {
             (Some(least), Some(greatest)) => Some((*least, *greatest)),
             _ => None,
         }
+    }
+
+    // The column of these rows, whose integers stand in order.
+    pub(crate) fn of(rows: Rows<i64>, values: Vec<i64>, positions: Vec<u32>) -> LongColumn
+        requires ascending { All (IsAscending int_cmp) rows }
+        requires long { All (All (λ value. is_long value ≡ true)) rows }
+        requires order { AreInOrder values.items positions.items rows }
+        ensures { result ≡ rows }
+    {
+        LongColumn {
+            rows,
+            values,
+            positions,
+        }
+    }
+
+    // The integers of each position.
+    pub(crate) fn rows(&self) -> &Rows<i64>
+        ensures rows { result.now ≡ self.now }
+        ensures ascending { All (IsAscending int_cmp) self.now }
+        ensures long { All (All (λ value. is_long value ≡ true)) self.now }
+    {
+        &self.rows
+    }
+
+    // The integers of all positions in ascending order, and beside each its position.
+    pub(crate) fn in_order(&self) -> (&[i64], &[u32])
+        ensures { AreInOrder result.0.now result.1.now self.now }
+    {
+        (&self.values, &self.positions)
     }
 
     /// The integers of a position.
