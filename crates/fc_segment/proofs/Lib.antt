@@ -7,3 +7,4 @@ pub mod WalkedFields
 pub mod WalkedDocuments
 pub mod StoredBlocks
 pub mod BlockMarks
+pub mod MergedParts

@@ -2,6 +2,7 @@ pub mod Parents
 pub mod BlockPositions
 pub mod Cut
 pub mod Segmented
+pub mod Merged
 pub mod Columns
 pub mod Building
 pub mod Walked

@@ -1,9 +1,10 @@
-//! Segments: the blocks of a batch, as one column for each field.
+//! Segments: blocks as one column for each field, of a batch, or of other segments.
 #![tactic(auto)]
 
 mod builder;
 mod column;
 mod columns;
+mod merged;
 mod parents;
 mod segment;
 

@@ -1,24 +1,29 @@
 // Segments.
-ghost use Rattle.std.specs.Prelude.{◌≡◌, ◌<◌, ◌≤◌, length, slice_index_or, All, IfOk, false};
+ghost use Rattle.std.specs.Prelude.{◌≡◌, ◌<◌, ◌≤◌, length, map, slice_index_or, All, IfOk, false};
+ghost use Rattle.std.specs.Arc.{arc_value};
 ghost use Rattle.fc_spec.specs.documents.Columns.{column_of};
+ghost use Rattle.fc_spec.specs.documents.Live.{live_in_all, HaveWholeBlocks};
 ghost use Rattle.fc_spec.specs.documents.Totals.{document_total, documents_in};
 ghost use Rattle.fc_spec.specs.documents.Schema.{texts_held};
 ghost use Rattle.fc_spec.specs.documents.ValidBlocks.{IsBlockOf};
 ghost use Rattle.fc_docs.specs.View.{batch_view};
 ghost use Rattle.fc_segment.specs.BlockPositions.{first_in_block, parent_in_block};
 ghost use Rattle.fc_segment.specs.Columns.{column_values, is_text_column};
+ghost use Rattle.fc_segment.specs.Merged.{blocks_each};
 ghost use Rattle.fc_segment.specs.Parents.{parents_in};
 
 use crate::Column;
 use crate::columns::columns_of;
+use crate::merged::{merged_columns, merged_parents};
 use crate::parents::parents_of;
 use fc_base::{FieldId, Schema, WantMemory};
 use fc_docs::Batch;
 use fc_docset::DocSet;
 use std::alloc::Global;
 use std::marker::Model;
+use std::sync::Arc;
 
-/// The blocks of a batch, which nothing changes, as one column for each field of the schema. Its
+/// Blocks that nothing changes, as one column for each field of the schema. Its
 /// documents stand at positions from 0, block after block, each parent behind its children.
 #[derive(Debug, Drop)]
 pub struct Segment {
@@ -49,6 +54,31 @@ impl Segment {
         Ok(Segment {
             parents: parents_of(alloc, &batch.blocks)?,
             columns: columns_of(alloc, schema, batch)?,
+        })
+    }
+
+    /// The live blocks of segments, one segment behind the other: those whose positions are in the set of their segment. No
+    /// document is read again, and no text is compared for a document.
+    pub fn merge(
+        alloc: Global,
+        schema: &Schema,
+        segments: &[Arc<Segment>],
+        live: &[DocSet],
+    ) -> Result<Segment, WantMemory>
+        requires even { length segments.now ≡ length live.now }
+        requires whole { HaveWholeBlocks (blocks_each (map arc_value segments.now)) live.now }
+        requires kinds { All (λ segment. segment.texts ≡ texts_held schema.now.fields)
+            (map arc_value segments.now) }
+        requires valid { All (IsBlockOf schema.now)
+            (live_in_all (blocks_each (map arc_value segments.now)) live.now) }
+        ensures { IfOk result (λ segment. segment ≡ record {
+          texts = texts_held schema.now.fields;
+          blocks = live_in_all (blocks_each (map arc_value segments.now)) live.now;
+        }) }
+    {
+        Ok(Segment {
+            parents: merged_parents(alloc, segments, live)?,
+            columns: merged_columns(alloc, schema, segments, live)?,
         })
     }
 
