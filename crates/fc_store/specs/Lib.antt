@@ -1,5 +1,6 @@
 pub mod Generated
 pub mod Segments
+pub mod Tiers
 pub mod Built
 pub mod Charters
 pub mod Ends

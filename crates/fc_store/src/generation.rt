@@ -1,5 +1,5 @@
 // Generations of a shard.
-ghost use Rattle.std.specs.Prelude.{◌≡◌, ◌+◌, ◌<◌, ◌≤◌, ◌++◌, [], length, map, All, IfOk};
+ghost use Rattle.std.specs.Prelude.{◌≡◌, ◌+◌, ◌-◌, ◌<◌, ◌≤◌, ◌++◌, [], length, map, take, All, IfOk};
 ghost use Rattle.std.specs.Arc.{arc_value};
 ghost use Rattle.fc_spec.specs.documents.Schema.{texts_held};
 ghost use Rattle.fc_spec.specs.documents.ValidBlocks.{IsBlockOf};
@@ -8,7 +8,9 @@ ghost use Rattle.fc_docs.specs.View.{batch_view};
 ghost use Rattle.fc_store.specs.Generated.{blocks_of};
 ghost use Rattle.fc_store.specs.Charters.{IsBatchOf};
 ghost use Rattle.fc_store.specs.Segments.{AreSegmentsOf};
+ghost use Rattle.fc_store.specs.Tiers.{AreTiered, sizes_of};
 
+use crate::merging::leveled;
 use fc_base::{Schema, WantMemory};
 use fc_docs::Batch;
 use fc_segment::Segment;
@@ -17,7 +19,7 @@ use std::marker::Model;
 use std::sync::Arc;
 
 /// The blocks of a shard's first batches, joined, which nothing changes. Its number is that of the
-/// batches. Generations share their segments.
+/// batches. Generations share their segments, each of which has at least twice as many documents as the next one, so they are few.
 #[derive(Debug, Drop)]
 pub struct Generation {
     schema: Arc<Schema>,
@@ -52,7 +54,8 @@ impl Generation {
         Ok(Arc::new(alloc, first)?)
     }
 
-    /// The generation after an earlier one: its blocks, and then those of a batch, perhaps none. They make one segment, if any.
+    /// The generation after an earlier one: its blocks, and then those of a batch, perhaps none. They make one segment, if any, which is
+    /// merged with so many of those ahead of it as have not twice as many documents.
     pub fn next(
         alloc: Global,
         earlier: &Generation,
@@ -75,7 +78,7 @@ impl Generation {
     }
 
     /// The generation after an earlier one and a commit of each of these batches: its blocks, and then those of the batches, in
-    /// order. They make one segment, whatever their number, and none where no batch has a block.
+    /// order. They make one segment, whatever their number, and none where no batch has a block; it is merged as that of one batch is.
     pub fn after(
         alloc: Global,
         earlier: &Generation,
@@ -112,6 +115,7 @@ impl Generation {
         ensures kinds { All (λ segment. segment.texts ≡ texts_held self.now.schema.fields)
             (map arc_value result.now) }
         ensures valid { All (IsBlockOf self.now.schema) self.now.blocks }
+        ensures tiers { AreTiered (sizes_of (map arc_value result.now)) }
     {
         &self.segments
     }
@@ -122,12 +126,13 @@ impl Generation {
         ensures kinds { IfOk result (λ shared. All (λ segment. segment.texts ≡ texts_held self.now.schema.fields)
             (map arc_value shared.items)) }
         ensures valid { All (IsBlockOf self.now.schema) self.now.blocks }
+        ensures tiers { IfOk result (λ shared. AreTiered (sizes_of (map arc_value shared.items))) }
     {
         shared(alloc, self.segments())
     }
 }
 
-// The segments of a generation, shared, and one that holds the blocks of a batch, if it has any.
+// The segments of a generation, shared, with the blocks of a batch, if it has any.
 fn segments_with(
     alloc: Global,
     earlier: &Generation,
@@ -138,24 +143,32 @@ fn segments_with(
         ≡ earlier.now.blocks ++ batch_view batch.now) }
     ensures kept { IfOk result (λ segments.
         AreSegmentsOf earlier.now.schema (map arc_value segments.items)) }
+    ensures tiers { IfOk result (λ segments. AreTiered (sizes_of (map arc_value segments.items))) }
 {
     if batch.blocks.is_empty() {
         return earlier.share(alloc);
     }
-    one_more(alloc, earlier, batch)
+    let segments = one_more(alloc, earlier, batch)?;
+    let leveled = leveled(alloc, &earlier.schema, segments)?;
+    Ok(leveled)
 }
 
-// The same with a segment for any batch.
+// The segments of a generation, shared, and one that holds the blocks of a batch.
 fn one_more(
     alloc: Global,
     earlier: &Generation,
     batch: &Batch,
 ) -> Result<Vec<Arc<Segment>>, WantMemory>
-    requires { IsBatchOf earlier.now.schema (batch_view batch.now) }
+    requires batch { IsBatchOf earlier.now.schema (batch_view batch.now) }
+    requires some { 0 < length (batch_view batch.now) }
     ensures blocks { IfOk result (λ segments. blocks_of (map arc_value segments.items)
         ≡ earlier.now.blocks ++ batch_view batch.now) }
     ensures kept { IfOk result (λ segments.
         AreSegmentsOf earlier.now.schema (map arc_value segments.items)) }
+    ensures any { IfOk result (λ segments. 0 < length segments.items) }
+    ensures some { IfOk result (λ segments. All (λ size. 0 < size) (sizes_of (map arc_value segments.items))) }
+    ensures tiers { IfOk result (λ segments.
+        AreTiered (take (length segments.items - 1) (sizes_of (map arc_value segments.items)))) }
 {
     let segment = Segment::build(alloc, &earlier.schema, batch)?;
     let mut segments = shared(alloc, earlier.segments())?;

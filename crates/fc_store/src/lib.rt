@@ -3,9 +3,11 @@
 
 mod charter;
 mod generation;
+mod merging;
 mod reader;
 mod rule;
 mod store;
+mod tiers;
 mod writer;
 
 pub use charter::Charter;
