@@ -28,7 +28,8 @@ pub(super) fn script_of(alloc: Global, text: &str) -> Result<Script, Fail>
     Ok(script)
 }
 
-// The generation of a shard with all of these batches. The first ones, so many, make one segment, and the others one.
+// The generation of a shard with all of these batches. The first ones, so many, make one segment, and the others one, which are merged
+// where the first has fewer than twice the documents of the other.
 fn generation_of(
     alloc: Global,
     schema: &Arc<Schema>,

@@ -109,3 +109,36 @@ fn readers_see_what_is_published(rt: HostRuntime) -> Result<(), Fail> {
     assert!(rt; one.pin().is_err());
     Ok(())
 }
+
+// The blocks of each commit, and how many documents each segment has behind it.
+const COMMITS: [(&[&str], &[u32]); 5] = [
+    (&[r#"{"id":"1"}"#], &[1]),
+    (&[r#"{"id":"2"}"#], &[2]),
+    (&[r#"{"id":"3"}"#], &[2, 1]),
+    (
+        &[
+            r#"{"id":"4"}"#,
+            r#"{"id":"5","_childDocuments_":[{"id":"6"}]}"#,
+            r#"{"id":"7"}"#,
+        ],
+        &[7],
+    ),
+    (&[], &[7]),
+];
+
+#[test]
+fn segments_are_merged(rt: HostRuntime) -> Result<(), Fail> {
+    let alloc = rt.alloc();
+    let schema = schema_of(alloc, SCHEMA)?;
+    let mut generation = Generation::first(alloc, Arc::try_clone(&schema)?)?;
+    for (blocks, sizes) in &COMMITS {
+        let batch = batch_of(alloc, &schema, blocks)?;
+        if generation.number() < 4096 {
+            generation = Generation::next(alloc, &generation, &batch)?;
+        }
+        let segments = generation.segments().iter();
+        let found: Vec<u32> = segments.map(|segment| segment.doc_count()).collect(alloc)?;
+        assert_eq!(rt; found.as_slice(), *sizes);
+    }
+    Ok(())
+}

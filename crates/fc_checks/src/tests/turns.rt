@@ -55,8 +55,9 @@ const ROWS: &[Row] = &[
         764,
         2,
     ),
-    // Commits that are made together make one segment, where they have a document. Over two segments a kind of each name is
-    // called: for the root, for the values, and in their only bucket for the query facet and the gaps.
+    // Commits that are made together make one segment, where they have a document. Two segments, of which the first has twice as
+    // many documents, are not merged. Over both a kind of each name is called: for the root, for the values, and in their only bucket
+    // for the query facet and the gaps.
     (
         Asked {
             script: r##"{"schema":{"shards":1,"fields":{"cat":"string","n":"plong"}}}
@@ -68,7 +69,7 @@ const ROWS: &[Row] = &[
 {"add":{"doc":{"id":"3","cat":"a"}}}
 {"commit":{}}
 "##,
-            earlier: 2,
+            earlier: 3,
             requests: &[
                 r#"{"facet":{"c":{"type":"terms","field":"cat","facet":{"q":{"type":"query","q":"n:1"},"r":{"type":"range","field":"n","start":0,"end":4,"gap":2}}}}}"#,
             ],
