@@ -1,6 +1,6 @@
 #!/usr/bin/env python3
 """Measures what threads gain and what they cost: several workers for one search, several sessions, commits beside searches, many
-phases, many commits. Prints a table with the targets, and on standard error how far it is. Looks at each line that the program
+phases, many commits, and commits that are published one by one. Prints a table with the targets, and on standard error how far it is. Looks at each line that the program
 writes only for whether it is a reply, and whether several workers write the same ones as one."""
 import argparse
 import collections
@@ -123,7 +123,7 @@ def sessions(measuring):
 
 
 def beside(measuring):
-    """Commits beside searches, and a sync between them: few commits, and many, of which each makes a segment beside searches."""
+    """Commits beside searches, and a sync between them: few commits, and many, each of which is published by itself."""
     options = measuring.options
     half, searches = options.documents // 2, [search(run.REQUESTS[PRICES])] * options.searches
     base = list(itertools.chain(*whole(half)))
@@ -160,7 +160,31 @@ def memory(measuring):
     yield Row(f"{what}: processor time", found.seconds, other and other.seconds)
 
 
-PARTS = {"workers": workers, "sessions": sessions, "beside": beside, "phases": phases, "memory": memory}
+def published(documents, every, searches):
+    """Documents of one shard, a search beside the commit of each so many, and at last some searches."""
+    yield {"schema": {"shards": 1, "fields": run.FIELDS}}
+    for i in range(documents):
+        yield {"add": {"doc": run.document(i)}}
+        if (i + 1) % every == 0:
+            yield from (COMMIT, search({}))
+    yield SYNC
+    yield from [search(run.REQUESTS[PRICES])] * searches
+
+
+def commits(measuring):
+    """Commits that are published one by one, whose segments are merged; a search over what they leave; and small ones."""
+    options, times = measuring.options, measuring.options.searches // 4
+    kinds = [(every, searches) for every in (EVERY, options.documents) for searches in (0, 1, 1 + times)]
+    many, many_one, many_all, one, one_one, one_all = measuring.costs(*(measuring.script(published(options.documents, *kind)) for kind in kinds))
+    what = f"{options.documents:,} documents of one shard, a search beside the commit of each {EVERY:,}"
+    yield Row(f"{what}, beside one commit: processor time", many.seconds, one.seconds, target=1.6)
+    searching = f"one search for {SAID[PRICES]} over what these commits leave, beside one over one segment"
+    yield Row(searching, less(many_all, many_one, times).seconds, less(one_all, one_one, times).seconds, target=1.3)
+    twice, once = measuring.costs(*(measuring.script(published(count, 1, 0)) for count in (4000, 2000)))
+    yield Row("4,000 commits of a document with a search beside each, beside 2,000: processor time", twice.seconds, once.seconds, target=2.2)
+
+
+PARTS = {"workers": workers, "sessions": sessions, "beside": beside, "phases": phases, "memory": memory, "commits": commits}
 
 
 def shown(value, unit):
