@@ -87,9 +87,7 @@ def grown(found):
 
 
 def report(found):
-    segments, others = ({name: cost.seconds for name, cost in found.items() if SCRIPTS[name].segments == has} for has in (True, False))
-    print(f"By more than {GROWTH} grow: {grown(others)}.")
-    print(f"So do, for the many segments that merging will mend: {grown(segments)}.")
+    print(f"By more than {GROWTH} grow: {grown({name: cost.seconds for name, cost in found.items()})}.")
     print(f"The memory grows by more than {GROWTH}: {grown({name: cost.peak for name, cost in found.items()})}.")
 
 

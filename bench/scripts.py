@@ -3,18 +3,17 @@ import collections
 
 import run
 
-# What there is, with the size in it; the size; the lines; whether it is dear for many segments, which merging them will mend; and
-# whether each of its requests has a fault.
-Script = collections.namedtuple("Script", "what size lines segments faults")
+# What there is, with the size in it; the size; the lines; and whether each of its requests has a fault.
+Script = collections.namedtuple("Script", "what size lines faults")
 # By a name, in the order of the table.
 SCRIPTS = {}
 END = ({"commit": {}}, {"sync": {}})
 ALL = run.ALL
 
 
-def script(size, what, segments=False, faults=False):
+def script(size, what, faults=False):
     def keep(lines):
-        SCRIPTS[lines.__name__.replace("_", "-")] = Script(what, size, lines, segments, faults)
+        SCRIPTS[lines.__name__.replace("_", "-")] = Script(what, size, lines, faults)
         return lines
     return keep
 
@@ -227,14 +226,14 @@ def sessions(size):
 # Commits and phases.
 
 
-@script(750, "a commit and a search in each of {:,} phases", segments=True)
+@script(750, "a commit and a search in each of {:,} phases")
 def phases(size):
     yield schema(1, **BRAND)
     for i in range(size):
         yield from (add(i, 0, **brand(i)), *END, search({"f": terms("brand")}))
 
 
-@script(500, "a commit on each of 64 shards in each of {:,} phases, one search", segments=True)
+@script(500, "a commit on each of 64 shards in each of {:,} phases, one search")
 def phases_on_64_shards(size):
     yield schema(64)
     for i in range(64 * size):
@@ -243,7 +242,7 @@ def phases_on_64_shards(size):
     yield search()
 
 
-@script(1000, "a commit in each of {:,} phases, a schema of 256 fields, one search", segments=True)
+@script(1000, "a commit in each of {:,} phases, a schema of 256 fields, one search")
 def phases_of_256_fields(size):
     yield schema(1, **{f"f{j}": "string" for j in range(255)})
     for i in range(size):
@@ -251,7 +250,7 @@ def phases_of_256_fields(size):
     yield search()
 
 
-@script(500, "a commit in each of {:,} phases, three searches for 10,000 gaps", segments=True)
+@script(500, "a commit in each of {:,} phases, three searches for 10,000 gaps")
 def gaps_of_phases(size):
     yield schema(1, **PRICE)
     for i in range(size):
@@ -259,7 +258,7 @@ def gaps_of_phases(size):
     yield from [search({"f": gaps("price", 10_000, facet={"s": "sum(price)"})})] * 3
 
 
-@script(250, "a commit in each of {:,} phases, a tag excluded in each of 100 gaps", segments=True)
+@script(250, "a commit in each of {:,} phases, a tag excluded in each of 100 gaps")
 def exclusion_of_phases(size):
     yield schema(1, **BRAND, **PRICE)
     for i in range(100 * size):
@@ -267,6 +266,21 @@ def exclusion_of_phases(size):
         yield from END if i % 100 == 99 else ()
     excluding = terms("brand", domain={"excludeTags": "t"})
     yield search({"f": gaps("price", 100, facet={"g": excluding})}, filter="{!tag=t}brand:b1")
+
+
+@script(2000, "{:,} commits of a document, a search beside each")
+def published_commits(size):
+    yield schema(1, **BRAND)
+    for i in range(size):
+        yield from (add(i, 0, **brand(i)), {"commit": {}}, search())
+
+
+@script(1000, "{:,} commits of 25 documents with one of 255 fields each, a search beside each")
+def published_commits_of_256_fields(size):
+    yield schema(1, **{f"f{j}": "string" for j in range(255)})
+    for i in range(25 * size):
+        yield add(i, 0, **{f"f{i % 255}": "a"})
+        yield from ({"commit": {}}, search()) if i % 25 == 24 else ()
 
 
 @script(2000, "{:,} commits on 64 shards in one phase, ten searches")
