@@ -14,6 +14,10 @@ use Rattle.fc_segment.specs.Merged.{blocks_each, kept_marks, kept_values, HaveLe
 use Rattle.fc_segment.specs.Parents.{marks_of, parents_in}
 use Rattle.fc_segment.specs.Segmented.{Segmented}
 
+-- ---- one set for each segment
+even_lengths : (V : World) (sets : List (List Bool)) → HaveLengths V sets → length sets ≡ length V
+even_lengths V sets lengths = sym (length-map sets length) ∙ ap length lengths ∙ length-map V (λ blocks. length (documents_in blocks))
+
 -- ---- one segment, at its place
 module _ {X : Type 0} (value : X → Segmented) (segments : List X) (at : ℕ) (one : X) (inside : at < length segments) (is : one ≡ get_or segments at one) where
   value_here : get_or (map value segments) at (value one) ≡ value one
@@ -22,13 +26,18 @@ module _ {X : Type 0} (value : X → Segmented) (segments : List X) (at : ℕ) (
   pub holds_here : (P : Segmented → Type 0) → All P (map value segments) → P (value one)
   holds_here P all = subst P value_here (all at (value one) (omega (arith, length-map segments value)))
 
-  pub length_here : (live : List (List Bool)) (set : List Bool) → HaveLengths (blocks_each (map value segments)) live → at < length live → set ≡ get_or live at set
+  -- it has a set
+  set_here : (live : List (List Bool)) → HaveLengths (blocks_each (map value segments)) live → at < length live
+  set_here live lengths =
+      omega (arith, even_lengths (blocks_each (map value segments)) live lengths, length-map (map value segments) (λ (s : Segmented). s.blocks), length-map segments value)
+
+  pub length_here : (live : List (List Bool)) (set : List Bool) → HaveLengths (blocks_each (map value segments)) live → set ≡ get_or live at set
       → length set ≡ length (documents_in (value one).blocks)
-  length_here live set lengths there set_is =
+  length_here live set lengths set_is =
       let size = λ (blocks : List Block). length (documents_in blocks) in
       let V = blocks_each (map value segments) in
       let none : List Block = [] in
-      ap length set_is ∙ sym (get_or-map length live at set 0 there) ∙ ap (λ l. get_or l at 0) lengths
+      ap length set_is ∙ sym (get_or-map length live at set 0 (set_here live lengths)) ∙ ap (λ l. get_or l at 0) lengths
       ∙ get_or-map size V at (value one).blocks 0 (omega (arith, length-map (map value segments) (λ (s : Segmented). s.blocks), length-map segments value))
       ∙ ap size (get_or-map (λ (s : Segmented). s.blocks) (map value segments) at (value one) (value one).blocks (omega (arith, length-map segments value)) ∙ ap (λ (s : Segmented). s.blocks) value_here)
 

@@ -15,7 +15,7 @@ use fc_docset::DocSet;
 use std::alloc::Global;
 use std::sync::Arc;
 
-// Adds the positions of a column of texts.
+// Adds the positions of a column of texts that are in the set.
 fn with_texts(merger: TextMerger, column: &Column, live: &DocSet) -> Result<TextMerger, WantMemory>
     requires kind { is_text_column column.now ≡ true }
     requires length { length live.now ≡ length (column_values column.now) }
@@ -31,7 +31,7 @@ fn with_texts(merger: TextMerger, column: &Column, live: &DocSet) -> Result<Text
     }
 }
 
-// Adds the positions of a column of integers.
+// Adds the positions of a column of integers that are in the set.
 fn with_longs(merger: LongMerger, column: &Column, live: &DocSet) -> Result<LongMerger, WantMemory>
     requires kind { is_text_column column.now ≡ false }
     requires length { length live.now ≡ length (column_values column.now) }
@@ -54,7 +54,6 @@ fn merged_texts(
     segments: &[Arc<Segment>],
     live: &[DocSet],
 ) -> Result<Column, WantMemory>
-    requires even { length segments.now ≡ length live.now }
     requires lengths { HaveLengths (blocks_each (map arc_value segments.now)) live.now }
     requires fields { All (λ segment. field.0 < length segment.texts)
         (map arc_value segments.now) }
@@ -78,7 +77,6 @@ fn merged_longs(
     segments: &[Arc<Segment>],
     live: &[DocSet],
 ) -> Result<Column, WantMemory>
-    requires even { length segments.now ≡ length live.now }
     requires lengths { HaveLengths (blocks_each (map arc_value segments.now)) live.now }
     requires fields { All (λ segment. field.0 < length segment.texts)
         (map arc_value segments.now) }
@@ -95,15 +93,14 @@ fn merged_longs(
     Ok(Column::Long(merger.finish()?))
 }
 
-/// The column of a field, of the positions that are kept, one segment behind the other.
-pub fn merged_column(
+// The column of a field, of the positions that are kept, one segment behind the other.
+fn merged_column(
     alloc: Global,
     texts: bool,
     field: FieldId,
     segments: &[Arc<Segment>],
     live: &[DocSet],
 ) -> Result<Column, WantMemory>
-    requires even { length segments.now ≡ length live.now }
     requires lengths { HaveLengths (blocks_each (map arc_value segments.now)) live.now }
     requires fields { All (λ segment. field.0 < length segment.texts)
         (map arc_value segments.now) }
@@ -154,8 +151,7 @@ pub fn merged_parents(
     segments: &[Arc<Segment>],
     live: &[DocSet],
 ) -> Result<DocSet, WantMemory>
-    requires even { length segments.now ≡ length live.now }
-    requires lengths { HaveLengths (blocks_each (map arc_value segments.now)) live.now }
+    requires { HaveLengths (blocks_each (map arc_value segments.now)) live.now }
     ensures { IfOk result (λ parents. parents
         ≡ kept_marks (blocks_each (map arc_value segments.now)) live.now) }
 {
@@ -173,7 +169,6 @@ pub fn merged_columns(
     segments: &[Arc<Segment>],
     live: &[DocSet],
 ) -> Result<Vec<Column>, WantMemory>
-    requires even { length segments.now ≡ length live.now }
     requires lengths { HaveLengths (blocks_each (map arc_value segments.now)) live.now }
     requires kinds { All (λ segment. segment.texts ≡ texts_held schema.now.fields)
         (map arc_value segments.now) }
@@ -185,14 +180,14 @@ pub fn merged_columns(
 {
     let mut columns = Vec::with_capacity(alloc, schema.fields() as usize)?;
     for field in 0..schema.fields() {
-        let texts = is_text(schema.field_type(FieldId(field)));
+        let texts = holds_texts(schema.field_type(FieldId(field)));
         columns.push(merged_column(alloc, texts, FieldId(field), segments, live)?)?;
     }
     Ok(columns)
 }
 
 // Whether a field of the type holds texts.
-fn is_text(kind: FieldType) -> bool
+fn holds_texts(kind: FieldType) -> bool
     ensures { result ≡ holds_texts (field_type_view kind) }
 {
     match kind {

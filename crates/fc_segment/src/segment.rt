@@ -58,14 +58,14 @@ impl Segment {
     }
 
     /// The live blocks of segments, one segment behind the other: those whose positions are in the set of their segment. No
-    /// document is read again, and no text is compared for a document.
+    /// document is read again, and no text is compared for a document. A segment has at most 4,294,967,295 documents: more
+    /// are answered as want of memory.
     pub fn merge(
         alloc: Global,
         schema: &Schema,
         segments: &[Arc<Segment>],
         live: &[DocSet],
     ) -> Result<Segment, WantMemory>
-        requires even { length segments.now ≡ length live.now }
         requires whole { HaveWholeBlocks (blocks_each (map arc_value segments.now)) live.now }
         requires kinds { All (λ segment. segment.texts ≡ texts_held schema.now.fields)
             (map arc_value segments.now) }

@@ -20,7 +20,7 @@ merged_column-requires-clause-kinds c = λ k d inside.
     let fields = c.args.schema.now.fields in
     let below : c.loop-field.field < length fields = omega (arith, c.fields-field-end.ensures.count) in
     ap (λ l. get_or l c.loop-field.field false) (c.requires.kinds k d inside)
-    ∙ holds_texts_at fields c.loop-field.field (field_type_view c.field_type.result) below c.field_type.ensures ∙ sym c.is_text-texts.ensures
+    ∙ holds_texts_at fields c.loop-field.field (field_type_view c.field_type.result) below c.field_type.ensures ∙ sym c.holds_texts-texts.ensures
 
 pub loop-field-preserved : goal.loop-field-preserved
 loop-field-preserved c =
@@ -35,7 +35,7 @@ loop-field-preserved c =
       values = map-pushed column_values c.loop-field.columns.items c.push.new.self.items column _ (kept_values n V live) c.in_ok-push.ensures.items c.loop-field.invariant.values c.in_ok-merged_column.ensures.values
           ∙ sym (map-range_with_len_more (λ field. kept_values field V live) 0 n n (omega arith));
       kinds = map-pushed is_text_column c.loop-field.columns.items c.push.new.self.items column _ _ c.in_ok-push.ensures.items c.loop-field.invariant.kinds
-          (c.in_ok-merged_column.ensures.kind ∙ c.is_text-texts.ensures ∙ sym (holds_texts_at fields n (field_type_view c.field_type.result) below c.field_type.ensures))
+          (c.in_ok-merged_column.ensures.kind ∙ c.holds_texts-texts.ensures ∙ sym (holds_texts_at fields n (field_type_view c.field_type.result) below c.field_type.ensures))
           ∙ sym (take_more (texts_held fields) n false within);
     }
 

@@ -22,5 +22,5 @@ with_longs-requires-clause-kind c =
 pub with_longs-requires-clause-length : goal.with_longs-requires-clause-length
 with_longs-requires-clause-length c =
     let segments = c.args.segments.now in
-    length_here arc_value segments c.loop-at.at c.index-segments-at.result c.loop-at-test.true c.index-segments-at.is c.args.live.now c.index-live-at.result c.requires.lengths (omega arith) c.index-live-at.is
+    length_here arc_value segments c.loop-at.at c.index-segments-at.result c.loop-at-test.true c.index-segments-at.is c.args.live.now c.index-live-at.result c.requires.lengths c.index-live-at.is
     ∙ sym (ap length c.column.ensures.values ∙ length-map (documents_in c.deref.result.now.blocks) (λ d. values_of d c.args.field.0) ∙ ap (λ (s : Segmented). length (documents_in s.blocks)) c.deref.ensures)

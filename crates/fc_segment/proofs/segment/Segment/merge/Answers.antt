@@ -10,8 +10,8 @@ use Rattle.fc_segment.proofs.Rows.{length-valid_documents}
 use Rattle.fc_segment.proofs.StoredBlocks.{IsMadeOf, made_is_stored, made_segment}
 use Rattle.fc_segment.proofs.segment.Segment.merge.Goals as goal
 
-pub merged_parents-requires-clause-lengths : goal.merged_parents-requires-clause-lengths
-merged_parents-requires-clause-lengths c = lengths_of_whole (blocks_each (map arc_value c.args.segments.now)) c.args.live.now c.requires.whole
+pub merged_parents-requires : goal.merged_parents-requires
+merged_parents-requires c = lengths_of_whole (blocks_each (map arc_value c.args.segments.now)) c.args.live.now c.requires.whole
 
 pub merged_columns-requires-clause-lengths : goal.merged_columns-requires-clause-lengths
 merged_columns-requires-clause-lengths c = lengths_of_whole (blocks_each (map arc_value c.args.segments.now)) c.args.live.now c.requires.whole
