@@ -12,17 +12,19 @@ use Rattle.fc_segment.specs.Segmented.{Segmented}
 abbrev pub blocks_each : List Segmented → World
 blocks_each segments = map (λ s. s.blocks) segments
 
--- the values of a field at the positions of the sets, one segment behind the other
+-- of each list the elements at the positions of its set, one list behind the other
+abbrev pub kept_each : {A : Type 0} → List (List A) → List (List Bool) → List A
+kept_each [] sets = []
+kept_each (items ∷ more) [] = []
+kept_each (items ∷ more) (set ∷ sets) = items_where_true set items ++ kept_each more sets
+
+-- the values of a field at the positions of the sets
 abbrev pub kept_values : ℕ → World → List (List Bool) → List (List Val)
-kept_values field [] sets = []
-kept_values field (blocks ∷ V) [] = []
-kept_values field (blocks ∷ V) (set ∷ sets) = items_where_true set (column_of field (documents_in blocks)) ++ kept_values field V sets
+kept_values field V sets = kept_each (map (λ blocks. column_of field (documents_in blocks)) V) sets
 
 -- which of those positions are parents
 abbrev pub kept_marks : World → List (List Bool) → List Bool
-kept_marks [] sets = []
-kept_marks (blocks ∷ V) [] = []
-kept_marks (blocks ∷ V) (set ∷ sets) = items_where_true set (parents_in blocks) ++ kept_marks V sets
+kept_marks V sets = kept_each (map parents_in V) sets
 
 -- each set has the positions of its segment
 abbrev pub HaveLengths : World → List (List Bool) → Type 0
