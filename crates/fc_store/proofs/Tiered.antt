@@ -1,7 +1,6 @@
 -- Tiers: fewer of them, one more, and the last of them as one.
 use Rattle.std.proofs.Common.{◌≡◌, ℕ, zero, suc, ◌+◌, ◌-◌, ◌*◌, ◌<◌, ◌≤◌, List, [], ◌∷◌, ◌++◌, length, get_or, take, drop, sum, All, refl, sym, ap, subst, ◌∙◌, arith, length-append}
-use Rattle.std.specs.Prelude.{sum_by}
-use Rattle.std.proofs.lemmas.List.{take_more, take_all, drop_all, get_or-take, length-take}
+use Rattle.std.proofs.lemmas.List.{get_or-take, length-take}
 use Rattle.std.proofs.lemmas.List.Elements.{All-cons, All-head, All-nil}
 use Rattle.std.proofs.lemmas.List.Sums.{sum_by-drop_more}
 use Rattle.std.proofs.Math.Seq.{take-append_seam}
@@ -42,11 +41,6 @@ tiered_front sizes place are inside =
 pub sum_from : (sizes : List ℕ) (place : ℕ) → place < length sizes → sum (drop place sizes) ≡ get_or sizes place 0 + sum (drop (place + 1) sizes)
 sum_from sizes place inside = sum_by-drop_more (λ n. n) sizes place 0 inside
 
-pub sum_last : (sizes : List ℕ) (place : ℕ) → place + 1 ≡ length sizes → sum (drop place sizes) ≡ get_or sizes place 0
-sum_last sizes place last =
-    let none = ap (sum_by (λ n. n)) (drop_all (place + 1) sizes (omega arith)) in
-    omega (arith, sum_from sizes place (omega arith), none)
-
 -- with that sum in place of them
 pub tiered_before : (sizes : List ℕ) (place : ℕ) → AreTiered (take (length sizes - 1) sizes) → All (λ size. 0 < size) sizes → place < length sizes
     → (0 < place → 2 * sum (drop place sizes) ≤ get_or sizes (place - 1) 0) → AreTiered (take place sizes ++ sum (drop place sizes) ∷ [])
@@ -56,11 +50,6 @@ tiered_before sizes place are each inside low =
     tiered_push (take place sizes) (sum (drop place sizes)) (tiered_front sizes place are inside) (omega (arith, sum_from sizes place inside, some))
     (λ more. let end : get_or (take place sizes) (length (take place sizes) - 1) 0 ≡ get_or sizes (place - 1) 0 = ap (λ n. get_or (take place sizes) (n - 1) 0) size ∙ get_or-take place sizes (place - 1) 0 (omega arith) in
     omega (arith, end, low (omega arith)))
-
--- where none are merged
-pub tiered_alone : (sizes : List ℕ) (place : ℕ) → place + 1 ≡ length sizes → AreTiered (take place sizes ++ sum (drop place sizes) ∷ []) → AreTiered sizes
-tiered_alone sizes place last are =
-    subst AreTiered (ap (λ n. take place sizes ++ n ∷ []) (sum_last sizes place last) ∙ sym (take_more sizes place 0 (omega arith)) ∙ take_all (place + 1) sizes (omega arith)) are
 
 -- ---- one more behind them
 

@@ -15,7 +15,7 @@ use std::alloc::Global;
 use std::sync::Arc;
 
 // All positions of each segment.
-fn whole(alloc: Global, segments: &[Arc<Segment>]) -> Result<Vec<DocSet>, WantMemory>
+fn full_sets(alloc: Global, segments: &[Arc<Segment>]) -> Result<Vec<DocSet>, WantMemory>
     ensures { IfOk result (λ sets. sets.items
         ≡ map (λ segment. replicate (document_total segment.blocks) true) (map arc_value segments.now)) }
 {
@@ -27,14 +27,18 @@ fn whole(alloc: Global, segments: &[Arc<Segment>]) -> Result<Vec<DocSet>, WantMe
 }
 
 // The blocks of segments, as one segment.
-fn merged(alloc: Global, schema: &Schema, segments: &[Arc<Segment>]) -> Result<Segment, WantMemory>
+fn merged_segment(
+    alloc: Global,
+    schema: &Schema,
+    segments: &[Arc<Segment>],
+) -> Result<Segment, WantMemory>
     requires { AreSegmentsOf schema.now (map arc_value segments.now) }
     ensures { IfOk result (λ segment. segment ≡ record {
       texts = texts_held schema.now.fields;
       blocks = blocks_of (map arc_value segments.now);
     }) }
 {
-    let sets = whole(alloc, segments)?;
+    let sets = full_sets(alloc, segments)?;
     let segment = Segment::merge(alloc, schema, segments, &sets)?;
     Ok(segment)
 }
@@ -56,7 +60,7 @@ fn merged_behind(
 {
     let mut made = segments;
     let last = made.split_off(place)?;
-    let one = merged(alloc, schema, &last)?;
+    let one = merged_segment(alloc, schema, &last)?;
     made.push(Arc::new(alloc, one)?)?;
     Ok(made)
 }

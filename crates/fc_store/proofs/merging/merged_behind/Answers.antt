@@ -12,8 +12,8 @@ use Rattle.fc_store.proofs.OneMoreSegment.{blocks_of-push, one_more_segment}
 use Rattle.fc_store.proofs.WholeSegments.{blocks_split, first_segments, last_segments, size_of_all}
 use Rattle.fc_store.proofs.merging.merged_behind.Goals as goal
 
-pub merged-requires : goal.merged-requires
-merged-requires c =
+pub merged_segment-requires : goal.merged_segment-requires
+merged_segment-requires c =
     let k = c.args.place in
     let last : map arc_value c.deref.result.now ≡ drop k (map arc_value c.args.segments.items) = ap (map arc_value) (c.deref.ensures.value ∙ c.in_ok-last.ensures.tail) ∙ sym (drop-map arc_value k c.args.segments.items) in
     subst (AreSegmentsOf c.args.schema.now) (sym last) (last_segments c.args.schema.now k (map arc_value c.args.segments.items) c.requires.kept)

@@ -5,7 +5,7 @@ use Rattle.fc_spec.specs.documents.Schema.{texts_held}
 use Rattle.fc_spec.specs.documents.ValidBlocks.{IsBlockOf}
 use Rattle.fc_segment.specs.Merged.{blocks_each}
 use Rattle.fc_store.proofs.WholeSegments.{all_live, all_positions, all_whole}
-use Rattle.fc_store.proofs.merging.merged.Goals as goal
+use Rattle.fc_store.proofs.merging.merged_segment.Goals as goal
 
 pub merge-requires-clause-whole : goal.merge-requires-clause-whole
 merge-requires-clause-whole c =
