@@ -54,8 +54,9 @@ impl Generation {
         Ok(Arc::new(alloc, first)?)
     }
 
-    /// The generation after an earlier one: its blocks, and then those of a batch, perhaps none. They make one segment, if any, which is
-    /// merged with so many of those ahead of it as have not twice as many documents.
+    /// The generation after an earlier one: its blocks, and then those of a batch, perhaps none. They make one segment, if any.
+    /// Then, while the last segment but one has fewer than twice as many documents as the last, the two become one: which they
+    /// are is known beforehand, so each document is copied once at most.
     pub fn next(
         alloc: Global,
         earlier: &Generation,
@@ -78,7 +79,8 @@ impl Generation {
     }
 
     /// The generation after an earlier one and a commit of each of these batches: its blocks, and then those of the batches, in
-    /// order. They make one segment, whatever their number, and none where no batch has a block; it is merged as that of one batch is.
+    /// order. They make one segment, whatever their number, and none where no batch has a block. Then segments become one as
+    /// behind one batch.
     pub fn after(
         alloc: Global,
         earlier: &Generation,
