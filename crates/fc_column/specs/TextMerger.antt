@@ -13,7 +13,7 @@ use Rattle.fc_column.specs.declared.text_merger.TextMerger.TheInside.{Inside}
 abbrev pub texts_merged : Inside → List (List Text)
 texts_merged merger = map (map (text_numbered merger.texts.items)) merger.rows.rows
 
--- a number has one text, each position has numbers of texts, and ascends; each text with a number is at a position
+-- a number is below the count and has one text; each position has numbers of texts, and ascends; each text with a number is at a position
 pub record Keeps (texts : List (Text × ℕ)) (count : ℕ) (rows : List (List ℕ)) : Type 0 where
   pub below : All (λ one. one.1 < count) texts
   pub one : HaveOneText texts
@@ -21,6 +21,7 @@ pub record Keeps (texts : List (Text × ℕ)) (count : ℕ) (rows : List (List �
   pub ascending : All (IsAscending text_cmp) (map (map (text_numbered texts)) rows)
   pub used : (t : Text) → has_text t (texts_numbered texts) ≡ list_any (has_text t) (map (map (text_numbered texts)) rows)
 
+-- no position is left half made
 pub record IsSound (merger : Inside) : Type 0 where
   pub keeps : Keeps merger.texts.items merger.count merger.rows.rows
   pub whole : merger.rows.next ≡ []

@@ -1,5 +1,5 @@
-//! Columns: the values of one field, position by position. A call that takes the allocator, and each
-//! call of a builder, can answer want of memory; nothing else is refused.
+//! Columns: the values of one field, position by position, made of documents by builders and of other
+//! columns by mergers. Calls that answer a `Result` can answer want of memory; nothing else is refused.
 #![tactic(auto)]
 
 mod bits;

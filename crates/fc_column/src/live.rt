@@ -17,7 +17,7 @@ pub fn counts_of(alloc: Global, live: &DocSet) -> Result<Vec<u32>, WantMemory>
     Ok(counts)
 }
 
-/// How many positions of the set stand before one that is in it.
+/// How many positions of the set stand before one that is in it; none for another.
 pub fn place_of(live: &DocSet, counts: &[u32], at: u32) -> Option<u32>
     requires { AreCounts live.now counts.now }
     ensures { result ≡ (if contains live.now at then Some (kept_before live.now at) else None) }

@@ -60,6 +60,7 @@ impl LongMerger {
         } = self;
         let first = rows.len();
         rows.add_rows(column.rows(), live)?;
+        // So it is known that all positions are counted by a `u32`.
         let _end = rows.len();
         let counts = counts_of(alloc, live)?;
         add_kept(&mut ordered, column, live, &counts, first)?;
@@ -80,7 +81,7 @@ impl LongMerger {
     }
 }
 
-// Adds the integers of a column whose positions are in the set, in ascending order, each with the position that it gets.
+// Adds the integers of a column whose positions are in the set, each with the position that it gets.
 fn add_kept(
     ordered: &mut Vec<Entry<i64>>,
     column: &LongColumn,

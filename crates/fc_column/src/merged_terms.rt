@@ -83,5 +83,6 @@ pub fn terms_and_places(
         let (text, number) = one;
         places[number as usize] = put(&mut terms, text)?;
     }
+    terms.shrink_to_fit();
     Ok((terms, places))
 }

@@ -15,11 +15,11 @@ use fc_docset::DocSet;
 use std::alloc::Global;
 use std::marker::Model;
 
-/// Makes a column of texts from positions of others, one column behind the other. Terms are compared once for each column, and
-/// for no position.
+/// Makes a column of texts from positions of others, one column behind the other. Terms are compared as they are merged, and no text
+/// is compared for a position.
 #[derive(Debug, Drop)]
 pub struct TextMerger {
-    // The terms that positions have, each with a number: those of each column in ascending order.
+    // The texts of positions, each with a number. Those of one column ascend.
     texts: Vec<(Term, u32)>,
     // The numbers are below this one.
     count: u32,

@@ -32,7 +32,7 @@ pub(crate) fn carry(alloc: Global, shard: Committed, commits: u32) -> Result<Com
     commit(alloc, &generation, uncommitted, more)
 }
 
-// Commits the first of a shard's batches, so many. They make one segment, if one of them has a block.
+// Commits the first of a shard's batches, so many, as one generation.
 fn commit(
     alloc: Global,
     earlier: &Arc<Generation>,

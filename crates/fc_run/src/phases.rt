@@ -48,7 +48,7 @@ fn no_replies(alloc: Global, sessions: usize) -> Result<Vec<u64>, WantMemory> {
     Ok(replies)
 }
 
-// Runs a phase: its commits alone, which make one segment of each shard, or beside its searches, whose lines are appended.
+// Runs a phase: its commits alone, which make one generation of each shard, or beside its searches, whose lines are appended.
 fn run_phase<R: Threads + Wait + Sync, G: Gate>(
     rt: &R,
     alloc: Global,
