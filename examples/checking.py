@@ -6,6 +6,7 @@ import os
 
 HERE = os.path.dirname(os.path.abspath(__file__))
 PROGRAM = os.path.join(HERE, "..", "facets")
+BUILT = os.path.join(HERE, "..", "crates", "fc_main", "out", "fc_main")
 
 
 def parser(description):
@@ -21,6 +22,11 @@ def program_of(options):
     if not os.path.isfile(path) or not os.access(path, os.X_OK):
         raise SystemExit(f"no program: {options.program}")
     return path
+
+
+def itself(program):
+    """The program that ../facets runs once it stands, in place of that; any other as it is."""
+    return BUILT if os.path.samefile(program, PROGRAM) else program
 
 
 def laid_out(line):
