@@ -12,3 +12,5 @@ pub mod LineForms
 pub mod DocumentLimits
 pub mod PhaseSchedules
 pub mod ApartScripts
+pub mod Deletes
+pub mod DeleteLines

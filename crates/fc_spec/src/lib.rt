@@ -298,7 +298,7 @@ pub fn searches_are_few()
     ensures { SearchesAreFew }
 {}
 
-/// Where the batches of all shards are within the limits, the first ones of each are, however many.
+/// Where all that the batches of all shards add is within the limits, what the first ones of each leave is, however many.
 pub fn first_batches_are_within()
     ensures { FirstAreWithin }
 {}

@@ -26,7 +26,7 @@ pub other_names :
     × has_fault (lines (one ∷ codes "{\"Commit\":{}}" ∷ [])) 2 unknown_line
     × has_fault (lines (one ∷ codes "{\"Sync\":{}}" ∷ [])) 2 unknown_line
     × has_fault (lines (one ∷ codes "{\"Search\":{\"request\":{}}}" ∷ [])) 2 unknown_line
-    × has_fault (lines (one ∷ codes "{\"delete\":{\"id\":\"a\"}}" ∷ [])) 2 unknown_line
+    × has_fault (lines (one ∷ codes "{\"Delete\":{\"id\":\"a\"}}" ∷ [])) 2 unknown_line
 unfolding written is_utf8 chars
 other_names = (refl, refl, refl, refl, refl)
 

@@ -5,8 +5,8 @@ use Rattle.serde_json.specs.Data.{object, number, unsigned, no_members}
 use Rattle.fc_spec.specs.documents.Val.{Text, long}
 use Rattle.fc_spec.specs.documents.Schema.{string}
 use Rattle.fc_spec.specs.scripts.Script.{add, commit, sync, asks}
-use Rattle.fc_spec.specs.documents.DocFault.{no_id, wrong_type, unknown_field}
-use Rattle.fc_spec.specs.scripts.ScriptFault.{LineFault, not_json, no_schema, unknown_line, bad_schema, bad_shard, bad_document, duplicate_id, field_total, too_many_documents}
+use Rattle.fc_spec.specs.documents.DocFault.{no_id, wrong_type}
+use Rattle.fc_spec.specs.scripts.ScriptFault.{LineFault, not_json, no_schema, unknown_line, bad_schema, bad_shard, bad_document, field_total, too_many_documents}
 use Rattle.fc_spec.specs.documents.Document.{Document}
 use Rattle.fc_spec.specs.scripts.ScriptTotals.{absolute_total}
 use Rattle.fc_spec.specs.scripts.ScriptReading.{script_of, script}
@@ -151,18 +151,6 @@ pub doc_null : has_fault (lines (one ∷ codes "{\"add\":{\"doc\":null}}" ∷ []
 unfolding written is_utf8 chars
 doc_null = refl
 
-pub id_of_an_earlier_line : has_fault (lines (one ∷ codes "{\"add\":{\"doc\":{\"id\":\"a\"}}}" ∷ codes "{\"commit\":{}}" ∷ codes "{\"add\":{\"doc\":{\"id\":\"a\"}}}" ∷ [])) 4 duplicate_id
-unfolding written is_utf8 chars
-id_of_an_earlier_line = refl
-
-pub id_of_a_number : has_fault (lines (one ∷ codes "{\"add\":{\"doc\":{\"id\":\"7\"}}}" ∷ codes "{\"add\":{\"doc\":{\"id\":7}}}" ∷ [])) 3 duplicate_id
-unfolding written is_utf8 chars
-id_of_a_number = refl
-
-pub id_of_its_child : has_fault (lines (one ∷ codes "{\"add\":{\"doc\":{\"id\":\"a\",\"_childDocuments_\":[{\"id\":\"a\"}]}}}" ∷ [])) 2 duplicate_id
-unfolding written is_utf8 chars
-id_of_its_child = refl
-
 pub sum_too_high : has_fault (lines (one ∷ codes "{\"add\":{\"doc\":{\"id\":\"a\",\"n\":9223372036854775807}}}" ∷ codes "{\"add\":{\"doc\":{\"id\":\"b\",\"n\":-1}}}" ∷ [])) 3 field_total
 unfolding written is_utf8 chars
 sum_too_high = refl
@@ -174,15 +162,6 @@ sum_over_children = refl
 pub least_number_alone : has_fault (lines (one ∷ codes "{\"add\":{\"doc\":{\"id\":\"a\",\"n\":-9223372036854775808}}}" ∷ [])) 2 field_total
 unfolding written is_utf8 chars
 least_number_alone = refl
-
--- ---- a bad document before an id that stood
-pub document_before_id : has_fault (lines (one ∷ codes "{\"add\":{\"doc\":{\"id\":\"a\"}}}" ∷ codes "{\"add\":{\"doc\":{\"id\":\"a\",\"x\":1}}}" ∷ [])) 3 (bad_document unknown_field)
-unfolding written is_utf8 chars
-document_before_id = refl
-
-pub id_before_sum : has_fault (lines (one ∷ codes "{\"add\":{\"doc\":{\"id\":\"a\"}}}" ∷ codes "{\"add\":{\"doc\":{\"id\":\"a\",\"n\":-9223372036854775808}}}" ∷ [])) 3 duplicate_id
-unfolding written is_utf8 chars
-id_before_sum = refl
 
 -- ---- what is taken, and where the last line needs no LF
 pub shards_and_sessions : script (lines (two ∷ codes "{\"add\":{\"shard\":1,\"doc\":{\"id\":\"a\"}}}" ∷ codes "{\"add\":{\"doc\":{\"id\":\"b\"}}}" ∷ codes "\r" ∷ codes "{\"commit\":{\"shard\":1}}" ∷ codes "{\"commit\":{}}" ∷ codes "{\"sync\":{}}" ∷ []) ++ codes "{\"search\":{\"request\":{}}}")

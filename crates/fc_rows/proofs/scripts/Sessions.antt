@@ -1,5 +1,6 @@
 -- Two sessions that search while a commit may be under way: which generations they may see.
 use Rattle.std.specs.Prelude.{◌≡◌, ℕ, [], ◌∷◌, true, false, None, refl, codes}
+use Rattle.fc_spec.specs.documents.Document.{adding}
 use Rattle.fc_spec.specs.documents.Schema.{string, Schema}
 use Rattle.fc_spec.specs.scripts.Script.{add, commit, sync, asks, Script, commits_up_to, commits_before, world}
 use Rattle.fc_spec.specs.scripts.Phases.{searches, phases}
@@ -102,5 +103,5 @@ pub sessions_in_order : sessions {A = ℕ} (asks (codes "b") 1 ∷ asks (codes "
 sessions_in_order = refl
 
 -- what a run takes
-pub parts : parts_of script ≡ record { schema = one_shard; sessions = codes "a" ∷ codes "b" ∷ []; batches = ((labelled "1" "a" ∷ []) ∷ []) ∷ []; phases = phases script }
+pub parts : parts_of script ≡ record { schema = one_shard; sessions = codes "a" ∷ codes "b" ∷ []; batches = ((adding (labelled "1" "a") ∷ []) ∷ []) ∷ []; phases = phases script }
 parts = refl

@@ -1,5 +1,6 @@
 -- Commits of one shard and of every shard: batches and generations.
 use Rattle.std.specs.Prelude.{◌≡◌, ℕ, [], ◌∷◌, true, false, Some, None, refl, codes}
+use Rattle.fc_spec.specs.documents.Document.{adding}
 use Rattle.fc_spec.specs.documents.Schema.{string}
 use Rattle.fc_spec.specs.scripts.Script.{add, commit, sync, asks, Script, commits_up_to, commits_before, batch_of, stream, generation, world}
 use Rattle.fc_spec.specs.scripts.Outputs.{legal}
@@ -15,10 +16,10 @@ script = record {
       ∷ commit None ∷ add 1 (labelled "5" "e") ∷ commit (Some 0) ∷ asks (codes "a") 1 ∷ [];
 }
 
-pub first_of_zero : batch_of script.lines 0 0 ≡ labelled "1" "a" ∷ []
+pub first_of_zero : batch_of script.lines 0 0 ≡ adding (labelled "1" "a") ∷ []
 first_of_zero = refl
 
-pub second_of_zero : batch_of script.lines 0 1 ≡ labelled "3" "c" ∷ labelled "4" "d" ∷ []
+pub second_of_zero : batch_of script.lines 0 1 ≡ adding (labelled "3" "c") ∷ adding (labelled "4" "d") ∷ []
 second_of_zero = refl
 
 -- nothing was added since the commit before
@@ -26,14 +27,14 @@ pub empty_batch : batch_of script.lines 0 2 ≡ []
 empty_batch = refl
 
 -- a commit of the other shard closes nothing here
-pub first_of_one : batch_of script.lines 1 0 ≡ labelled "2" "b" ∷ []
+pub first_of_one : batch_of script.lines 1 0 ≡ adding (labelled "2" "b") ∷ []
 first_of_one = refl
 
-pub stream_of_zero : stream script.lines 0 ≡ (labelled "1" "a" ∷ []) ∷ (labelled "3" "c" ∷ labelled "4" "d" ∷ []) ∷ [] ∷ []
+pub stream_of_zero : stream script.lines 0 ≡ (adding (labelled "1" "a") ∷ []) ∷ (adding (labelled "3" "c") ∷ adding (labelled "4" "d") ∷ []) ∷ [] ∷ []
 stream_of_zero = refl
 
 -- what is added behind the last commit is in no batch
-pub stream_of_one : stream script.lines 1 ≡ (labelled "2" "b" ∷ []) ∷ []
+pub stream_of_one : stream script.lines 1 ≡ (adding (labelled "2" "b") ∷ []) ∷ []
 stream_of_one = refl
 
 pub joined_batches : generation script.lines 0 2 ≡ labelled "1" "a" ∷ labelled "3" "c" ∷ labelled "4" "d" ∷ []
@@ -79,5 +80,5 @@ pub one_goes_back : legal script ((1 ∷ 1 ∷ []) ∷ []) 1 (2 ∷ 0 ∷ []) �
 one_goes_back = refl
 
 -- the batches of each shard
-pub batches_of_both : batches script ≡ ((labelled "1" "a" ∷ []) ∷ (labelled "3" "c" ∷ labelled "4" "d" ∷ []) ∷ [] ∷ []) ∷ ((labelled "2" "b" ∷ []) ∷ []) ∷ []
+pub batches_of_both : batches script ≡ ((adding (labelled "1" "a") ∷ []) ∷ (adding (labelled "3" "c") ∷ adding (labelled "4" "d") ∷ []) ∷ [] ∷ []) ∷ ((adding (labelled "2" "b") ∷ []) ∷ []) ∷ []
 batches_of_both = refl

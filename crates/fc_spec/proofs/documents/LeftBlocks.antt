@@ -6,7 +6,7 @@ use Rattle.std.proofs.lemmas.List.Elements.{filter-append}
 use Rattle.std.proofs.lemmas.List.Sums.{sum_by-cons, sum_by-append}
 use Rattle.fc_spec.specs.documents.Val.{Text}
 use Rattle.fc_spec.specs.documents.Document.{Block, Op, adding, deleting}
-use Rattle.fc_spec.specs.documents.Operations.{id_of, has_id, without_blocks_of, after_op, after_ops, is_named, left_of}
+use Rattle.fc_spec.specs.documents.Operations.{id_of, has_id, without_blocks_of, after_op, after_ops, blocks_added, is_named, left_of}
 
 -- ---- what is left measures no more than what was there and what is added
 
@@ -32,6 +32,12 @@ op_sum f blocks (deleting x) = let rest = filter_sum f (λ c. not (has_id x c)) 
 pub after_sum : (f : Block → ℕ) (blocks : List Block) (ops : List Op) → sum_by f (after_ops blocks ops) ≤ sum_by f blocks + sum_by (op_measure f) ops
 after_sum f blocks [] = omega arith
 after_sum f blocks (op ∷ ops) = omega (arith, after_sum f (after_op blocks op) ops, op_sum f blocks op, sum_by-cons (op_measure f) op ops)
+
+-- what operations add, as the blocks that they add
+pub added_sum : (f : Block → ℕ) (ops : List Op) → sum_by (op_measure f) ops ≡ sum_by f (blocks_added ops)
+added_sum f [] = refl
+added_sum f (adding b ∷ ops) = omega (arith, added_sum f ops, sum_by-cons (op_measure f) (adding b) ops, sum_by-cons f b (blocks_added ops))
+added_sum f (deleting x ∷ ops) = omega (arith, added_sum f ops, sum_by-cons (op_measure f) (deleting x) ops)
 
 -- ---- the order of operations plays no part for the blocks before them
 

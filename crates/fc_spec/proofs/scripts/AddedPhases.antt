@@ -7,6 +7,7 @@ use Rattle.std.proofs.lemmas.List.Elements.{All-nil, All-map, All-filter, All-pu
 use Rattle.std.proofs.lemmas.List.Sums.{list_all-from_AllPass}
 use Rattle.std.proofs.lemmas.List.FromFn.{fill_by_all, length-map-range_with_len}
 use Rattle.fc_spec.specs.documents.Document.{Batch}
+use Rattle.fc_spec.specs.documents.Operations.{after_ops}
 use Rattle.fc_spec.specs.documents.Val.{Text, same_text}
 use Rattle.fc_spec.specs.messages.Trace.{trace}
 use Rattle.fc_spec.specs.laws.PhaseLaws.{PhasesAddUp}
@@ -27,11 +28,11 @@ use Rattle.fc_spec.proofs.scripts.PhaseSearches.{stand_by_phase}
 
 -- ---- the world
 
-world_zip : (f : ℕ → List Batch) (h : ℕ → ℕ) (ns : List ℕ) → world_at (map f ns) (map h ns) ≡ map (λ s. joined (take (h s) (f s))) ns
+world_zip : (f : ℕ → List Batch) (h : ℕ → ℕ) (ns : List ℕ) → world_at (map f ns) (map h ns) ≡ map (λ s. after_ops [] (joined (take (h s) (f s)))) ns
 world_zip f h [] = refl
-world_zip f h (n ∷ ns) = ap (λ rest. joined (take (h n) (f n)) ∷ rest) (world_zip f h ns)
+world_zip f h (n ∷ ns) = ap (λ rest. after_ops [] (joined (take (h n) (f n))) ∷ rest) (world_zip f h ns)
 
--- the first batches of each shard are its generations
+-- what the first batches of each shard leave is its generations
 pub world_is : (S : AskedScript) (g : List ℕ) → length g ≡ S.schema.shards → world_at (batches S) g ≡ world S g
 world_is S g count =
     ap (world_at (batches S)) (fill_by_all (λ s. slice_index g s) g S.schema.shards 0 count (λ s below. refl))

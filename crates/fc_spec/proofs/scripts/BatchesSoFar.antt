@@ -4,33 +4,33 @@ use Rattle.std.specs.List.{cons_option, range_with_len}
 use Rattle.std.proofs.lemmas.Bool.{eq-eqb, ne_eqb}
 use Rattle.std.proofs.lemmas.List.FromFn.{take-map-range_with_len, map-range_with_len_more}
 use Rattle.std.proofs.lemmas.List.Sums.{sum_by-append}
-use Rattle.fc_spec.specs.documents.Document.{Block}
+use Rattle.fc_spec.specs.documents.Document.{Op}
 use Rattle.fc_spec.specs.words.Lists.{numbers_below}
-use Rattle.fc_spec.specs.scripts.Script.{Line, commits_shard, added_to, batch_of, stream}
+use Rattle.fc_spec.specs.scripts.Script.{Line, commits_shard, op_on, batch_of, stream}
 use Rattle.fc_spec.proofs.scripts.NumberedLines.{counted, counted_more, walk, walked, walked_all, walked_more, walk-append, one_more, filter_map_numbered}
 
 -- how many of the lines commit a shard
 abbrev pub commits_in : {A : Type 0} → ℕ → List (Line A) → ℕ
 commits_in s lines = count_by (commits_shard s) lines
 
--- the block that a line behind exactly j commits adds to it
-abbrev block_in : {A : Type 0} → (s j c : ℕ) → Line A → Option Block
-block_in s j c l = cond (c == j) (added_to s l) None
+-- what a line behind exactly j commits does to it
+abbrev op_in : {A : Type 0} → (s j c : ℕ) → Line A → Option Op
+op_in s j c l = cond (c == j) (op_on s l) None
 
-batch_walk : {A : Type 0} (s : ℕ) (lines : List (Line A)) (j : ℕ) → batch_of lines s j ≡ walk (block_in s j) (commits_shard s) 0 lines
-batch_walk s lines j = filter_map_numbered (block_in s j) (commits_shard s) [] lines
+batch_walk : {A : Type 0} (s : ℕ) (lines : List (Line A)) (j : ℕ) → batch_of lines s j ≡ walk (op_in s j) (commits_shard s) 0 lines
+batch_walk s lines j = filter_map_numbered (op_in s j) (commits_shard s) [] lines
 
-apart : {A : Type 0} (s j c : ℕ) (l : Line A) → (c ≡ j → ⊥) → block_in s j c l ≡ None
+apart : {A : Type 0} (s j c : ℕ) (l : Line A) → (c ≡ j → ⊥) → op_in s j c l ≡ None
 apart s j c l other = rw (ne_eqb c j other) refl
 
 -- behind more commits
-later : {A : Type 0} (s j c : ℕ) (xs : List (Line A)) → j < c → walk (block_in s j) (commits_shard s) c xs ≡ []
+later : {A : Type 0} (s j c : ℕ) (xs : List (Line A)) → j < c → walk (op_in s j) (commits_shard s) c xs ≡ []
 later s j c [] more = refl
 later s j c (x ∷ xs) more =
     rw (apart s j c x (λ e. omega arith)) (later s j (counted (commits_shard s x) c) xs (let grows = counted_more (commits_shard s x) c in omega arith))
 
 -- before as many
-sooner : {A : Type 0} (s j c : ℕ) (xs : List (Line A)) → walked (commits_shard s) c xs < j → walk (block_in s j) (commits_shard s) c xs ≡ []
+sooner : {A : Type 0} (s j c : ℕ) (xs : List (Line A)) → walked (commits_shard s) c xs < j → walk (op_in s j) (commits_shard s) c xs ≡ []
 sooner s j c [] fewer = refl
 sooner s j c (x ∷ xs) fewer =
     let grows = counted_more (commits_shard s x) c in
@@ -38,10 +38,10 @@ sooner s j c (x ∷ xs) fewer =
     rw (apart s j c x (λ e. omega arith)) (sooner s j (counted (commits_shard s x) c) xs fewer)
 
 -- the batch behind j commits, cut behind some lines
-cut : {A : Type 0} (s : ℕ) (front rest : List (Line A)) (j : ℕ) → batch_of (front ++ rest) s j ≡ batch_of front s j ++ walk (block_in s j) (commits_shard s) (commits_in s front) rest
+cut : {A : Type 0} (s : ℕ) (front rest : List (Line A)) (j : ℕ) → batch_of (front ++ rest) s j ≡ batch_of front s j ++ walk (op_in s j) (commits_shard s) (commits_in s front) rest
 cut s front rest j =
-    batch_walk s (front ++ rest) j ∙ walk-append (block_in s j) (commits_shard s) 0 front rest
-    ∙ (λ i. sym (batch_walk s front j) i ++ walk (block_in s j) (commits_shard s) (walked_all (commits_shard s) front i) rest)
+    batch_walk s (front ++ rest) j ∙ walk-append (op_in s j) (commits_shard s) 0 front rest
+    ∙ (λ i. sym (batch_walk s front j) i ++ walk (op_in s j) (commits_shard s) (walked_all (commits_shard s) front i) rest)
 
 -- a batch that is committed stays
 kept : {A : Type 0} (s : ℕ) (front rest : List (Line A)) (j : ℕ) → j < commits_in s front → batch_of (front ++ rest) s j ≡ batch_of front s j
@@ -63,8 +63,8 @@ stream_front s front rest =
 
 -- ---- one more line
 
--- a commit makes a batch of the blocks that wait
-pub stream_commit : {A : Type 0} (s : ℕ) (front : List (Line A)) (l : Line A) → commits_shard s l ≡ true → added_to s l ≡ None → stream (front ++ l ∷ []) s ≡ stream front s ++ batch_of front s (commits_in s front) ∷ []
+-- a commit makes a batch of the operations that wait
+pub stream_commit : {A : Type 0} (s : ℕ) (front : List (Line A)) (l : Line A) → commits_shard s l ≡ true → op_on s l ≡ None → stream (front ++ l ∷ []) s ≡ stream front s ++ batch_of front s (commits_in s front) ∷ []
 stream_commit s front l commits adds =
     (λ i. map (batch_of (front ++ l ∷ []) s) (numbers_below (count i))) ∙ map-range_with_len_more (batch_of (front ++ l ∷ []) s) 0 (commits_in s front) (commits_in s front) (omega arith)
     ∙ (λ i. kept_stream s front (l ∷ []) i ++ last i ∷ [])
@@ -87,9 +87,9 @@ waiting_commit s front l commits =
 commits_same : {A : Type 0} (s : ℕ) (front : List (Line A)) (l : Line A) → commits_shard s l ≡ false → commits_in s (front ++ l ∷ []) ≡ commits_in s front
 commits_same s front l commits = one_more (commits_shard s) front l ∙ (λ i. counted (commits i) (commits_in s front))
 
--- any other line makes no batch, and its block waits
+-- any other line makes no batch, and its operation waits
 pub stream_other : {A : Type 0} (s : ℕ) (front : List (Line A)) (l : Line A) → commits_shard s l ≡ false → stream (front ++ l ∷ []) s ≡ stream front s
 stream_other s front l commits = (λ i. map (batch_of (front ++ l ∷ []) s) (numbers_below (commits_same s front l commits i))) ∙ kept_stream s front (l ∷ [])
 
-pub waiting_other : {A : Type 0} (s : ℕ) (front : List (Line A)) (l : Line A) → commits_shard s l ≡ false → batch_of (front ++ l ∷ []) s (commits_in s (front ++ l ∷ [])) ≡ batch_of front s (commits_in s front) ++ cons_option (added_to s l) []
+pub waiting_other : {A : Type 0} (s : ℕ) (front : List (Line A)) (l : Line A) → commits_shard s l ≡ false → batch_of (front ++ l ∷ []) s (commits_in s (front ++ l ∷ [])) ≡ batch_of front s (commits_in s front) ++ cons_option (op_on s l) []
 waiting_other s front l commits = ap (batch_of (front ++ l ∷ []) s) (commits_same s front l commits) ∙ cut s front (l ∷ []) (commits_in s front) ∙ rw (eq-eqb (commits_in s front) (commits_in s front) refl) refl

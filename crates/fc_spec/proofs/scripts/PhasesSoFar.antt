@@ -6,7 +6,7 @@ use Rattle.std.proofs.lemmas.List.Elements.{filter-append}
 use Rattle.std.proofs.lemmas.List.FromFn.{map-range_with_len_more}
 use Rattle.fc_spec.specs.documents.Schema.{Schema}
 use Rattle.fc_spec.specs.words.Lists.{numbers_below}
-use Rattle.fc_spec.specs.scripts.Script.{Line, add, commit, sync, asks, is_sync, commits_shard, commits_up_to}
+use Rattle.fc_spec.specs.scripts.Script.{Line, add, delete, commit, sync, asks, is_sync, commits_shard, commits_up_to}
 use Rattle.fc_spec.specs.scripts.Phases.{Search, search_at, searches, Phase, phase}
 use Rattle.fc_spec.proofs.words.MappedLists.{map-same}
 use Rattle.fc_spec.proofs.scripts.NumberedLines.{counted, counted_more, count_first, walk, walk-append, walk_count, walk_count-append, walked, walked_all, walked_more, one_more, filter_map_numbered, count_by_numbered}
@@ -93,12 +93,14 @@ searches_push front l =
 -- what a line asks is in its own phase
 own_phase : {A : Type 0} (c : ℕ) (l : Line A) → searches_in c (cons_option (search_at c l) []) ≡ cons_option (search_at c l) []
 own_phase c (add shard b) = refl
+own_phase c (delete shard id) = refl
 own_phase c (commit shard) = refl
 own_phase c sync = refl
 own_phase c (asks session a) = rw (eq-eqb c c refl) refl
 
 other_phase : {A : Type 0} (c p : ℕ) (l : Line A) → (c ≡ p → ⊥) → searches_in p (cons_option (search_at c l) []) ≡ []
 other_phase c p (add shard b) other = refl
+other_phase c p (delete shard id) other = refl
 other_phase c p (commit shard) other = refl
 other_phase c p sync other = refl
 other_phase c p (asks session a) other = rw (ne_eqb c p other) refl

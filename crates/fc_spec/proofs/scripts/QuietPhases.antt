@@ -3,7 +3,7 @@ use Rattle.std.proofs.Common.{◌≡◌, ℕ, zero, suc, ◌+◌, List, [], ◌�
 use Rattle.std.specs.Prelude.{if◌then◌else◌}
 use Rattle.std.specs.List.{filter_map, enumerate_from, list_all, list_any, AllByRecursion}
 use Rattle.std.proofs.lemmas.Bool.{and_parts, and_right, or_parts, not-true, leb-true, leb-false, le-leb, lt-leb, eqb-false}
-use Rattle.fc_spec.specs.scripts.Script.{Line, add, commit, sync, asks, Script, commits_shard, phase_of, commits_up_to, commits_before}
+use Rattle.fc_spec.specs.scripts.Script.{Line, add, delete, commit, sync, asks, Script, commits_shard, phase_of, commits_up_to, commits_before}
 use Rattle.fc_spec.specs.scripts.Phases.{Search, search_at, searches}
 use Rattle.fc_spec.specs.laws.ScriptLaws.{is_commit, is_search, phases_where, are_apart}
 use Rattle.fc_spec.proofs.words.Counting.{count_by-cons, count_by-none}
@@ -26,6 +26,7 @@ no_commit {A} phase s p early ((i, commit c) ∷ ns) agree none =
     ∙ (λ j. cond (commits_shard {A = A} s (commit c) && agree (phase i) parts.0 j) 1 0 + no_commit phase s p early ns agree parts.1 j)
     ∙ sym (count_by-cons (λ n. commits_shard s n.1 && early (phase n.0)) (i, commit c) ns)
 no_commit phase s p early ((i, add shard block) ∷ ns) agree none = no_commit phase s p early ns agree none
+no_commit phase s p early ((i, delete shard id) ∷ ns) agree none = no_commit phase s p early ns agree none
 no_commit phase s p early ((i, sync) ∷ ns) agree none = no_commit phase s p early ns agree none
 no_commit phase s p early ((i, asks session a) ∷ ns) agree none = no_commit phase s p early ns agree none
 
@@ -56,6 +57,7 @@ each_search : {A : Type 0} (phase : ℕ → ℕ) (test : ℕ → Bool) (ns : Lis
 each_search phase test [] all = tt
 each_search phase test ((i, asks session a) ∷ ns) all = let parts = and_parts (test (phase i)) (list_all test (phases_in phase is_search ns)) all in (parts.0, each_search phase test ns parts.1)
 each_search phase test ((i, add shard block) ∷ ns) all = each_search phase test ns all
+each_search phase test ((i, delete shard id) ∷ ns) all = each_search phase test ns all
 each_search phase test ((i, commit c) ∷ ns) all = each_search phase test ns all
 each_search phase test ((i, sync) ∷ ns) all = each_search phase test ns all
 

@@ -2,7 +2,7 @@
 use Rattle.std.proofs.Common.{ℕ, zero, suc, ◌+◌, ◌≤◌, List, [], ◌∷◌, take, cond, count_by, add-one, arith}
 use Rattle.std.specs.List.{filter_map, enumerate_from}
 use Rattle.std.proofs.lemmas.List.Sums.{sum_by-take-le}
-use Rattle.fc_spec.specs.scripts.Script.{Line, add, commit, sync, asks, is_sync, phase_of}
+use Rattle.fc_spec.specs.scripts.Script.{Line, add, delete, commit, sync, asks, is_sync, phase_of}
 use Rattle.fc_spec.specs.scripts.Phases.{Search, search_at, searches}
 use Rattle.fc_spec.proofs.words.Counting.{count_by-cons}
 
@@ -30,6 +30,7 @@ rise_from : {A : Type 0} (lines : List (Line A)) (low i : ℕ) (xs : List (Line 
 rise_from lines low i [] h = tt
 rise_from lines low i (asks session a ∷ xs) h = (h, last_phase lines i, rise_from lines (phase_of lines i) (i + 1) xs (rw add-one (phase_step lines i)))
 rise_from lines low i (add shard block ∷ xs) h = rise_from lines low (i + 1) xs (let step = phase_step lines i in rw add-one (omega arith))
+rise_from lines low i (delete shard id ∷ xs) h = rise_from lines low (i + 1) xs (let step = phase_step lines i in rw add-one (omega arith))
 rise_from lines low i (commit shard ∷ xs) h = rise_from lines low (i + 1) xs (let step = phase_step lines i in rw add-one (omega arith))
 rise_from lines low i (sync ∷ xs) h = rise_from lines low (i + 1) xs (let step = phase_step lines i in rw add-one (omega arith))
 

@@ -12,9 +12,9 @@ use Rattle.fc_spec.specs.scripts.JsonValues.{HasNumbers, MembersHaveNumbers, Has
 use Rattle.fc_spec.specs.documents.BlockReading.{block_of}
 use Rattle.fc_spec.specs.scripts.ScriptFault.{LineFault, not_json, unknown_line, bad_document, long_line, too_long}
 use Rattle.fc_spec.specs.scripts.ScriptLines.{json_of}
-use Rattle.fc_spec.specs.scripts.Script.{Line, add, commit, sync, asks, Script}
+use Rattle.fc_spec.specs.scripts.Script.{Line, add, delete, commit, sync, asks, Script}
 use Rattle.fc_spec.specs.scripts.ScriptTotals.{Limits}
-use Rattle.fc_spec.specs.scripts.LineReading.{added_shard, committed_shard, session_of, add_of, commit_of, sync_of, search_of, named_line, line_said}
+use Rattle.fc_spec.specs.scripts.LineReading.{added_shard, committed_shard, session_of, add_of, commit_of, sync_of, search_of, named_line, line_said, deleted_id, delete_of}
 use Rattle.fc_spec.specs.scripts.ScriptReading.{line_limit, script_limit, value_on, schema_on, check_last, with_line, Numbered, numbered_lines, at_line, with_lines, script_of_lines, script_of}
 use Rattle.fc_spec.specs.laws.RequestLaws.{AsksValid, ScriptsAskValid}
 use Rattle.fc_spec.specs.words.Walks.{unless, with_fault}
@@ -27,6 +27,7 @@ use Rattle.fc_spec.proofs.requests.ValidWalk.{read_are_valid_whole}
 abbrev pub AsksJson : Line Data → Type 0
 AsksJson (asks session d) = IsJson d
 AsksJson (add shard block) = Unit {0}
+AsksJson (delete shard id) = Unit {0}
 AsksJson (commit shard) = Unit {0}
 AsksJson sync = Unit {0}
 
@@ -70,6 +71,11 @@ add_asks s ms =
     whatever AsksJson (unless (only_names (codes "doc" ∷ codes "shard" ∷ []) ms) unknown_line) _ (λ u. whatever AsksJson (ok_or (get_member (codes "doc") ms) unknown_line) _
     (λ doc. whatever AsksJson (added_shard s (get_member (codes "shard") ms)) _ (λ shard. whatever AsksJson (with_fault bad_document (block_of s doc)) _ (λ block. tt))))
 
+delete_asks : (s : Schema) (ms : Members) → IfOk (delete_of s ms) AsksJson
+delete_asks s ms =
+    whatever AsksJson (unless (only_names (codes "id" ∷ codes "shard" ∷ []) ms) unknown_line) _ (λ u. whatever AsksJson (ok_or (get_member (codes "id") ms) unknown_line) _
+    (λ d. whatever AsksJson (ok_or (deleted_id d) unknown_line) _ (λ id. whatever AsksJson (added_shard s (get_member (codes "shard") ms)) _ (λ shard. tt))))
+
 commit_asks : (s : Schema) (ms : Members) → IfOk (commit_of s ms) AsksJson
 commit_asks s ms = whatever AsksJson (unless (only_names (codes "shard" ∷ []) ms) unknown_line) _ (λ u. whatever AsksJson (committed_shard s (get_member (codes "shard") ms)) _ (λ shard. tt))
 
@@ -89,8 +95,9 @@ one_of false x y h k = k
 named_asks : (s : Schema) (name : Text) (ms : Members) → HoldsJson ms → IfOk (named_line s name ms) AsksJson
 named_asks s name ms h =
     one_of (same_text name (codes "add")) (add_of s ms) _ (add_asks s ms)
+    (one_of (same_text name (codes "delete")) (delete_of s ms) _ (delete_asks s ms)
     (one_of (same_text name (codes "commit")) (commit_of s ms) _ (commit_asks s ms)
-    (one_of (same_text name (codes "sync")) (sync_of ms) _ (sync_asks ms) (one_of (same_text name (codes "search")) (search_of ms) (Err unknown_line) (search_asks ms h) tt)))
+    (one_of (same_text name (codes "sync")) (sync_of ms) _ (sync_asks ms) (one_of (same_text name (codes "search")) (search_of ms) (Err unknown_line) (search_asks ms h) tt))))
 
 pub line_asks : (s : Schema) (d : Data) → IsJson d → IfOk (line_said s d) AsksJson
 line_asks s d h =
@@ -128,6 +135,7 @@ bytes_ask limits bytes = whatever ScriptAsksJson (unless (nat_le (length bytes) 
 pub asks_valid : (s : Schema) (line : Line Data) → AsksJson line → AsksValid s line
 asks_valid s (asks session d) h = λ r e. read_are_valid_whole s d r h.numbers h.keys e
 asks_valid s (add shard block) h = tt
+asks_valid s (delete shard id) h = tt
 asks_valid s (commit shard) h = tt
 asks_valid s sync h = tt
 

@@ -24,14 +24,13 @@ use Rattle.fc_spec.proofs.scripts.WorldBlocks.{world_documents}
 
 -- ---- what documents that pass the check count
 
-passed_check : {E : Type 0} (a b c : Bool) (e f g : E) → (unless a e >>= λ _. unless b f >>= λ _. unless c g) ≡ Ok tt → (b ≡ true) × (c ≡ true)
-passed_check true true true e f g h = (refl, refl)
-passed_check true true false e f g h = absurd cc
-passed_check true false c e f g h = absurd cc
-passed_check false b c e f g h = absurd cc
+passed_check : {E : Type 0} (a b : Bool) (e f : E) → (unless a e >>= λ _. unless b f) ≡ Ok tt → (a ≡ true) × (b ≡ true)
+passed_check true true e f h = (refl, refl)
+passed_check true false e f h = absurd cc
+passed_check false b e f h = absurd cc
 
 checked : (limits : Limits) (s : Schema) (ds : List Document) → check_documents limits s ds ≡ Ok tt → (sums_fit s ds ≡ true) × (are_few limits ds ≡ true)
-checked limits s ds ok = passed_check _ (sums_fit s ds) (are_few limits ds) _ _ _ ok
+checked limits s ds ok = passed_check (sums_fit s ds) (are_few limits ds) _ _ ok
 
 -- of a field that the schema lacks there are no values
 no_values : (s : Schema) (ds : List Document) (field : ℕ) → length s.fields ≤ field → All (IsDocumentOf s) ds → absolute_total ds field ≡ 0

@@ -1,4 +1,4 @@
--- Documents, blocks, batches and operations. Guide: Indexing Nested Child Documents; Indexing with Update Handlers.
+-- Documents, blocks, operations and batches. Guide: Indexing Nested Child Documents; Indexing with Update Handlers.
 use Rattle.std.specs.Prelude.{ℕ, List, []}
 use Rattle.std.specs.List.{slice_index_or}
 use Rattle.fc_spec.specs.documents.Val.{Text, Val}
@@ -16,11 +16,11 @@ pub record Block : Type 0 where
   pub children : List Document
   pub parent : Document
 
--- what one commit adds to a shard
-abbrev pub Batch : Type 0
-Batch = List Block
-
 -- what a line does to a shard: it adds a block, or deletes the blocks of an id
 pub data Op : Type 0 where
   adding : Block → Op
   deleting : Text → Op
+
+-- the operations that one commit makes seen, in order
+abbrev pub Batch : Type 0
+Batch = List Op

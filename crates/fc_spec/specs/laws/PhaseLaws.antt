@@ -29,6 +29,6 @@ BookedAreOutputs = (reply : Replies) (S : AskedScript) (t : Text) (before after 
 abbrev pub SentAscends : Type 0
 SentAscends = (reply : Replies) (shards : List (List Batch)) (high : List ℕ) (least : Text → List ℕ) (qs : List (Search Asked)) (ls : List SearchLine) → ArePhaseLines reply shards high least qs ls → All (λ sent. IfSome sent Ascend) (sent_for ls)
 
--- where the batches of all shards are within the limits, so are the first ones of each, however many
+-- where all that the batches of all shards add is within the limits, so is what the first ones of each leave, however many
 abbrev pub FirstAreWithin : Type 0
 FirstAreWithin = (shards : List (List Batch)) (g : List ℕ) → IsWithinLimits (world_added shards) → IsWithinLimits (world_at shards g)

@@ -8,7 +8,7 @@ use Rattle.fc_spec.specs.requests.Request.{Request}
 use Rattle.fc_spec.specs.queries.ValidQueries.{IsValidQuery}
 use Rattle.fc_spec.specs.requests.ValidRequests.{IsValidFilter, AreValidNodes, node_depth, IsValidRequest}
 use Rattle.fc_spec.specs.scripts.JsonValues.{HasNumbers, HasAscendingKeys}
-use Rattle.fc_spec.specs.scripts.Script.{Line, add, commit, sync, asks, Script}
+use Rattle.fc_spec.specs.scripts.Script.{Line, add, delete, commit, sync, asks, Script}
 use Rattle.fc_spec.specs.scripts.ScriptTotals.{Limits}
 use Rattle.fc_spec.specs.scripts.ScriptReading.{script_of}
 use Rattle.fc_spec.specs.requests.RequestReading.{request_of}
@@ -30,6 +30,7 @@ ReadAreValidWhole = (s : Schema) (d : Data) (r : Request) → HasNumbers d → H
 abbrev pub AsksValid : Schema → Line Data → Type 0
 AsksValid s (asks session d) = (r : Request) → request_of s d ≡ Ok r → IsValidRequest s r
 AsksValid s (add shard block) = Unit {0}
+AsksValid s (delete shard id) = Unit {0}
 AsksValid s (commit shard) = Unit {0}
 AsksValid s sync = Unit {0}
 

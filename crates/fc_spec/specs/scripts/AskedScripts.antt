@@ -4,7 +4,7 @@ use Rattle.serde_json.specs.Data.{Data}
 use Rattle.fc_spec.specs.requests.Request.{Request}
 use Rattle.fc_spec.specs.requests.RequestFault.{RequestFault}
 use Rattle.fc_spec.specs.requests.RequestReading.{request_of}
-use Rattle.fc_spec.specs.scripts.Script.{Line, add, commit, sync, asks, Script}
+use Rattle.fc_spec.specs.scripts.Script.{Line, add, delete, commit, sync, asks, Script}
 use Rattle.fc_spec.specs.scripts.ScriptFault.{ScriptFault}
 use Rattle.fc_spec.specs.scripts.ScriptReading.{script_of}
 use Rattle.fc_spec.specs.scripts.ScriptTotals.{Limits, script_limits}
@@ -13,6 +13,7 @@ use Rattle.fc_spec.specs.words.Walks.{◌>>=◌}
 -- a line, and a script, with what each search asks changed by `see`
 abbrev pub line_asking : {A B : Type 0} → (A → B) → Line A → Line B
 line_asking see (add s b) = add s b
+line_asking see (delete s id) = delete s id
 line_asking see (commit s) = commit s
 line_asking see sync = sync
 line_asking see (asks session a) = asks session (see a)

@@ -1,4 +1,4 @@
--- The fourteen faults of a script, with their numbers and names.
+-- The faults of a script, with their numbers and names; no fault has the number 7.
 use Rattle.std.specs.Prelude.{ℕ, codes}
 use Rattle.fc_spec.specs.documents.Val.{Text}
 use Rattle.fc_spec.specs.documents.DocFault.{DocFault}
@@ -11,7 +11,6 @@ pub data LineFault : Type 0 where
   bad_schema : LineFault
   bad_shard : LineFault
   bad_document : DocFault → LineFault
-  duplicate_id : LineFault
   field_total : LineFault
   too_many_documents : LineFault
   too_many_sessions : LineFault
@@ -28,7 +27,6 @@ line_fault_number unknown_line = 3
 line_fault_number bad_schema = 4
 line_fault_number bad_shard = 5
 line_fault_number (bad_document d) = 6
-line_fault_number duplicate_id = 7
 line_fault_number field_total = 8
 line_fault_number too_many_documents = 9
 line_fault_number too_many_sessions = 10
@@ -45,7 +43,6 @@ line_fault_name unknown_line = codes "unknown-line"
 line_fault_name bad_schema = codes "bad-schema"
 line_fault_name bad_shard = codes "bad-shard"
 line_fault_name (bad_document d) = codes "bad-document"
-line_fault_name duplicate_id = codes "duplicate-id"
 line_fault_name field_total = codes "field-total"
 line_fault_name too_many_documents = codes "too-many-documents"
 line_fault_name too_many_sessions = codes "too-many-sessions"

@@ -6,10 +6,10 @@ use Rattle.fc_spec.specs.documents.Val.{Text, same_text}
 use Rattle.fc_spec.specs.documents.Document.{Document}
 use Rattle.fc_spec.specs.documents.Schema.{Schema}
 use Rattle.fc_spec.specs.documents.SchemaReading.{schema_of}
-use Rattle.fc_spec.specs.scripts.ScriptFault.{LineFault, not_json, no_schema, bad_schema, duplicate_id, field_total, too_many_documents, too_many_sessions, long_line, too_long, too_many_commits, too_many_syncs, ScriptFault}
+use Rattle.fc_spec.specs.scripts.ScriptFault.{LineFault, not_json, no_schema, bad_schema, field_total, too_many_documents, too_many_sessions, long_line, too_long, too_many_commits, too_many_syncs, ScriptFault}
 use Rattle.fc_spec.specs.scripts.ScriptLines.{lines_of, is_blank, json_of}
-use Rattle.fc_spec.specs.scripts.Script.{Line, add, commit, sync, asks, Script}
-use Rattle.fc_spec.specs.scripts.ScriptTotals.{Limits, script_limits, documents_added, ids_in, has_repeat, sums_fit, are_few, few_commits, few_sessions, few_syncs}
+use Rattle.fc_spec.specs.scripts.Script.{Line, add, delete, commit, sync, asks, Script}
+use Rattle.fc_spec.specs.scripts.ScriptTotals.{Limits, script_limits, documents_added, sums_fit, are_few, few_commits, few_sessions, few_syncs}
 use Rattle.fc_spec.specs.scripts.JsonObjects.{sole_member}
 use Rattle.fc_spec.specs.scripts.LineReading.{line_said}
 use Rattle.fc_spec.specs.words.Walks.{◌>>=◌, unless, with_fault}
@@ -41,16 +41,16 @@ schema_on l = do
   d ← value_on l
   schema_said d
 
--- all documents of a script: no `id` stands twice, and the sums and the numbers are within their limits
+-- all documents that a script adds: the sums and the numbers are within their limits
 abbrev pub check_documents : Limits → Schema → List Document → Result (Unit {0}) LineFault
 check_documents limits s ds = do
-  _ ← unless (not (has_repeat (ids_in ds))) duplicate_id
   _ ← unless (sums_fit s ds) field_total
   unless (are_few limits ds) too_many_documents
 
 -- what lines count up to is within the limits; only what their last one counts is looked at
 abbrev pub check_last : {A : Type 0} → Limits → Schema → List (Line A) → Line A → Result (Unit {0}) LineFault
 check_last limits s lines (add shard block) = check_documents limits s (documents_added lines)
+check_last limits s lines (delete shard id) = Ok tt
 check_last limits s lines (commit shard) = unless (few_commits s lines) too_many_commits
 check_last limits s lines sync = unless (few_syncs lines) too_many_syncs
 check_last limits s lines (asks session a) = unless (few_sessions lines) too_many_sessions

@@ -1,7 +1,7 @@
 -- What is counted over the lines of a script.
-use Rattle.std.specs.Prelude.{ℕ, List, [], ◌∷◌, length, sum_by, count_by, nat_abs, Bool, ◌||◌, ◌&&◌, nat_le, Option, None, Some, false, not}
-use Rattle.std.specs.List.{filter, filter_map, flat_map, list_all}
-use Rattle.fc_spec.specs.documents.Val.{Text, Val, same_text, has_val}
+use Rattle.std.specs.Prelude.{ℕ, List, [], ◌∷◌, length, sum_by, count_by, nat_abs, Bool, ◌&&◌, nat_le, Option, None, Some, not}
+use Rattle.std.specs.List.{filter, filter_map, list_all}
+use Rattle.fc_spec.specs.documents.Val.{Text, same_text}
 use Rattle.fc_spec.specs.words.Lists.{numbers_below}
 use Rattle.fc_spec.specs.documents.Document.{Document, Block, values_of}
 use Rattle.fc_spec.specs.documents.Columns.{longs_in}
@@ -23,20 +23,9 @@ abbrev pub added : {A : Type 0} → Line A → Option Block
 added (add s block) = Some block
 added _ = None
 
--- the documents that lines add
+-- the documents that lines add, whether later lines delete them or not
 abbrev pub documents_added : {A : Type 0} → List (Line A) → List Document
 documents_added lines = documents_in (filter_map added lines)
-
--- ---- ids
-
--- the values of `id` of documents
-abbrev pub ids_in : List Document → List Val
-ids_in ds = flat_map (λ d. values_of d 0) ds
-
--- some value stands twice
-abbrev pub has_repeat : List Val → Bool
-has_repeat [] = false
-has_repeat (v ∷ vs) = has_val v vs || has_repeat vs
 
 -- ---- sums
 
