@@ -1,2 +1,3 @@
 pub mod SetAnswer
+pub mod LiveSets
 pub mod Listed
