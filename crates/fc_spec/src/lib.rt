@@ -58,7 +58,7 @@ ghost use Rattle.fc_spec.specs.laws.RequestLaws.{
 };
 ghost use Rattle.fc_spec.specs.laws.RoundsEnd.{NothingLacksBeyond, RoundsAnswer, RoundsAreFew, RoundsComplete, SearchesEnd};
 ghost use Rattle.fc_spec.specs.laws.ScheduleLaw.{PhasesGoOn, PinsAreLegal, RunsAreLegal};
-ghost use Rattle.fc_spec.specs.laws.ScriptLaws.{EndsAreOutputs, IsOnlyOutput, SearchesAreFew, StandByPhase, WorldsAreWithin};
+ghost use Rattle.fc_spec.specs.laws.ScriptLaws.{AddedAreWithin, EndsAreOutputs, IsOnlyOutput, SearchesAreFew, StandByPhase, WorldsAreWithin};
 ghost use Rattle.fc_spec.specs.laws.ShapedAnswers.{AnswersAreShaped, LeastsAreShaped};
 ghost use Rattle.fc_spec.specs.laws.ShardAlone.{AnswersFromItsBlocks, ExactFromItsBlocks};
 ghost use Rattle.fc_spec.specs.laws.SortingLaw.{PagesAreCuts, RanksAreFronts, RestsKeepFronts, RestsKeepPages};
@@ -281,6 +281,11 @@ pub fn scripts_have_one_output()
 /// Where a script of at most 64 shards is within the limits, each of its worlds is, whatever the generations.
 pub fn worlds_are_within_limits()
     ensures { WorldsAreWithin }
+{}
+
+/// So is all that its batches add, whether later ones leave it or not.
+pub fn added_are_within_limits()
+    ensures { AddedAreWithin }
 {}
 
 /// What the sessions of a phase write, each by itself, woven in the order of the searches, is what the phase may write; and

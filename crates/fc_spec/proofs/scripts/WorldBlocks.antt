@@ -1,15 +1,17 @@
--- The blocks of a world of a script are among those that its lines add, each at most once.
-use Rattle.std.proofs.Common.{◌≡◌, ℕ, ◌≤◌, List, [], take, count_by, slice_index, Some, refl, ap, arith}
+-- The blocks of a world of a script, and all that its batches add, are among those that its lines add, each at most once.
+use Rattle.std.proofs.Common.{◌≡◌, ℕ, ◌≤◌, List, [], ◌∷◌, map, take, count_by, slice_index, Some, refl, ap, arith}
 use Rattle.std.specs.Prelude.{sum_by}
 use Rattle.std.specs.List.{filter_map, enumerate_from}
 use Rattle.std.proofs.lemmas.List.Sums.{sum_by-le-sum_by}
-use Rattle.fc_spec.specs.documents.Document.{Document, Block, Op, adding, deleting}
-use Rattle.fc_spec.proofs.documents.LeftBlocks.{op_measure, after_sum}
-use Rattle.fc_spec.specs.documents.Totals.{documents_of, documents_in}
+use Rattle.fc_spec.specs.documents.Document.{Block, Op, adding, deleting}
+use Rattle.fc_spec.specs.documents.Operations.{blocks_added}
+use Rattle.fc_spec.proofs.documents.LeftBlocks.{op_measure, after_sum, added_sum}
 use Rattle.fc_spec.specs.words.Lists.{joined, numbers_below}
 use Rattle.fc_spec.specs.scripts.Script.{Line, add, delete, commit, sync, asks, Script, commits_shard, op_on, earlier, batch_of, stream, generation, world}
-use Rattle.fc_spec.specs.scripts.ScriptTotals.{added, documents_added}
-use Rattle.fc_spec.proofs.words.Sums.{sum_by-none, sum_by-flat_map, sum_by-joined, sum_by-first, sum_by-shared, sum_by-shared_as, sum_by-part, part, filter_map-enumerate, of_option}
+use Rattle.fc_spec.specs.scripts.ScriptTotals.{added}
+use Rattle.fc_spec.specs.scripts.PinnedWorlds.{world_added}
+use Rattle.fc_spec.specs.scripts.ScriptParts.{batches}
+use Rattle.fc_spec.proofs.words.Sums.{sum_by-none, sum_by-joined, sum_by-first, sum_by-shared, sum_by-shared_as, sum_by-part, part, filter_map-enumerate, of_option}
 
 -- the batches of a shard share out its operations
 stream_sum : {A : Type 0} (f : Op → ℕ) (lines : List (Line A)) (s : ℕ) → sum_by f (joined (stream lines s)) ≤ sum_by f (filter_map (op_on s) lines)
@@ -33,7 +35,7 @@ line_sum f n (commit c) = let none = sum_by-none (λ s. 0) (numbers_below n) (λ
 line_sum f n (sync) = let none = sum_by-none (λ s. 0) (numbers_below n) (λ s. refl) in omega arith
 line_sum f n (asks session a) = let none = sum_by-none (λ s. 0) (numbers_below n) (λ s. refl) in omega arith
 
-world_sum : {A : Type 0} (f : Block → ℕ) (S : Script A) (g : List ℕ) → sum_by f (joined (world S g)) ≤ sum_by f (filter_map added S.lines)
+pub world_sum : {A : Type 0} (f : Block → ℕ) (S : Script A) (g : List ℕ) → sum_by f (joined (world S g)) ≤ sum_by f (filter_map added S.lines)
 world_sum f S g =
     let shards = numbers_below S.schema.shards in
     let whole = sum_by-joined f (λ s. generation S.lines s (slice_index g s)) shards in
@@ -41,8 +43,20 @@ world_sum f S g =
     let share = sum_by-shared_as (op_measure f) f op_on added shards (line_sum f S.schema.shards) S.lines in
     omega (arith, whole, each, share)
 
--- so its documents measure no more
-pub world_documents : {A : Type 0} (f : Document → ℕ) (S : Script A) (g : List ℕ) → sum_by f (documents_in (joined (world S g))) ≤ sum_by f (documents_added S.lines)
-world_documents f S g =
-    let block = λ (b : Block). sum_by f (documents_of b) in
-    omega (arith, sum_by-flat_map f documents_of (joined (world S g)), sum_by-flat_map f documents_of (filter_map added S.lines), world_sum block S g)
+-- ---- all that batches add
+
+shard_added : {A : Type 0} (f : Block → ℕ) (lines : List (Line A)) (s : ℕ) → sum_by f (blocks_added (joined (stream lines s))) ≤ sum_by (op_measure f) (filter_map (op_on s) lines)
+shard_added f lines s = omega (arith, added_sum f (joined (stream lines s)), stream_sum (op_measure f) lines s)
+
+added_each : {A : Type 0} (lines : List (Line A)) (ns : List ℕ) → world_added (map (stream lines) ns) ≡ map (λ s. blocks_added (joined (stream lines s))) ns
+added_each lines [] = refl
+added_each lines (s ∷ ns) = ap (λ rest. blocks_added (joined (stream lines s)) ∷ rest) (added_each lines ns)
+
+pub all_added_sum : {A : Type 0} (f : Block → ℕ) (S : Script A) → sum_by f (joined (world_added (batches S))) ≤ sum_by f (filter_map added S.lines)
+all_added_sum f S =
+    let shards = numbers_below S.schema.shards in
+    let same = ap (λ W. sum_by f (joined W)) (added_each S.lines shards) in
+    let whole = sum_by-joined f (λ s. blocks_added (joined (stream S.lines s))) shards in
+    let each = sum_by-le-sum_by (λ s. sum_by f (blocks_added (joined (stream S.lines s)))) (λ s. sum_by (op_measure f) (filter_map (op_on s) S.lines)) shards (λ s. shard_added f S.lines s) in
+    let share = sum_by-shared_as (op_measure f) f op_on added shards (line_sum f S.schema.shards) S.lines in
+    omega (arith, same, whole, each, share)

@@ -1,26 +1,34 @@
--- Each world of a script that is within the limits is within them.
+-- Each world of a script that is within the limits is within them, and so is all that its batches add.
 use Rattle.std.proofs.Common.{◌≡◌, inl, inr, ℕ, ◌≤◌, List, [], ◌∷◌, length, Bool, true, false, nat_le, nat_abs, slice_index, Ok, refl, ap, arith}
 use Rattle.std.specs.Prelude.{sum_by, All}
+use Rattle.std.specs.List.{filter_map}
 use Rattle.std.proofs.lemmas.Bool.{and_parts, and_from, leb-true, le-leb, cases_lt}
-use Rattle.std.proofs.lemmas.List.{get_or_past}
+use Rattle.std.proofs.lemmas.List.{get_or_past, length-map}
 use Rattle.std.proofs.lemmas.List.Elements.{All-head, All-tail}
 use Rattle.std.proofs.lemmas.List.Sums.{sum_by-cons, AllPass-from_list_all}
 use Rattle.std.proofs.lemmas.List.FromFn.{length-map-range_with_len}
 use Rattle.fc_spec.specs.words.Lists.{joined, numbers_below}
 use Rattle.fc_spec.specs.words.Walks.{◌>>=◌, unless}
-use Rattle.fc_spec.specs.documents.Document.{Document, values_of}
+use Rattle.fc_spec.specs.documents.Document.{Block, Document, values_of}
+use Rattle.fc_spec.specs.documents.Operations.{blocks_added}
 use Rattle.fc_spec.specs.documents.Columns.{longs_in}
 use Rattle.fc_spec.specs.documents.Schema.{Schema}
-use Rattle.fc_spec.specs.documents.Totals.{documents_in, value_count}
+use Rattle.fc_spec.specs.documents.Totals.{documents_of, documents_in, value_count}
 use Rattle.fc_spec.specs.documents.ValidBlocks.{IsDocumentOf}
-use Rattle.fc_spec.specs.scripts.Script.{Script, generation, world}
-use Rattle.fc_spec.specs.scripts.ScriptTotals.{Limits, script_limits, documents_added, are_few, absolute_total, total_limit, sums_fit}
+use Rattle.fc_spec.specs.documents.World.{World}
+use Rattle.fc_spec.specs.scripts.AskedScripts.{AskedScript}
+use Rattle.fc_spec.specs.scripts.PinnedWorlds.{world_added}
+use Rattle.fc_spec.specs.scripts.ScriptParts.{batches}
+use Rattle.fc_spec.specs.scripts.ValidScripts.{IsWithin}
+use Rattle.fc_spec.specs.scripts.WorldLimits.{IsWithinLimits}
+use Rattle.fc_spec.specs.scripts.Script.{generation, stream, world}
+use Rattle.fc_spec.specs.scripts.ScriptTotals.{Limits, script_limits, added, documents_added, are_few, absolute_total, total_limit, sums_fit}
 use Rattle.fc_spec.specs.scripts.ScriptReading.{check_documents}
-use Rattle.fc_spec.specs.laws.ScriptLaws.{WorldsAreWithin}
+use Rattle.fc_spec.specs.laws.ScriptLaws.{AddedAreWithin, WorldsAreWithin}
 use Rattle.fc_spec.proofs.words.NumbersBelow.{below_all}
-use Rattle.fc_spec.proofs.words.Sums.{sum_by-ones}
+use Rattle.fc_spec.proofs.words.Sums.{sum_by-flat_map, sum_by-ones}
 use Rattle.fc_spec.proofs.documents.BlockTotals.{valid_documents}
-use Rattle.fc_spec.proofs.scripts.WorldBlocks.{world_documents}
+use Rattle.fc_spec.proofs.scripts.WorldBlocks.{all_added_sum, world_sum}
 
 -- ---- what documents that pass the check count
 
@@ -59,18 +67,45 @@ few_within limits ds es fewer less few =
     and_from (nat_le (length es) limits.documents) (nat_le (value_count es) limits.values)
     (le-leb (length es) limits.documents (omega (arith, documents, fewer))) (le-leb (value_count es) limits.values (omega (arith, values, less)))
 
--- ---- worlds
+-- ---- blocks that measure no more than those that the lines of a script add
 
-fewer_documents : {A : Type 0} (S : Script A) (g : List ℕ) → length (documents_in (joined (world S g))) ≤ length (documents_added S.lines)
-fewer_documents S g = omega (arith, sum_by-ones (documents_in (joined (world S g))), sum_by-ones (documents_added S.lines), world_documents (λ d. 1) S g)
+documents_sum : (f : Document → ℕ) (few many : List Block) → ((g : Block → ℕ) → sum_by g few ≤ sum_by g many) → sum_by f (documents_in few) ≤ sum_by f (documents_in many)
+documents_sum f few many less =
+    let block = λ (b : Block). sum_by f (documents_of b) in
+    omega (arith, sum_by-flat_map f documents_of few, sum_by-flat_map f documents_of many, less block)
 
-pub worlds_are_within : WorldsAreWithin
-worlds_are_within S g few valid = record {
-  shards = (let is = length-map-range_with_len (λ s. generation S.lines s (slice_index g s)) 0 S.schema.shards in omega arith);
-  few = few_within script_limits (documents_added S.lines) (documents_in (joined (world S g))) (fewer_documents S g) (world_documents (λ d. sum_by (λ vs. length vs) d) S g) now.1;
+fewer_documents : (few many : List Block) → ((g : Block → ℕ) → sum_by g few ≤ sum_by g many) → length (documents_in few) ≤ length (documents_in many)
+fewer_documents few many less = omega (arith, sum_by-ones (documents_in few), sum_by-ones (documents_in many), documents_sum (λ d. 1) few many less)
+
+-- within the limits, where others are
+pub fewer_within : (V W : World) → length V ≤ length W → ((f : Block → ℕ) → sum_by f (joined V) ≤ sum_by f (joined W)) → IsWithinLimits W → IsWithinLimits V
+fewer_within V W shards less all = record {
+  shards = (let few = all.shards in omega (arith, shards, few));
+  few = few_within script_limits (documents_in (joined W)) (documents_in (joined V)) (fewer_documents (joined V) (joined W) less) (documents_sum (λ d. sum_by (λ vs. length vs) d) (joined V) (joined W) less) all.few;
+  sums = λ field. (let most = all.sums field in let fewer = documents_sum (λ d. sum_by nat_abs (longs_in (values_of d field))) (joined V) (joined W) less in omega (arith, most, fewer));
+}
+
+-- and where a script is
+script_within : (S : AskedScript) (W : World) → length W ≤ 64 → ((f : Block → ℕ) → sum_by f (joined W) ≤ sum_by f (filter_map added S.lines)) → IsWithin script_limits S → IsWithinLimits W
+script_within S W few less valid = record {
+  shards = few;
+  few = few_within script_limits (documents_added S.lines) (documents_in (joined W)) (fewer_documents (joined W) (filter_map added S.lines) less) (documents_sum (λ d. sum_by (λ vs. length vs) d) (joined W) (filter_map added S.lines) less) now.1;
   sums = λ field. (let all = total_within S.schema (documents_added S.lines) field (valid_documents S.schema _ valid.blocks) now.0 in
-      let less = world_documents (λ d. sum_by nat_abs (longs_in (values_of d field))) S g in omega (arith, all, less));
+      let fewer = documents_sum (λ d. sum_by nat_abs (longs_in (values_of d field))) (joined W) (filter_map added S.lines) less in omega (arith, all, fewer));
 }
   where
     now : (sums_fit S.schema (documents_added S.lines) ≡ true) × (are_few script_limits (documents_added S.lines) ≡ true)
     now = checked script_limits S.schema (documents_added S.lines) valid.documents
+
+-- ---- worlds, and all that is added
+
+pub worlds_are_within : WorldsAreWithin
+worlds_are_within S g few valid =
+    let count = length-map-range_with_len (λ s. generation S.lines s (slice_index g s)) 0 S.schema.shards in
+    script_within S (world S g) (omega (arith, count, few)) (λ f. world_sum f S g) valid
+
+pub added_are_within : AddedAreWithin
+added_are_within S few valid =
+    let shards = length-map-range_with_len (stream S.lines) 0 S.schema.shards in
+    let count = length-map (batches S) (λ bs. blocks_added (joined bs)) in
+    script_within S (world_added (batches S)) (omega (arith, shards, count, few)) (λ f. all_added_sum f S) valid

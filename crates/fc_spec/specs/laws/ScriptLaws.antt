@@ -8,6 +8,8 @@ use Rattle.fc_spec.specs.scripts.Phases.{searches, phases}
 use Rattle.fc_spec.specs.scripts.AskedScripts.{AskedScript, asked_script_of}
 use Rattle.fc_spec.specs.scripts.Outputs.{Replies, IsOutputBy}
 use Rattle.fc_spec.specs.scripts.PhaseEnds.{text_at_ends}
+use Rattle.fc_spec.specs.scripts.PinnedWorlds.{world_added}
+use Rattle.fc_spec.specs.scripts.ScriptParts.{batches}
 use Rattle.fc_spec.specs.scripts.ScriptReading.{script_limit}
 use Rattle.fc_spec.specs.scripts.ScriptTotals.{Limits, script_limits}
 use Rattle.fc_spec.specs.scripts.ValidScripts.{IsWithin}
@@ -46,6 +48,10 @@ IsOnlyOutput = (reply : Replies) (S : AskedScript) (t u : Text) → IsTrue (are_
 -- every world of a script that is within the limits is within them
 abbrev pub WorldsAreWithin : Type 0
 WorldsAreWithin = (S : AskedScript) (g : List ℕ) → S.schema.shards ≤ 64 → IsWithin script_limits S → IsWithinLimits (world S g)
+
+-- so is all that its batches add, whether later ones leave it or not
+abbrev pub AddedAreWithin : Type 0
+AddedAreWithin = (S : AskedScript) → S.schema.shards ≤ 64 → IsWithin script_limits S → IsWithinLimits (world_added (batches S))
 
 -- a script that was read has no more searches than it may have bytes
 abbrev pub SearchesAreFew : Type 0
