@@ -48,7 +48,7 @@ bare_not_empty X Y same kind keys =
 
 -- ---- the places of blocks
 
-bare_block : (s b p t c q : ℕ) (ds : List Document) (d : Document) → SameBare (block_places s b p ds d) (block_places t c q ds d)
+pub bare_block : (s b p t c q : ℕ) (ds : List Document) (d : Document) → SameBare (block_places s b p ds d) (block_places t c q ds d)
 bare_block s b p t c q [] d = refl
 bare_block s b p t c q (x ∷ ds) d = ap (λ X. record { shard = 0; position = 0; block = 0; parent = false; document = x } ∷ X) (bare_block s b (p + 1) t c (q + 1) ds d)
 

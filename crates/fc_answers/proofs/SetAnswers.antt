@@ -1,12 +1,13 @@
 -- A shard's answer is made from a set of positions for each of the segments that its blocks are cut into.
-use Rattle.std.proofs.Common.{◌≡◌, ℕ, zero, suc, ◌+◌, List, [], ◌∷◌, ◌++◌, map, length, replicate, Bool, false, cond, not, Option, None, Some, refl, sym, ◌∙◌, ap, subst, length-append}
-use Rattle.std.specs.List.{items_where_true, slice_get}
-use Rattle.std.proofs.lemmas.List.{length-replicate}
+use Rattle.std.proofs.Common.{◌≡◌, ℕ, ◌+◌, List, [], ◌∷◌, ◌++◌, map, length, cond, not, Option, None, Some, refl, sym, ◌∙◌, ap, subst, length-append}
+use Rattle.std.specs.List.{slice_get}
 use Rattle.fc_spec.specs.words.Lists.{joined}
+use Rattle.fc_spec.specs.documents.Document.{Block}
 use Rattle.fc_spec.specs.documents.World.{World, Place, shard_places, on_shards}
 use Rattle.fc_spec.specs.documents.Totals.{document_total}
 use Rattle.fc_spec.specs.documents.Sets.{AreSets, places_on, places_at}
 use Rattle.fc_spec.specs.requests.Request.{Kind, terms, range, query, Facet, Nodes, no_nodes, statistic, facet, Request, stats_of}
+use Rattle.fc_spec.specs.requests.Base.{meets_base}
 use Rattle.fc_spec.specs.requests.Buckets.{Key, value, missing, whole, bucket_places}
 use Rattle.fc_spec.specs.requests.DomainSets.{rebuilt_set}
 use Rattle.fc_spec.specs.requests.Paths.{Path, at_root, into, rebuilt, domain, path_places}
@@ -25,7 +26,11 @@ use Rattle.fc_spec.proofs.messages.ShardSets.{bases_of_shards, rebuilt_of_shards
 use Rattle.fc_spec.proofs.requests.JoinedSets.{bases_join, rebuilt_join, changes_join, buckets_join}
 use Rattle.fc_spec.proofs.requests.Locality.{filter_twice}
 use Rattle.fc_spec.proofs.requests.SetChanges.{are_sets_again, first_is_set, rest_are_sets}
-use Rattle.fc_answers.specs.SetAnswer.{Sets, Scope, scope_on, domain_sets, bucket_sets, own_keys, set_rows, Spot, root, nowhere, scope_of, spot_in, spot_from, spot_at, set_bucket, set_wants, AnswersFromSets}
+use Rattle.fc_answers.specs.SetAnswer.{Pieces, whole_world, live_world, AreWhole, Sets, Scope, scope_on, domain_sets, bucket_sets, own_keys, set_rows, Spot, root, nowhere, scope_of, spot_in, spot_from, spot_at, set_bucket, set_wants, AnswersFromSets}
+use Rattle.fc_answers.specs.LiveSets.{AreLive}
+use Rattle.fc_answers.proofs.KeptSets.{kept_all_passing, kept_domains, kept_buckets, kept_are_sets, nothing_there}
+use Rattle.fc_answers.proofs.LivePlaces.{kept, live_places}
+use Rattle.fc_answers.proofs.LiveSets.{bases_live, domains_live, buckets_live, nowhere_live}
 use Rattle.fc_answers.proofs.BarePlaces.{bare, SameBare, bare_bucket, bare_stats, bare_entries, bare_not_empty, bare_sets}
 
 -- ---- sets, joined
@@ -37,86 +42,82 @@ length-joined (b ∷ V) [] e = absurd (cc)
 length-joined (b ∷ V) (s ∷ sets) e =
     length-append s (joined sets) ∙ (λ i. first_is_set b V s sets e i + length-joined V sets (rest_are_sets b V s sets e) i) ∙ sym (document_total-append b (joined V))
 
--- no position is in them
-no_positions : (V : World) → AreSets V (nowhere V).sets
-no_positions [] = refl
-no_positions (b ∷ V) = λ i. length-replicate (document_total b) false i ∷ no_positions V i
-
-nothing_picked : {X : Type 0} (n : ℕ) (others : List Bool) (xs : List X) → ((ys : List X) → items_where_true others ys ≡ []) → items_where_true (replicate n false ++ others) xs ≡ []
-nothing_picked zero others xs none = none xs
-nothing_picked (suc n) others [] none = refl
-nothing_picked (suc n) others (x ∷ xs) none = nothing_picked n others xs none
-
-nothing_there : {X : Type 0} (V : World) (xs : List X) → items_where_true (joined (nowhere V).sets) xs ≡ []
-nothing_there [] xs = refl
-nothing_there (b ∷ V) xs = nothing_picked (document_total b) (joined (nowhere V).sets) xs (nothing_there V)
-
 -- ---- a shard
 
-module _ (r : Request) (W : World) (i : ℕ) (V : World) (at : slice_get W i ≡ Some (joined V)) where
-  -- the shard's part of X is that of the sets
+module _ (r : Request) (W : World) (i : ℕ) (V : Pieces) (is_whole : AreWhole V) (at : slice_get W i ≡ Some (joined (live_world V))) where
+  abbrev blocks : List Block
+  blocks = joined (live_world V)
+
+  -- the shard's part of X is that of the sets, kept at the live positions
   abbrev IsOf : Sets → List Place → Type 0
-  IsOf sets X = IsOnShard i (joined V) (joined sets) X
+  IsOf sets X = IsOnShard i blocks (joined (kept V sets)) X
 
   again : (sets : Sets) (X : List Place) → IsOf sets X → IsOf sets (on_shards (i ∷ []) X)
   again sets X on = filter_twice (is_on (i ∷ [])) X ∙ on
+
+  -- the sets pick the same documents of all blocks
+  same_places : (sets : Sets) → AreLive V sets → SameBare (places_on i blocks (joined (kept V sets))) (places_at (whole_world V) sets)
+  same_places sets are = bare_sets i (live_world V) (kept V sets) ∙ sym (live_places V sets is_whole are)
 
   -- the scope of a path
   abbrev on : Path → Scope
   on path = scope_on r path
 
-  base_of : (path : Path) (f : Facet) → IsOf (map (rebuilt_set r path f.change.exclude) V) (rebuilt r W path f.change.exclude)
-  base_of path f = rebuilt_of_shards r path f.change.exclude W i (joined V) at ∙ ap (places_on i (joined V)) (rebuilt_join r path f.change.exclude V)
+  base_on : (path : Path) (f : Facet) → IsOnShard i blocks (joined (map (rebuilt_set r path f.change.exclude) (live_world V))) (rebuilt r W path f.change.exclude)
+  base_on path f = rebuilt_of_shards r path f.change.exclude W i blocks at ∙ ap (places_on i blocks) (rebuilt_join r path f.change.exclude (live_world V))
 
-  domain_of : (path : Path) (f : Facet) (sets : Sets) (X : List Place) → AreSets V sets → IsOf sets X → IsOf (domain_sets (on path) V f sets) (domain r W path f.change X)
+  domain_of : (path : Path) (f : Facet) (sets : Sets) (X : List Place) → AreLive V sets → IsOf sets X → IsOf (domain_sets (on path) V f sets) (domain r W path f.change X)
   domain_of path f sets X are here =
-      let bases = map (rebuilt_set r path f.change.exclude) V in
-      let base_are = are_sets_again.rebuilt r path f.change.exclude V in
-      changes_of_shards f.change W i (joined V) at (rebuilt r W path f.change.exclude) X (joined bases) (joined sets) (length-joined V bases base_are) (length-joined V sets are) (base_of path f) here
-      ∙ ap (places_on i (joined V)) (changes_join f.change V bases sets base_are are)
+      let bases = map (rebuilt_set r path f.change.exclude) (live_world V) in
+      let base_are = are_sets_again.rebuilt r path f.change.exclude (live_world V) in
+      let kept_are = kept_are_sets V sets is_whole are in
+      changes_of_shards f.change W i blocks at (rebuilt r W path f.change.exclude) X (joined bases) (joined (kept V sets)) (length-joined (live_world V) bases base_are)
+      (length-joined (live_world V) (kept V sets) kept_are) (base_on path f) here
+      ∙ ap (places_on i blocks) (changes_join f.change (live_world V) bases (kept V sets) base_are kept_are ∙ ap joined (sym (kept_domains (on path) V f sets is_whole are)))
 
-  domain_are : (path : Path) (f : Facet) (sets : Sets) → AreSets V sets → AreSets V (domain_sets (on path) V f sets)
-  domain_are path f sets are = are_sets_again.changes f.change V (map (rebuilt_set r path f.change.exclude) V) sets (are_sets_again.rebuilt r path f.change.exclude V) are
+  domain_are : (path : Path) (f : Facet) (sets : Sets) → AreLive V sets → AreLive V (domain_sets (on path) V f sets)
+  domain_are path f sets are = domains_live (on path) V f sets is_whole are
 
-  bucket_of : (kind : Kind) (key : Key) (sets : Sets) (D : List Place) → AreSets V sets → IsOf sets D → IsOf (bucket_sets V kind key sets) (bucket_places kind key D)
-  bucket_of kind key sets D are here = buckets_of_shards kind key i (joined V) D (joined sets) here ∙ ap (places_on i (joined V)) (buckets_join kind key V sets are)
-
-  bucket_are : (kind : Kind) (key : Key) (sets : Sets) → AreSets V sets → AreSets V (bucket_sets V kind key sets)
-  bucket_are kind key sets are = are_sets_again.buckets kind key V sets are
+  bucket_of : (kind : Kind) (key : Key) (sets : Sets) (D : List Place) → AreLive V sets → IsOf sets D → IsOf (bucket_sets V kind key sets) (bucket_places kind key D)
+  bucket_of kind key sets D are here =
+      buckets_of_shards kind key i blocks D (joined (kept V sets)) here
+      ∙ ap (places_on i blocks) (buckets_join kind key (live_world V) (kept V sets) (kept_are_sets V sets is_whole are) ∙ ap joined (sym (kept_buckets V kind key sets is_whole are)))
 
   -- ---- what is listed
 
   -- the same keys are listed
-  listed_of : (kind : Kind) (inner : Nodes) (sets : Sets) (D : List Place) (keys : List Key) → D ≡ places_on i (joined V) (joined sets) → listed_keys kind inner D keys ≡ listed_keys kind inner (places_at V sets) keys
-  listed_of kind inner sets D keys is =
+  listed_of : (kind : Kind) (inner : Nodes) (sets : Sets) (D : List Place) (keys : List Key) → AreLive V sets → D ≡ places_on i blocks (joined (kept V sets))
+      → listed_keys kind inner D keys ≡ listed_keys kind inner (places_at (whole_world V) sets) keys
+  listed_of kind inner sets D keys are is =
       ap (λ Y. listed_keys kind inner Y keys) is
-      ∙ ap (cond (not (no_exclusions inner)) keys) (bare_not_empty (places_on i (joined V) (joined sets)) (places_at V sets) (bare_sets i V sets) kind keys)
+      ∙ ap (cond (not (no_exclusions inner)) keys) (bare_not_empty (places_on i blocks (joined (kept V sets))) (places_at (whole_world V) sets) (same_places sets are) kind keys)
 
-  keys_of : (kind : Kind) (inner : Nodes) (sets : Sets) (D : List Place) → on_shards (i ∷ []) D ≡ D → D ≡ places_on i (joined V) (joined sets)
-      → answer_keys kind inner D i ≡ own_keys kind inner (places_at V sets)
-  keys_of (terms t) inner sets D own is =
-      let same = bare_sets i V sets in
-      let entries : entries_in t (stats_of inner) (on_shards (i ∷ []) D) ≡ entries_in t (stats_of inner) (places_at V sets) =
-      ap (entries_in t (stats_of inner)) (own ∙ is) ∙ bare_entries (places_on i (joined V) (joined sets)) (places_at V sets) same t (stats_of inner) in
-      let rest = listed_of (terms t) inner sets D (asked t.missing missing) is in
+  keys_of : (kind : Kind) (inner : Nodes) (sets : Sets) (D : List Place) → AreLive V sets → on_shards (i ∷ []) D ≡ D → D ≡ places_on i blocks (joined (kept V sets))
+      → answer_keys kind inner D i ≡ own_keys kind inner (places_at (whole_world V) sets)
+  keys_of (terms t) inner sets D are own is =
+      let entries : entries_in t (stats_of inner) (on_shards (i ∷ []) D) ≡ entries_in t (stats_of inner) (places_at (whole_world V) sets) =
+      ap (entries_in t (stats_of inner)) (own ∙ is)
+      ∙ bare_entries (places_on i blocks (joined (kept V sets))) (places_at (whole_world V) sets) (same_places sets are) t (stats_of inner) in
+      let rest = listed_of (terms t) inner sets D (asked t.missing missing) are is in
       λ j. map value (map (λ e. e.val) (below_rank t.sort (offered_bound t) (entries j))) ++ rest j
-  keys_of (range g) inner sets D own is = listed_of (range g) inner sets D (range_keys g) is
-  keys_of (query q) inner sets D own is = refl
+  keys_of (range g) inner sets D are own is = listed_of (range g) inner sets D (range_keys g) are is
+  keys_of (query q) inner sets D are own is = refl
 
-  rows_of : (path : Path) (nodes : Nodes) (sets : Sets) (X : List Place) → AreSets V sets → IsOf sets X → answer_rows r W i path nodes X ≡ set_rows (on path) V nodes sets
+  rows_of : (path : Path) (nodes : Nodes) (sets : Sets) (X : List Place) → AreLive V sets → IsOf sets X → answer_rows r W i path nodes X ≡ set_rows (on path) V nodes sets
   rows_of path no_nodes sets X are here = refl
   rows_of path (statistic name s rest) sets X are here = rows_of path rest sets X are here
   rows_of path (facet f inner rest) sets X are here =
       let D = answer_domain r W i path f X in
       let sets_in = domain_sets (on path) V f sets in
-      let domain_on : D ≡ places_on i (joined V) (joined sets_in) = domain_of path f sets X are here in
+      let sets_are = domain_are path f sets are in
+      let domain_on : D ≡ places_on i blocks (joined (kept V sets_in)) = domain_of path f sets X are here in
       let own : on_shards (i ∷ []) D ≡ D = filter_twice (is_on (i ∷ [])) (domain r W path f.change X) in
-      let same : SameBare D (places_at V sets_in) = ap bare domain_on ∙ bare_sets i V sets_in in
-      let stats = λ (k : Key). bare_stats (bucket_places f.kind k D) (bucket_places f.kind k (places_at V sets_in)) (bare_bucket D (places_at V sets_in) same f.kind k) (stats_of inner) in
+      let same : SameBare D (places_at (whole_world V) sets_in) = ap bare domain_on ∙ same_places sets_in sets_are in
+      let stats = λ (k : Key). bare_stats (bucket_places f.kind k D) (bucket_places f.kind k (places_at (whole_world V) sets_in)) (bare_bucket D (places_at (whole_world V) sets_in) same f.kind k) (stats_of inner) in
       let inside_it = λ (k : Key).
-      rows_of (into path f k) inner (bucket_sets V f.kind k sets_in) (bucket_places f.kind k D) (bucket_are f.kind k sets_in (domain_are path f sets are))
-      (bucket_of f.kind k sets_in D (domain_are path f sets are) (own ∙ domain_on)) in
-      λ j. row (partials_of (λ k. stats k j) (λ k. inside_it k j) (keys_of f.kind inner sets_in D own domain_on j)) (rows_of path rest sets X are here j)
+      rows_of (into path f k) inner (bucket_sets V f.kind k sets_in) (bucket_places f.kind k D) (buckets_live V f.kind k sets_in sets_are)
+      (bucket_of f.kind k sets_in D sets_are (own ∙ domain_on)) in
+      λ j. row (partials_of (λ k. stats k j) (λ k. inside_it k j) (keys_of f.kind inner sets_in D sets_are own domain_on j)) (rows_of path rest sets X are here j)
 
   -- ---- where ways lead
 
@@ -125,17 +126,17 @@ module _ (r : Request) (W : World) (i : ℕ) (V : World) (at : slice_get W i ≡
     pub path : target_path t ≡ s.path
     pub nodes : target_nodes t ≡ s.nodes
     pub places : IsOf s.sets (target_places r W t)
-    pub are_sets : AreSets V s.sets
+    pub are_live : AreLive V s.sets
 
   is_nowhere : IsSpot leads_nowhere (nowhere V)
-  is_nowhere = record { path = refl; nodes = refl; places = sym (nothing_there V (shard_places i 0 0 (joined V))); are_sets = no_positions V }
+  is_nowhere = record { path = refl; nodes = refl; places = sym (nothing_there V (shard_places i 0 0 blocks)); are_live = nowhere_live V is_whole }
 
   is_root : IsSpot (leads_to at_root r.nodes) (root r V)
   is_root = record {
     path = refl;
     nodes = refl;
-    places = bases_of_shards r [] W i (joined V) at ∙ ap (places_on i (joined V)) (bases_join r [] V);
-    are_sets = are_sets_again.bases r [] V;
+    places = bases_of_shards r [] W i blocks at ∙ ap (places_on i blocks) (bases_join r [] (live_world V) ∙ ap joined (sym (kept_all_passing (meets_base r []) V is_whole)));
+    are_live = bases_live r [] V is_whole;
   }
 
   one_step : (key : Key) (node : ℕ) (t : Target) (s : Spot) → IsSpot t s → IsSpot (target_in key t (facet_at node (target_nodes t))) (spot_in r V key s (facet_at node s.nodes))
@@ -148,13 +149,13 @@ module _ (r : Request) (W : World) (i : ℕ) (V : World) (at : slice_get W i ≡
       go (Some f) =
           let X = path_places r W path in
           let sets_in = domain_sets (scope_of r s) V f.0 s.sets in
-          let are = domain_are s.path f.0 s.sets is.are_sets in
+          let are = domain_are s.path f.0 s.sets is.are_live in
           record {
             path = ap (λ p. into p f.0 key) is.path;
             nodes = refl;
             places = bucket_of (f.0).kind key sets_in (domain r W path (f.0).change X) are
-                (subst (λ p. IsOf (domain_sets (on p) V f.0 s.sets) (domain r W path (f.0).change X)) is.path (domain_of path f.0 s.sets X is.are_sets is.places));
-            are_sets = bucket_are (f.0).kind key sets_in are;
+                (subst (λ p. IsOf (domain_sets (on p) V f.0 s.sets) (domain r W path (f.0).change X)) is.path (domain_of path f.0 s.sets X is.are_live is.places));
+            are_live = buckets_live V (f.0).kind key sets_in are;
           }
 
   all_steps : (way : Way) (t : Target) (s : Spot) → IsSpot t s → IsSpot (target_from t way) (spot_from r V s way)
@@ -168,10 +169,11 @@ module _ (r : Request) (W : World) (i : ℕ) (V : World) (at : slice_get W i ≡
       let s = spot_at r V way in
       let is : IsSpot t s = all_steps way (leads_to at_root r.nodes) (root r V) is_root in
       let X = on_shards (i ∷ []) (target_places r W t) in
-      let stats : stats_over (stats_of (target_nodes t)) X ≡ stats_over (stats_of s.nodes) (places_at V s.sets) =
-      (λ j. stats_over (stats_of (is.nodes j)) (is.places j)) ∙ bare_stats (places_on i (joined V) (joined s.sets)) (places_at V s.sets) (bare_sets i V s.sets) (stats_of s.nodes) in
+      let stats : stats_over (stats_of (target_nodes t)) X ≡ stats_over (stats_of s.nodes) (places_at (whole_world V) s.sets) =
+      (λ j. stats_over (stats_of (is.nodes j)) (is.places j))
+      ∙ bare_stats (places_on i blocks (joined (kept V s.sets))) (places_at (whole_world V) s.sets) (same_places s.sets is.are_live) (stats_of s.nodes) in
       let rows : answer_rows r W i (target_path t) (target_nodes t) X ≡ set_rows (scope_of r s) V s.nodes s.sets =
-      (λ j. answer_rows r W i (is.path j) (is.nodes j) X) ∙ rows_of s.path s.nodes s.sets X is.are_sets (again s.sets (target_places r W t) is.places) in
+      (λ j. answer_rows r W i (is.path j) (is.nodes j) X) ∙ rows_of s.path s.nodes s.sets X is.are_live (again s.sets (target_places r W t) is.places) in
       λ j. partial key (stats j) (rows j) (e j)
 
   wants_at : (wants : List Want) → answer_wants r W i wants ≡ set_wants r V wants
@@ -179,5 +181,5 @@ module _ (r : Request) (W : World) (i : ℕ) (V : World) (at : slice_get W i ≡
   wants_at (w ∷ ws) = bucket_at (way_of w) w.key (answer_wants r W i ws) (set_wants r V ws) (wants_at ws)
 
 pub answers_from_sets : AnswersFromSets
-answers_from_sets r W i V at first = bucket_at r W i V at [] whole no_partials no_partials refl
-answers_from_sets r W i V at (more wants) = wants_at r W i V at wants
+answers_from_sets r W i V is_whole at first = bucket_at r W i V is_whole at [] whole no_partials no_partials refl
+answers_from_sets r W i V is_whole at (more wants) = wants_at r W i V is_whole at wants
