@@ -1,21 +1,24 @@
 -- Domain changes of sets, from what matches.
-use Rattle.std.proofs.Common.{◌≡◌, ℕ, zero, suc, ◌+◌, ◌-◌, Bool, true, false, ◌&&◌, List, [], ◌∷◌, ◌++◌, length, get_or, map, take, drop, replicate, refl, sym, ap, ap₂, ◌∙◌, arith, append-nil, get_or-take}
-use Rattle.std.specs.List.{list_all, list_any, items_where_true}
+use Rattle.std.proofs.Common.{◌≡◌, ℕ, zero, suc, ◌+◌, ◌-◌, Bool, true, false, cond, ◌&&◌, List, [], ◌∷◌, ◌++◌, length, get_or, map, take, drop, replicate, refl, sym, ap, ap₂, ◌∙◌, arith, append-nil, get_or-take}
+use Rattle.std.specs.List.{filter, list_all, list_any, items_where_true}
 use Rattle.std.proofs.Math.Bool.{and_assoc, and-true, and_comm}
 use Rattle.std.proofs.lemmas.List.{map-append, get_or-map, length-map, length-drop, length_push, length-replicate, get_or_append_left, get_or-append_right}
 use Rattle.fc_spec.specs.documents.Document.{Document, Block}
+use Rattle.fc_spec.specs.documents.Live.{HasWholeBlocks, live_in}
 use Rattle.fc_spec.specs.documents.Totals.{documents_of, documents_in, document_total}
 use Rattle.fc_spec.specs.documents.Val.{Text}
 use Rattle.fc_spec.specs.documents.Sets.{zip_with, passing, passing_of, places_at, places_on}
-use Rattle.fc_spec.specs.documents.World.{shard_places}
+use Rattle.fc_spec.specs.documents.World.{Place, places, shard_places}
 use Rattle.fc_spec.specs.queries.Query.{Query, all}
 use Rattle.fc_spec.specs.queries.Matching.{matches}
 use Rattle.fc_spec.specs.requests.Request.{Request, DomainChange, children, parents}
-use Rattle.fc_spec.specs.requests.Base.{base}
+use Rattle.fc_spec.specs.requests.Base.{base, meets_base}
 use Rattle.fc_spec.specs.requests.Domain.{changed}
-use Rattle.fc_spec.specs.requests.DomainSets.{base_set, changed_set, moved_set, by_blocks, to_parent, to_children}
-use Rattle.fc_spec.proofs.words.WhereTrue.{zip_with-append, zip_with-map, length-zip_with}
-use Rattle.fc_spec.proofs.requests.SetChanges.{bases_are_blockwise, changes_are_blockwise}
+use Rattle.fc_spec.specs.requests.DomainSets.{changed_set, moved_set, by_blocks, to_parent, to_children}
+use Rattle.fc_spec.proofs.words.WhereTrue.{filter-items_where_true, zip_with-append, zip_with-map, length-zip_with}
+use Rattle.fc_spec.proofs.documents.LiveBlocks.{live_documents}
+use Rattle.fc_spec.proofs.documents.PlacedDocuments.{documents_at-places}
+use Rattle.fc_spec.proofs.requests.SetChanges.{changes_are_blockwise}
 use Rattle.fc_docset.proofs.BitLists.{get_or-zip_with}
 use Rattle.fc_segment.proofs.BlockMarks.{size_of, total_of}
 
@@ -40,6 +43,16 @@ passing_of-all blocks set e = zip_all set (documents_in blocks) e
 
 pub passing_of-passing : (s t : Document → Bool) (blocks : List Block) → passing_of t blocks (passing s blocks) ≡ passing (λ d. s d && t d) blocks
 passing_of-passing s t blocks = zip_with-map ◌&&◌ s t (documents_in blocks)
+
+zip_either_way : (a b : List Bool) → zip_with ◌&&◌ a b ≡ zip_with ◌&&◌ b a
+zip_either_way [] [] = refl
+zip_either_way [] (y ∷ b) = refl
+zip_either_way (x ∷ a) [] = refl
+zip_either_way (x ∷ a) (y ∷ b) = ap₂ (λ h l. h ∷ l) (and_comm x y) (zip_either_way a b)
+
+-- those that pass, within a set
+pub passing-within : (t : Document → Bool) (blocks : List Block) (set : List Bool) → zip_with ◌&&◌ (passing t blocks) set ≡ passing_of t blocks set
+passing-within t blocks set = zip_either_way (passing t blocks) set
 
 -- the filters from one on, of what is left, are all of the filters
 pub record AreFilteredTo {X : Type 0} (test : X → Document → Bool) (blocks : List Block) (left whole : List X) (old into : List Bool) : Type 0 where
@@ -153,12 +166,28 @@ places_of_one blocks set = λ i. items_where_true (append-nil set i) (append-nil
 one_set : (blocks : List Block) (set : List Bool) → length set ≡ document_total blocks → map length (set ∷ []) ≡ map document_total (blocks ∷ [])
 one_set blocks set e = ap (λ n. n ∷ []) e
 
-pub base_places : (r : Request) (tags : List Text) (blocks : List Block) → places_on 0 blocks (base_set r tags blocks) ≡ base r (blocks ∷ []) tags
-base_places r tags blocks = sym (bases_are_blockwise r tags (blocks ∷ []) ∙ places_of_one blocks (base_set r tags blocks))
-
 pub changed_places : (change : DomainChange) (blocks : List Block) (base set : List Bool) → length base ≡ document_total blocks → length set ≡ document_total blocks
     → places_on 0 blocks (changed_set change blocks base set) ≡ changed (blocks ∷ []) (places_on 0 blocks base) change (places_on 0 blocks set)
 changed_places change blocks base set h e =
     sym ((λ i. changed (blocks ∷ []) (sym (places_of_one blocks base) i) change (sym (places_of_one blocks set) i))
     ∙ changes_are_blockwise change (blocks ∷ []) (base ∷ []) (set ∷ []) (one_set blocks base h) (one_set blocks set e)
     ∙ places_of_one blocks (changed_set change blocks base set))
+
+-- ---- the documents of the base
+
+filtered_documents : (t : Document → Bool) (X : List Place) → map (λ p. p.document) (filter (λ p. t p.document) X) ≡ filter t (map (λ p. p.document) X)
+filtered_documents t [] = refl
+filtered_documents t (p ∷ X) = go (t p.document) (filtered_documents t X)
+  where
+    go : (here : Bool) → map (λ p. p.document) (filter (λ p. t p.document) X) ≡ filter t (map (λ p. p.document) X)
+        → map (λ p. p.document) (cond here (p ∷ filter (λ p. t p.document) X) (filter (λ p. t p.document) X))
+        ≡ cond here (p.document ∷ filter t (map (λ p. p.document) X)) (filter t (map (λ p. p.document) X))
+    go true rest = ap (λ l. p.document ∷ l) rest
+    go false rest = rest
+
+-- they are those of the live blocks
+pub base_documents : (r : Request) (tags : List Text) (blocks : List Block) (live : List Bool) → HasWholeBlocks blocks live
+    → items_where_true (passing_of (meets_base r tags) blocks live) (documents_in blocks) ≡ map (λ p. p.document) (base r (live_in blocks live ∷ []) tags)
+base_documents r tags blocks live whole =
+    sym (filter-items_where_true (meets_base r tags) live (documents_in blocks)) ∙ ap (filter (meets_base r tags)) (sym (live_documents blocks live whole))
+    ∙ sym (filtered_documents (meets_base r tags) (places (live_in blocks live ∷ [])) ∙ ap (filter (meets_base r tags)) (documents_at-places (live_in blocks live)))

@@ -1,11 +1,11 @@
 // The base of a request on a segment.
 ghost use Rattle.std.specs.Prelude.{◌≡◌, ◌∷◌, ◌||◌, [], length, map, All, OnOk};
-ghost use Rattle.std.specs.List.{list_all};
-ghost use Rattle.fc_spec.specs.documents.Sets.{passing_of, places_on};
-ghost use Rattle.fc_spec.specs.documents.Totals.{document_total};
+ghost use Rattle.std.specs.List.{items_where_true, list_all};
+ghost use Rattle.fc_spec.specs.documents.Live.{live_in};
+ghost use Rattle.fc_spec.specs.documents.Sets.{passing_of};
+ghost use Rattle.fc_spec.specs.documents.Totals.{document_total, documents_in};
 ghost use Rattle.fc_spec.specs.queries.Matching.{matches};
 ghost use Rattle.fc_spec.specs.requests.Base as definition;
-ghost use Rattle.fc_spec.specs.requests.DomainSets.{base_set};
 ghost use Rattle.fc_query.specs.FilterView.{filter_view};
 ghost use Rattle.fc_request.specs.RequestView.{request_view};
 ghost use Rattle.fc_domain.specs.FieldsFit.{BaseFits, FitsFields};
@@ -18,8 +18,8 @@ use fc_request::Request;
 use fc_segment::Segment;
 use std::alloc::Global;
 
-/// Makes the set the positions of the segment whose document matches the request's query and each of its filters that
-/// has no tag in `exclude`. After want of memory nothing is known of the set but its length.
+/// Makes the set the positions of the segment whose document is live and matches the request's query and each of its filters
+/// that has no tag in `exclude`. After want of memory nothing is known of the set but its length.
 pub fn base(
     alloc: Global,
     segment: &Segment,
@@ -29,14 +29,18 @@ pub fn base(
 ) -> Result<(), WantMemory>
     requires fits { BaseFits segment.now.texts (request_view request.now) }
     requires length { length into.old ≡ document_total segment.now.blocks }
-    ensures set { OnOk result
-        (into.new ≡ base_set (request_view request.now) exclude.now segment.now.blocks) }
-    ensures places { OnOk result (places_on 0 segment.now.blocks into.new
-        ≡ definition.base (request_view request.now) (segment.now.blocks ∷ []) exclude.now) }
+    ensures set { OnOk result (into.new
+        ≡ passing_of (definition.meets_base (request_view request.now) exclude.now)
+        segment.now.blocks segment.now.live) }
+    ensures documents { OnOk result (items_where_true into.new (documents_in segment.now.blocks)
+        ≡ map (λ p. p.document) (definition.base (request_view request.now)
+        (live_in segment.now.blocks segment.now.live ∷ []) exclude.now)) }
     ensures length { length into.new ≡ length into.old }
 {
     matches(alloc, segment, &request.query, into)?;
-    keep_filtered(alloc, segment, &request.filters, exclude, into)
+    keep_filtered(alloc, segment, &request.filters, exclude, into)?;
+    into.and_with(segment.live());
+    Ok(())
 }
 
 // Keeps the positions whose document matches each filter that has no tag in `exclude`.
