@@ -8,6 +8,8 @@ use Rattle.fc_base.specs.View.{val_view}
 use Rattle.fc_spec.specs.documents.Document as definition
 use Rattle.fc_spec.specs.documents.DocFault as fault
 use Rattle.fc_docs.specs.declared.block.Block.{Block}
+use Rattle.fc_docs.specs.declared.block.Op.{Op}
+use Rattle.fc_docs.specs.declared.block.Op.TheVariants as op
 use Rattle.fc_docs.specs.declared.block.Batch.{Batch}
 use Rattle.fc_docs.specs.declared.fault.DocFault.{DocFault}
 use Rattle.fc_docs.specs.declared.fault.DocFault.TheVariants as kind
@@ -17,8 +19,12 @@ use Rattle.fc_docs.specs.declared.read.member.Role.TheVariants as role
 abbrev pub block_view : Block → definition.Block
 block_view b = record { children = b.children.items; parent = b.parent }
 
+abbrev pub op_view : Op → definition.Op
+op_view (op.Add block) = definition.adding (block_view block)
+op_view (op.Delete id) = definition.deleting id
+
 abbrev pub batch_view : Batch → definition.Batch
-batch_view b = map block_view b.blocks.items
+batch_view b = map op_view b.ops.items
 
 abbrev pub fault_view : DocFault → fault.DocFault
 fault_view kind.UnknownField = fault.unknown_field

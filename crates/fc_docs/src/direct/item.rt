@@ -8,10 +8,10 @@ ghost use Rattle.serde_json.specs.Read.{number_from, number_of};
 ghost use Rattle.fc_base.specs.View.{field_type_view, val_view};
 ghost use Rattle.fc_docs.specs.Direct.{GivesItem};
 
+use crate::decimal::decimal_name;
 use crate::read::TERM_LIMIT;
 use fast_float::Numeral;
 use fc_base::{FieldType, Name, Val, WantMemory, long_of};
-use itoa::Buffer;
 use json::Token;
 use std::alloc::Global;
 
@@ -56,7 +56,7 @@ fn number_given(alloc: Global, kind: FieldType, digits: &str) -> Result<Option<V
     };
     match kind {
         FieldType::Str | FieldType::Strs => {
-            let text = Name::new(alloc, Buffer::new().format(number))?;
+            let text = decimal_name(alloc, number)?;
             Ok(Some(Val::Text(text)))
         }
         FieldType::Long | FieldType::Longs => Ok(Some(Val::Long(number))),

@@ -11,8 +11,8 @@ ghost use Rattle.fc_base.specs.View.{field_type_view, val_view};
 ghost use Rattle.fc_docs.specs.View.{fault_view};
 
 use crate::DocFault;
+use crate::decimal::decimal_name;
 use fc_base::{FieldType, Name, Refusal, Val, long_of};
-use itoa::Buffer;
 use serde_json::Value;
 use std::alloc::Global;
 
@@ -47,7 +47,7 @@ fn text_item(alloc: Global, json: Value) -> Result<Val, Refusal<DocFault>>
         }
         other => {
             let number = other.as_i64().ok_or(DocFault::WrongType)?;
-            Ok(Val::Text(Name::new(alloc, Buffer::new().format(number))?))
+            Ok(Val::Text(decimal_name(alloc, number)?))
         }
     }
 }

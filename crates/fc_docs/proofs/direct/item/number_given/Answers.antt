@@ -8,9 +8,8 @@ pub returns-in_ok-text-in-Str : goal.returns-in_ok-text-in-Str
 returns-in_ok-text-in-Str c =
     let z = c.in-Some.number in
     let same : to_z w64 (of_z w64 z) ≡ z = search rules in
-    let written : c.format.result.now ≡ decimal_text z = c.format.ensures.text ∙ ap decimal_text same in
-    let is : c.in_ok-text-in-Str.text ≡ decimal_text z = c.in_ok-text-in-Str.ensures ∙ written in
-    let few : length (decimal_text z) ≤ 32766 = rw (← written) (omega (arith, c.format.ensures.short)) in
+    let is : c.in_ok-text-in-Str.text ≡ decimal_text z = c.in_ok-text-in-Str.ensures.text ∙ ap decimal_text same in
+    let few : length (decimal_text z) ≤ 32766 = rw (← is) (omega (arith, c.in_ok-text-in-Str.ensures.short)) in
     rw is (number_as_text (field_type_view c.args.kind) (holds_texts_where c.args.kind c.in-Str.is) c.args.digits.now z c.in-Some.ensures few)
 
 pub returns-in-Long : goal.returns-in-Long
