@@ -15,7 +15,6 @@ line_fault_view kind.UnknownLine = fault.unknown_line
 line_fault_view kind.BadSchema = fault.bad_schema
 line_fault_view kind.BadShard = fault.bad_shard
 line_fault_view (kind.BadDocument d) = fault.bad_document (fault_view d)
-line_fault_view kind.DuplicateId = fault.duplicate_id
 line_fault_view kind.FieldTotal = fault.field_total
 line_fault_view kind.TooManyDocuments = fault.too_many_documents
 line_fault_view kind.TooManySessions = fault.too_many_sessions

@@ -29,9 +29,6 @@ pub enum LineFault {
     /// The document is none.
     #[error("bad-document: {0}")]
     BadDocument(DocFault),
-    /// An `id` stood in an earlier document.
-    #[error("duplicate-id")]
-    DuplicateId,
     /// The absolute values of an integer field add up to too much.
     #[error("field-total")]
     FieldTotal,
@@ -72,7 +69,7 @@ impl From<LineFault> for Refusal<LineFault> {
 }
 
 impl LineFault {
-    /// Its number.
+    /// Its number; none has the number 7.
     pub fn number(&self) -> u32
         ensures { result ≡ line_fault_number (line_fault_view self.now) }
     {
@@ -83,7 +80,6 @@ impl LineFault {
             LineFault::BadSchema => 4,
             LineFault::BadShard => 5,
             LineFault::BadDocument(_) => 6,
-            LineFault::DuplicateId => 7,
             LineFault::FieldTotal => 8,
             LineFault::TooManyDocuments => 9,
             LineFault::TooManySessions => 10,
@@ -105,7 +101,6 @@ impl LineFault {
             LineFault::BadSchema => "bad-schema",
             LineFault::BadShard => "bad-shard",
             LineFault::BadDocument(_) => "bad-document",
-            LineFault::DuplicateId => "duplicate-id",
             LineFault::FieldTotal => "field-total",
             LineFault::TooManyDocuments => "too-many-documents",
             LineFault::TooManySessions => "too-many-sessions",

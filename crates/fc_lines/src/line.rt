@@ -27,6 +27,8 @@ use std::alloc::Global;
 pub enum Line {
     /// A block for a shard.
     Add(u32, Block),
+    /// An id whose blocks a shard loses.
+    Delete(u32, Name),
     /// A commit of a shard, or of every shard.
     Commit(Option<u32>),
     /// The end of a phase.

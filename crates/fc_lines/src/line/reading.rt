@@ -1,10 +1,10 @@
 // What a line after the schema says.
-ghost use Rattle.std.specs.Prelude.{◌≡◌, ◌<◌, IfOk, IfSome, option_map};
+ghost use Rattle.std.specs.Prelude.{◌≡◌, ◌<◌, IfOk, IfSome, ok_or, option_map};
 ghost use Rattle.std.specs.Result.{result_map_both};
 ghost use Rattle.serde_json.specs.View.{view, members_view};
 ghost use Rattle.fc_spec.specs.scripts.LineReading as reading;
 ghost use Rattle.fc_spec.specs.documents.BlockReading.{block_of};
-ghost use Rattle.fc_spec.specs.scripts.ScriptFault.{bad_document};
+ghost use Rattle.fc_spec.specs.scripts.ScriptFault.{bad_document, unknown_line};
 ghost use Rattle.fc_spec.specs.words.Walks.{with_fault};
 ghost use Rattle.fc_base.specs.Answers.{Answers};
 ghost use Rattle.fc_docs.specs.View.{block_view};
@@ -20,8 +20,8 @@ use super::search::asking;
 use super::taking::{take_member, take_members, take_sole_member};
 use crate::fault::LineFault;
 use fc_base::json::{has_only, member};
-use fc_base::{Refusal, Schema};
-use fc_docs::{Block, read_block};
+use fc_base::{Name, Refusal, Schema};
+use fc_docs::{Block, decimal_name, read_block};
 use serde_json::{Map, Value};
 use std::alloc::Global;
 
@@ -37,7 +37,7 @@ fn shard_of(shards: u32, json: &Value) -> Result<u32, LineFault>
     }
 }
 
-// The shard of a block: 0 where none is named.
+// The shard of a block or of an id: 0 where none is named.
 fn added_shard(schema: &Schema, json: Option<&Value>) -> Result<u32, LineFault>
     ensures answer { result_map_both (λ shard. shard) line_fault_view result
         ≡ reading.added_shard schema.now (option_map (λ json. view json.now) json.entry) }
@@ -111,6 +111,38 @@ fn add_of(
     Ok(Line::Add(shard, block))
 }
 
+// The id that a value is: a text, or a whole number of 64 bits, which stands for its decimal text.
+fn deleted_id(alloc: Global, json: &Value) -> Result<Name, Refusal<LineFault>>
+    ensures { Answers (λ id. id) line_fault_view result
+        (ok_or (reading.deleted_id (view json.now)) unknown_line) }
+{
+    if let Some(text) = json.as_str() {
+        return Ok(Name::new(alloc, text)?);
+    }
+    let number = json.as_i64().ok_or(LineFault::UnknownLine)?;
+    Ok(decimal_name(alloc, number)?)
+}
+
+// What the members of a `delete` say.
+fn delete_of(
+    alloc: Global,
+    schema: &Schema,
+    members: &Map<String, Value>,
+) -> Result<Line, Refusal<LineFault>>
+    ensures answer { Answers line_view line_fault_view result
+        (asked_line schema.now (reading.delete_of schema.now (members_view members.now.entries))) }
+    ensures valid { IfOk result (λ line. IsLineOf schema.now (line_view line)) }
+    ensures root { IfOk result HasRoot }
+{
+    if !has_only(members, &["id", "shard"]) {
+        return Err(Refusal::Fault(LineFault::UnknownLine));
+    }
+    let json = member(members, "id").ok_or(LineFault::UnknownLine)?;
+    let id = deleted_id(alloc, json)?;
+    let shard = added_shard(schema, member(members, "shard"))?;
+    Ok(Line::Delete(shard, id))
+}
+
 // What the members of a `commit` say.
 fn commit_of(schema: &Schema, members: &Map<String, Value>) -> Result<Line, LineFault>
     ensures answer { result_map_both line_view line_fault_view result
@@ -171,6 +203,7 @@ pub(crate) fn read_line(
     let members = take_members(inside).ok_or(LineFault::UnknownLine)?;
     match name.as_str() {
         "add" => add_of(alloc, schema, members),
+        "delete" => delete_of(alloc, schema, &members),
         "commit" => Ok(commit_of(schema, &members)?),
         "sync" => Ok(sync_of(&members)?),
         "search" => search_of(alloc, schema, &members),
