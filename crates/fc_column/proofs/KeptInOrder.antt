@@ -7,11 +7,11 @@ use Rattle.std.proofs.lemmas.List.{get_or_past, drop_all}
 use Rattle.std.proofs.lemmas.List.Sums.{sum_by-append}
 use Rattle.fc_spec.proofs.words.Counting.{count_by-cons}
 use Rattle.fc_docset.specs.Positions.{contains}
-use Rattle.fc_column.specs.Kept.{kept_before}
+use Rattle.fc_lists.specs.Kept.{kept_before}
 use Rattle.fc_column.specs.LongMerger.{count_entries, MovesWith}
-use Rattle.fc_column.specs.Ordered.{AreInOrder, count_beside}
-use Rattle.fc_column.specs.declared.entries.Entry.{Entry}
-use Rattle.fc_column.proofs.KeptCounts.{came_from, kept_apart, kept_at, kept_before-less, length-items_where_true}
+use Rattle.fc_lists.specs.Ordered.{AreInOrder, count_beside}
+use Rattle.fc_lists.specs.declared.entries.Entry.{Entry}
+use Rattle.fc_lists.proofs.KeptCounts.{came_from, kept_apart, kept_at, kept_before-less, length-items_where_true}
 
 -- each with the position that it gets, from one on
 abbrev pub kept_entries : List Bool → ℕ → List ℤ → List ℕ → List (Entry ℤ)

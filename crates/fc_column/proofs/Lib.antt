@@ -1,14 +1,5 @@
-pub mod ItemsAt
-pub mod Cuts
-pub mod BitRanks
-pub mod Counts
-pub mod FirstEntries
-pub mod Spread
-pub mod ByNumber
-pub mod OfNumbers
 pub mod InOrder
 pub mod TermPositions
-pub mod Marks
 pub mod ValueLists
 pub mod Ascents
 pub mod SortedTerms
@@ -20,8 +11,6 @@ pub mod Grown
 pub mod ColumnTerms
 pub mod BuiltTexts
 pub mod Ends
-pub mod KeptRows
-pub mod KeptCounts
 pub mod KeptInOrder
 pub mod MergedOrder
 pub mod MergedNumbers

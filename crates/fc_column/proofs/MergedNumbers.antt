@@ -11,7 +11,7 @@ use Rattle.std.proofs.lemmas.List.FromFn.{get_or-map-range_with_len}
 use Rattle.fc_spec.specs.documents.Val.{Text, same_text}
 use Rattle.fc_spec.proofs.words.WhereTrue.{items_where_true-map}
 use Rattle.fc_docset.specs.Positions.{contains, positions, positions_from}
-use Rattle.fc_column.specs.Among.{is_among}
+use Rattle.fc_lists.specs.Among.{is_among}
 use Rattle.fc_column.specs.Dictionary.{term_at}
 use Rattle.fc_column.specs.MergedTerms.{HaveOneText}
 use Rattle.fc_column.specs.Terms.{has_text}

@@ -19,9 +19,6 @@ use Rattle.fc_column.proofs.SortedTerms.{earlier}
 pub not_below_through : (t u v : Text) → is_lt (text_cmp t u) ≡ false → is_lt (text_cmp u v) ≡ false → is_lt (text_cmp t v) ≡ false
 not_below_through t u v first second = (ranks_by nat_list_cmp_total (λ (x : Text). x)).chain t u v first second
 
-pub not_below_itself : (t : Text) → is_lt (text_cmp t t) ≡ false
-not_below_itself t = ap is_lt (tied_itself nat_list_cmp_total t)
-
 reversed : (t u : Text) (o : Ordering) → text_cmp t u ≡ o → text_cmp u t ≡ ordering_reverse o
 reversed t u o is = nat_list_cmp_total.antisymm u t ∙ ap ordering_reverse is
 

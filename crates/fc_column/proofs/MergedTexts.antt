@@ -11,7 +11,7 @@ use Rattle.fc_column.specs.Dictionary.{term_at}
 use Rattle.fc_column.specs.Terms.{has_text}
 use Rattle.fc_column.specs.Numbering.{has_number, text_numbered, texts_numbered}
 use Rattle.fc_column.specs.TextMerger.{Keeps, numbered_terms, used_numbers}
-use Rattle.fc_column.proofs.KeptRows.{kept_hold}
+use Rattle.fc_lists.proofs.KeptRows.{kept_hold}
 use Rattle.fc_column.proofs.Numberings.{text_of_first}
 use Rattle.fc_column.proofs.MergedNumbers.{has_number-front, below_more, one_text, term_text, term_number, rows_by, moved_rows, used_at, in_row, used_texts, texts_of_terms}
 

@@ -1,5 +1,5 @@
 -- Terms in ascending order: what is below a text stands in front, and the place of a term is how many are below it.
-use Rattle.std.proofs.Common.{◌≡◌, ℕ, zero, suc, ◌+◌, ◌<◌, ◌≤◌, ◌⊎◌, inl, inr, Bool, true, false, cond, List, [], ◌∷◌, length, get_or, count_by, refl, sym, ap, ◌∙◌, arith}
+use Rattle.std.proofs.Common.{◌≡◌, ℕ, ◌+◌, ◌<◌, ◌≤◌, ◌⊎◌, inl, inr, Bool, true, false, List, length, get_or, count_by, refl, sym, ap, ◌∙◌, arith}
 use Rattle.std.proofs.lemmas.Bool.{cases_lt}
 use Rattle.std.proofs.lemmas.Cmp.{nat_list_cmp_total, tied_itself}
 use Rattle.std.proofs.lemmas.List.{get_or_default}
@@ -11,20 +11,8 @@ use Rattle.std.specs.declared.cmp.Ordering.{Ordering}
 use Rattle.std.specs.declared.cmp.Ordering.TheVariants.{Less, Equal, Greater}
 use Rattle.fc_spec.specs.documents.Val.{Text, text_cmp}
 use Rattle.fc_spec.specs.documents.Columns.{IsAscending}
-use Rattle.fc_spec.proofs.words.Counting.{count_by-cons}
 use Rattle.fc_spec.proofs.words.Orderings.{Less-from_is_lt}
-
--- ---- how many pass a test that the front passes and the rest fails
-pub count_at_point : {X : Type 0} (p : X → Bool) (xs : List X) (i : ℕ) → i ≤ length xs
-    → ((k : ℕ) (d : X) → k < i → p (get_or xs k d) ≡ true) → ((k : ℕ) (d : X) → i ≤ k → k < length xs → p (get_or xs k d) ≡ false)
-    → count_by p xs ≡ i
-count_at_point p [] i within front rest = omega arith
-count_at_point p (x ∷ xs) zero within front rest =
-    let none = count_at_point p xs zero (omega arith) (λ k d below. absurd (omega arith)) (λ k d from below. rest (suc k) d (omega arith) (omega arith)) in
-    count_by-cons p x xs ∙ ap (λ b. cond b 1 0 + count_by p xs) (rest 0 x (omega arith) (omega arith)) ∙ omega (arith, none)
-count_at_point p (x ∷ xs) (suc i) within front rest =
-    let more = count_at_point p xs i (omega arith) (λ k d below. front (suc k) d (omega arith)) (λ k d from below. rest (suc k) d (omega arith) (omega arith)) in
-    count_by-cons p x xs ∙ ap (λ b. cond b 1 0 + count_by p xs) (front 0 x (omega arith)) ∙ omega (arith, more)
+use Rattle.fc_lists.proofs.Counts.{count_at_point}
 
 -- ---- answers of a comparison
 cases_is_le : (o : Ordering) → is_le o ≡ true → (o ≡ Less) ⊎ (o ≡ Equal)

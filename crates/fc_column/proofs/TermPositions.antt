@@ -11,15 +11,15 @@ use Rattle.fc_docset.specs.Positions.{positions}
 use Rattle.fc_spec.specs.documents.Val.{Text, text_cmp, same_text}
 use Rattle.fc_spec.specs.documents.Columns.{IsAscending}
 use Rattle.fc_spec.specs.words.Lists.{is_empty}
-use Rattle.fc_column.specs.Among.{is_among}
+use Rattle.fc_lists.specs.Among.{is_among}
 use Rattle.fc_column.specs.Terms.{has_text, has_from_to, ordinals_in}
 use Rattle.fc_column.specs.Dictionary.{term_at}
 use Rattle.std.specs.List.Sorted.{IsStrictlyIncreasing}
 use Rattle.fc_column.proofs.TermLists.{row_rises}
-use Rattle.fc_column.proofs.Cuts.{slice_range-map-range}
+use Rattle.fc_lists.proofs.Cuts.{slice_range-map-range}
 use Rattle.fc_column.proofs.InOrder.{any_at}
-use Rattle.fc_column.proofs.Marks.{among_at}
-use Rattle.fc_column.proofs.OfNumbers.{is_among-positions}
+use Rattle.fc_lists.proofs.Marks.{among_at}
+use Rattle.fc_lists.proofs.OfNumbers.{is_among-positions}
 
 -- ---- two terms are one where their ordinals are
 module _ (terms : List Text) (sorted : IsAscending text_cmp terms) where

@@ -1,14 +1,3 @@
-pub mod Laid
-pub mod Among
-pub mod Items
-pub mod Entries
-pub mod Starts
-pub mod Lists
-pub mod Ranks
-pub mod Heads
-pub mod Rows
-pub mod Placed
-pub mod Ordered
 pub mod Longs
 pub mod LongColumn
 pub mod LongBuilder
@@ -16,7 +5,6 @@ pub mod Terms
 pub mod Dictionary
 pub mod Numbering
 pub mod TextBuilder
-pub mod Kept
 pub mod LongMerger
 pub mod MergedTerms
 pub mod TextMerger

@@ -3,7 +3,7 @@ use Rattle.std.specs.Prelude.{◌≡◌, true, All}
 use Rattle.std.specs.Ordering.{int_cmp}
 use Rattle.fc_spec.specs.documents.Columns.{IsAscending}
 use Rattle.fc_spec.specs.documents.IntegerTexts.{is_long}
-use Rattle.fc_column.specs.Ordered.{AreInOrder}
+use Rattle.fc_lists.specs.Ordered.{AreInOrder}
 use Rattle.fc_column.specs.declared.long.LongColumn.TheInside.{Inside}
 
 -- the integers of each position ascend and fit 64 bits signed, and all of them stand in order too

@@ -4,7 +4,7 @@ use Rattle.std.specs.List.{items_where_true}
 use Rattle.std.specs.Ordering.{int_cmp}
 use Rattle.fc_spec.specs.documents.Columns.{IsAscending}
 use Rattle.fc_spec.specs.documents.IntegerTexts.{is_long}
-use Rattle.fc_column.specs.declared.entries.Entry.{Entry}
+use Rattle.fc_lists.specs.declared.entries.Entry.{Entry}
 use Rattle.fc_column.specs.declared.long_merger.LongMerger.TheInside.{Inside}
 
 -- how many entries of a position have an integer that passes a test

@@ -3,7 +3,7 @@ use Rattle.std.specs.Prelude.{◌≡◌, ℕ, ◌+◌, ◌<◌, Bool, true, fals
 use Rattle.std.specs.List.{list_any, range_with_len}
 use Rattle.fc_spec.specs.documents.Val.{Text, text_cmp}
 use Rattle.fc_spec.specs.documents.Columns.{IsAscending}
-use Rattle.fc_column.specs.Among.{is_among}
+use Rattle.fc_lists.specs.Among.{is_among}
 use Rattle.fc_column.specs.MergedTerms.{HaveOneText}
 use Rattle.fc_column.specs.Numbering.{has_number, text_numbered, texts_numbered}
 use Rattle.fc_column.specs.Terms.{has_text}

@@ -4,11 +4,11 @@ ghost use Rattle.fc_spec.specs.documents.Columns.{IsText, IsAscending, texts_in}
 ghost use Rattle.fc_spec.specs.documents.Val.{val_cmp};
 ghost use Rattle.fc_base.specs.View.{val_view};
 
-use crate::entries::Entries;
 use crate::numbers::number_of;
 use crate::term::Term;
 use crate::{TextColumn, TextMerger};
 use fc_base::{Val, WantMemory};
+use fc_lists::Entries;
 use indexmap::IndexMap;
 use std::alloc::Global;
 use std::marker::Model;

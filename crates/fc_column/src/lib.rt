@@ -2,19 +2,11 @@
 //! columns by mergers. Calls that answer a `Result` can answer want of memory; nothing else is refused.
 #![tactic(auto)]
 
-mod bits;
 mod builder;
-mod entries;
-mod lists;
-mod live;
 mod long;
 mod long_merger;
 mod merged_terms;
-mod numbered;
 mod numbers;
-mod ordered;
-mod rows;
-mod sums;
 mod term;
 mod text;
 mod text_merger;

@@ -8,12 +8,10 @@ ghost use Rattle.fc_base.specs.View.{val_view};
 ghost use Rattle.fc_spec.specs.documents.IntegerTexts.{is_long};
 ghost use Rattle.fc_spec.specs.words.Lists.{is_empty};
 ghost use Rattle.fc_column.specs.Longs.{AreThere, is_between, has_between};
-ghost use Rattle.fc_column.specs.Ordered.{AreInOrder};
+ghost use Rattle.fc_lists.specs.Ordered.{AreInOrder};
 
-use crate::bits::mark;
-use crate::entries::Entries;
-use crate::rows::Rows;
 use fc_base::{Val, WantMemory};
+use fc_lists::{Entries, Rows, mark};
 use std::alloc::Global;
 use std::marker::Model;
 

@@ -1,15 +1,13 @@
 // Merging columns of integers.
 ghost use Rattle.std.specs.Prelude.{◌≡◌, ◌+◌, ◌<◌, ◌^◌, [], ◌++◌, length, count_by, IfOk, OnOk};
 ghost use Rattle.std.specs.List.{items_where_true};
-ghost use Rattle.fc_column.specs.Kept.{AreCounts};
+ghost use Rattle.fc_lists.specs.Kept.{AreCounts};
 ghost use Rattle.fc_column.specs.LongMerger.{MovesWith};
 
 use crate::LongColumn;
-use crate::entries::{Entries, Entry};
-use crate::live::{counts_of, place_of};
-use crate::ordered::in_order;
 use fc_base::WantMemory;
 use fc_docset::DocSet;
+use fc_lists::{Entries, Entry, counts_of, in_order, place_of};
 use std::alloc::Global;
 use std::marker::Model;
 

@@ -7,14 +7,12 @@ ghost use Rattle.fc_spec.specs.documents.Bits.{words_for, HasBits};
 ghost use Rattle.fc_spec.specs.documents.Val.{text_cmp};
 ghost use Rattle.fc_spec.specs.words.Lists.{is_empty};
 ghost use Rattle.fc_docset.specs.Positions.{positions};
-ghost use Rattle.fc_column.specs.Among.{is_among};
+ghost use Rattle.fc_lists.specs.Among.{is_among};
 ghost use Rattle.fc_column.specs.Terms.{terms_of, terms_below, terms_up_to, ordinals_in, has_text, has_from_to};
 
-use crate::bits::mark;
-use crate::lists::Lists;
-use crate::rows::Rows;
 use crate::term::Term;
 use fc_base::Name;
+use fc_lists::{Lists, Rows, mark};
 use std::marker::Model;
 
 /// The texts of each position, seen as the list, position by position, of its texts in ascending

@@ -6,12 +6,11 @@ ghost use Rattle.fc_column.specs.Numbering.{text_numbered};
 ghost use Rattle.fc_column.specs.TextMerger.{Keeps, numbered_terms};
 
 use crate::TextColumn;
-use crate::entries::Entries;
-use crate::lists::Lists;
 use crate::merged_terms::{in_order, terms_and_places};
 use crate::term::Term;
 use fc_base::WantMemory;
 use fc_docset::DocSet;
+use fc_lists::{Entries, Lists};
 use std::alloc::Global;
 use std::marker::Model;
 

@@ -4,10 +4,10 @@ use Rattle.std.proofs.lemmas.Bool.{and_from, and_left, cases_eq}
 use Rattle.std.proofs.lemmas.List.{get_or-append-add, get_or-map, get_or-set_other, get_or-set_same, get_or_default, length-map, length-set, same_lists}
 use Rattle.std.proofs.lemmas.List.Folds.{list_any-append}
 use Rattle.fc_spec.specs.documents.Sets.{zip_with}
-use Rattle.fc_column.specs.Among.{is_among}
+use Rattle.fc_lists.specs.Among.{is_among}
 use Rattle.fc_column.specs.Longs.{has_between, is_between}
 use Rattle.fc_column.proofs.InOrder.{among_if_any}
-use Rattle.fc_column.proofs.OfNumbers.{is_among-positions, positions_lie}
+use Rattle.fc_lists.proofs.OfNumbers.{is_among-positions, positions_lie}
 use Rattle.fc_docset.specs.Positions.{contains, positions}
 use Rattle.fc_docset.proofs.BitLists.{get_or-zip_with}
 use Rattle.fc_kind.proofs.BucketPlaces.{length-zip_with}

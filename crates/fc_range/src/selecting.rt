@@ -7,7 +7,7 @@ ghost use Rattle.fc_spec.specs.requests.DomainSets.{bucket_set};
 ghost use Rattle.fc_spec.specs.requests.Request as kind;
 ghost use Rattle.fc_facet.specs.KindView.{range_view};
 ghost use Rattle.fc_partial.specs.View.{key_view};
-ghost use Rattle.fc_column.specs.Among.{is_among};
+ghost use Rattle.fc_lists.specs.Among.{is_among};
 ghost use Rattle.fc_column.specs.Longs.{has_between};
 ghost use Rattle.fc_docset.specs.Positions.{contains};
 ghost use Rattle.fc_domain.specs.Within.{PassesFromTo};

@@ -6,7 +6,7 @@ use Rattle.std.proofs.lemmas.List.FromFn.{map-range_with_len_more, fill_by_all, 
 use Rattle.fc_spec.specs.documents.Val.{Val}
 use Rattle.fc_spec.specs.documents.Document.{Document, values_of}
 use Rattle.fc_spec.specs.documents.Columns.{column_of}
-use Rattle.fc_column.proofs.ItemsAt.{map_range_same}
+use Rattle.fc_lists.proofs.ItemsAt.{map_range_same}
 use Rattle.fc_segment.specs.Building.{padded}
 use Rattle.fc_segment.specs.Stored.{document_at, documents_at}
 use Rattle.fc_segment.proofs.Transposed.{column_of-documents_at}

@@ -7,7 +7,7 @@ use Rattle.std.proofs.lemmas.List.Folds.{list_any_at, list_any_more, list_any_no
 use Rattle.std.proofs.lemmas.List.Kept.{AllPairs-from_increasing}
 use Rattle.fc_spec.specs.requests.Statistics.{StatValue}
 use Rattle.fc_partial.specs.Celled.{Celled, cell_at, counted}
-use Rattle.fc_column.specs.Among.{is_among}
+use Rattle.fc_lists.specs.Among.{is_among}
 use Rattle.fc_count.specs.Counted.{HaveCounted}
 use Rattle.fc_count.proofs.CountedSteps.{counted_before, counted_more, counted_same}
 

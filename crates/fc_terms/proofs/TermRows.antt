@@ -7,7 +7,7 @@ use Rattle.std.proofs.lemmas.Bool.Decides.{nat_tests}
 use Rattle.std.proofs.lemmas.List.Folds.{list_any_at}
 use Rattle.fc_spec.specs.documents.Val.{Text, text_cmp, same_text}
 use Rattle.fc_spec.proofs.words.Texts.{same_itself}
-use Rattle.fc_column.specs.Among.{is_among}
+use Rattle.fc_lists.specs.Among.{is_among}
 use Rattle.fc_column.specs.Terms.{has_text, ordinals_in, terms_below, terms_of}
 use Rattle.fc_column.proofs.SortedTerms.{place_of_term}
 use Rattle.fc_column.proofs.TermLists.{has_text-terms_of}

@@ -19,7 +19,7 @@ use Rattle.fc_spec.specs.messages.KeyOrder.{same_key}
 use Rattle.fc_spec.specs.requests.Buckets.{Key, bucket_places, in_bucket}
 use Rattle.fc_spec.specs.requests.Request.{Terms, terms}
 use Rattle.fc_spec.specs.words.Lists.{is_empty}
-use Rattle.fc_column.specs.Among.{is_among}
+use Rattle.fc_lists.specs.Among.{is_among}
 use Rattle.fc_column.specs.Terms.{ordinals_in, terms_of}
 use Rattle.fc_kind.specs.PlaceAt.{place_at}
 use Rattle.fc_count.specs.Runs.{NumbersApart}

@@ -2,7 +2,7 @@
 use Rattle.std.specs.Prelude.{ℕ, ℤ, pos, ◌+◌, ◌<◌, ◌≤◌, ◌≤ℤ◌, nat_abs, Bool, List, [], length, slice_index_or}
 use Rattle.fc_spec.specs.documents.Val.{Text}
 use Rattle.fc_spec.specs.requests.Buckets.{Key}
-use Rattle.fc_column.specs.Among.{is_among}
+use Rattle.fc_lists.specs.Among.{is_among}
 use Rattle.fc_column.specs.Terms.{ordinals_in, terms_of}
 use Rattle.fc_partial.specs.TallyParts.{text_key}
 

@@ -8,7 +8,7 @@ ghost use Rattle.fc_spec.specs.requests.Buckets.{in_terms, is_terms_key};
 ghost use Rattle.fc_spec.specs.words.Lists.{is_empty};
 ghost use Rattle.fc_base.specs.View.{val_view};
 ghost use Rattle.fc_docset.specs.Positions.{contains};
-ghost use Rattle.fc_column.specs.Among.{is_among};
+ghost use Rattle.fc_lists.specs.Among.{is_among};
 ghost use Rattle.fc_segment.specs.Columns.{column_values};
 ghost use Rattle.fc_facet.specs.KindView.{terms_view};
 ghost use Rattle.fc_partial.specs.View.{key_view};

@@ -1,7 +1,7 @@
 use Rattle.std.proofs.Common.{◌≡◌, ◌+◌, ◌∙◌, ◌∷◌, ◌++◌, sym, ap, arith, get_or, drop, pos, cond, append_assoc, ap₂, to_z, of_z, w64, rules}
 use Rattle.std.proofs.lemmas.List.{append-nil}
 use Rattle.fc_docset.specs.Positions.{contains}
-use Rattle.fc_column.specs.Kept.{kept_before}
+use Rattle.fc_lists.specs.Kept.{kept_before}
 use Rattle.fc_column.proofs.KeptInOrder.{kept_entries, kept_next, kept_end, some_if, none_if, moved}
 use Rattle.fc_column.proofs.long_merger.add_kept.Goals as goal
 use Rattle.fc_column.proofs.long_merger.add_kept.Goals.{in-Some+in_ok-push, in_default}

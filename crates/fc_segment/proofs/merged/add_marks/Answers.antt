@@ -1,7 +1,7 @@
 use Rattle.std.proofs.Common.{◌≡◌, ◌<◌, ◌++◌, ◌∙◌, false, get_or, map, sym, ap, subst}
 use Rattle.std.proofs.lemmas.List.{append-nil}
 use Rattle.fc_docset.specs.Positions.{positions}
-use Rattle.fc_column.proofs.KeptRows.{rows_picked, next_below}
+use Rattle.fc_lists.proofs.KeptRows.{rows_picked, next_below}
 use Rattle.fc_segment.proofs.merged.add_marks.Goals as goal
 
 pub contains-requires : goal.contains-requires

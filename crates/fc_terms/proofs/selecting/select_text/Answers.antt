@@ -1,9 +1,9 @@
 use Rattle.std.proofs.Common.{◌≡◌, ◌∙◌, [], false, map, get_or, replicate, sym, ap, zero-add}
 use Rattle.std.proofs.lemmas.List.{length-map}
 use Rattle.std.specs.Option.{is_some}
-use Rattle.fc_column.specs.Among.{is_among}
+use Rattle.fc_lists.specs.Among.{is_among}
 use Rattle.fc_column.specs.Terms.{has_text, terms_of}
-use Rattle.fc_column.proofs.OfNumbers.{is_among-positions}
+use Rattle.fc_lists.proofs.OfNumbers.{is_among-positions}
 use Rattle.fc_docset.specs.Positions.{positions}
 use Rattle.fc_domain.proofs.TextRows.{text_nowhere}
 use Rattle.fc_spec.specs.documents.Val.{Text, text, has_val}

@@ -3,7 +3,7 @@ use Rattle.std.proofs.lemmas.Bool.{false≢true}
 use Rattle.std.proofs.lemmas.List.{nil_from_length}
 use Rattle.std.specs.List.{list_any}
 use Rattle.fc_column.specs.Longs.{has_between, is_between}
-use Rattle.fc_column.specs.Ordered.{AreInOrder}
+use Rattle.fc_lists.specs.Ordered.{AreInOrder}
 use Rattle.fc_column.proofs.Ends.{between_ends, none_in_rows, none_there, there_in_rows}
 use Rattle.fc_column.proofs.long.LongColumn.ends.Goals as goal
 

@@ -1,7 +1,7 @@
 use Rattle.std.proofs.Common.{ℕ, ℤ, Bool, List, ◌≡◌, ◌∙◌, [], sym, ap, get_or, count_by}
 use Rattle.fc_column.specs.LongMerger.{count_entries}
-use Rattle.fc_column.specs.Ordered.{AreInOrder, AreInOrderOf}
-use Rattle.fc_column.specs.declared.entries.Entry.{Entry}
+use Rattle.fc_lists.specs.Ordered.{AreInOrder, AreInOrderOf}
+use Rattle.fc_lists.specs.declared.entries.Entry.{Entry}
 use Rattle.fc_column.proofs.long_merger.LongMerger.finish.Goals as goal
 
 order_of : (entries given : List (Entry ℤ)) (rows made : List (List ℤ)) (values : List ℤ) (positions : List ℕ) → given ≡ entries → made ≡ rows

@@ -7,9 +7,9 @@ use Rattle.std.specs.Ordering.{int_cmp}
 use Rattle.fc_spec.specs.documents.Columns.{IsAscending}
 use Rattle.fc_spec.specs.documents.IntegerTexts.{is_long}
 use Rattle.fc_column.specs.LongMerger.{MovesWith, count_entries}
-use Rattle.fc_column.specs.declared.entries.Entry.{Entry}
-use Rattle.fc_column.proofs.KeptRows.{kept_hold}
-use Rattle.fc_column.proofs.KeptCounts.{length-items_where_true}
+use Rattle.fc_lists.specs.declared.entries.Entry.{Entry}
+use Rattle.fc_lists.proofs.KeptRows.{kept_hold}
+use Rattle.fc_lists.proofs.KeptCounts.{length-items_where_true}
 use Rattle.fc_column.proofs.long_merger.LongMerger.with.Goals as goal
 
 -- the new rows are as many as a `u32` counts

@@ -3,7 +3,7 @@ use Rattle.std.specs.List.{flat_map}
 use Rattle.std.specs.Ordering.{is_lt}
 use Rattle.std.proofs.lemmas.List.FromFn.{length-map-range_with_len}
 use Rattle.fc_spec.specs.documents.Val.{text_cmp}
-use Rattle.fc_column.specs.Among.{is_among}
+use Rattle.fc_lists.specs.Among.{is_among}
 use Rattle.fc_column.specs.Terms.{terms_of, has_from_to, ordinals_in}
 use Rattle.fc_column.specs.Dictionary.{term_at}
 use Rattle.fc_column.proofs.TermLists.{ordinals_back}

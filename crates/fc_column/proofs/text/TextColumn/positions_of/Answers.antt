@@ -3,10 +3,10 @@ use Rattle.std.specs.List.Sorted.{IsStrictlyIncreasing}
 use Rattle.std.proofs.lemmas.List.{length-map}
 use Rattle.std.proofs.lemmas.List.FromFn.{length-map-range_with_len, get_or-map-range_with_len}
 use Rattle.fc_docset.specs.Positions.{positions}
-use Rattle.fc_column.specs.Among.{is_among}
+use Rattle.fc_lists.specs.Among.{is_among}
 use Rattle.fc_column.specs.Terms.{terms_of, has_text}
 use Rattle.fc_column.specs.Dictionary.{term_at}
-use Rattle.fc_column.proofs.OfNumbers.{positions_lie, positions_rise}
+use Rattle.fc_lists.proofs.OfNumbers.{positions_lie, positions_rise}
 use Rattle.fc_column.proofs.TermPositions.{places, rows_have}
 use Rattle.fc_column.proofs.text.TextColumn.positions_of.Goals as goal
 

@@ -4,11 +4,11 @@ use Rattle.std.proofs.lemmas.List.FromFn.{length-map-range_with_len, get_or-map-
 use Rattle.std.specs.List.{list_any, items_where_true, range_with_len}
 use Rattle.fc_spec.specs.documents.Val.{Text}
 use Rattle.fc_docset.specs.Positions.{contains, positions}
-use Rattle.fc_column.specs.Among.{is_among}
+use Rattle.fc_lists.specs.Among.{is_among}
 use Rattle.fc_column.specs.Terms.{terms_of}
 use Rattle.fc_column.specs.Numbering.{text_numbered}
 use Rattle.fc_column.specs.TextMerger.{Keeps, numbered_terms}
-use Rattle.fc_column.proofs.KeptRows.{positions_below}
+use Rattle.fc_lists.proofs.KeptRows.{positions_below}
 use Rattle.fc_column.proofs.MergedNumbers.{used_are}
 use Rattle.fc_column.proofs.MergedTexts.{keeps_more, all_texts}
 use Rattle.fc_column.proofs.text_merger.TextMerger.with.Goals as goal

@@ -1,5 +1,5 @@
 use Rattle.std.proofs.Common.{◌<◌, ◌+◌, ◌-◌, ◌∙◌, map, length, get_or, take, sym, ap, subst, arith}
-use Rattle.fc_column.specs.Among.{is_among}
+use Rattle.fc_lists.specs.Among.{is_among}
 use Rattle.fc_partial.specs.Adding.{AddUp}
 use Rattle.fc_partial.specs.Celled.{of_one}
 use Rattle.fc_partial.specs.View.{stat_value_view}

@@ -1,5 +1,5 @@
 use Rattle.std.proofs.Common.{◌+◌, map, take}
-use Rattle.fc_column.specs.Among.{is_among}
+use Rattle.fc_lists.specs.Among.{is_among}
 use Rattle.fc_partial.specs.View.{stat_value_view}
 use Rattle.fc_count.specs.Counted.{HaveCounted}
 use Rattle.fc_terms.proofs.numbers.TermSpanNumbering.count.Given as goal

@@ -1,6 +1,0 @@
-use Rattle.std.proofs.Common.{take}
-use Rattle.fc_column.proofs.Marks.{Marked}
-use Rattle.fc_column.proofs.bits.mark.Given as goal
-
-abbrev pub invariant-loop-at : goal.invariant-loop-at
-invariant-loop-at l = Marked l.words (take l.at-index l.positions)

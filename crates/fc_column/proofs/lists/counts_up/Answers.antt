@@ -1,6 +1,0 @@
-use Rattle.std.proofs.Common.{arith}
-use Rattle.fc_column.proofs.Cuts.{counts_up_is}
-use Rattle.fc_column.proofs.lists.counts_up.Goals as goal
-
-pub returns : goal.returns
-returns c = counts_up_is c.args.numbers.now (λ k within. c.loop-place.invariant k (omega arith))

@@ -1,0 +1,12 @@
+pub mod ItemsAt
+pub mod Cuts
+pub mod BitRanks
+pub mod Counts
+pub mod FirstEntries
+pub mod Spread
+pub mod ByNumber
+pub mod OfNumbers
+pub mod SortedEntries
+pub mod Marks
+pub mod KeptRows
+pub mod KeptCounts

@@ -1,0 +1,12 @@
+pub mod Laid
+pub mod Among
+pub mod Items
+pub mod Entries
+pub mod Starts
+pub mod Lists
+pub mod Ranks
+pub mod Heads
+pub mod Rows
+pub mod Placed
+pub mod Ordered
+pub mod Kept
