@@ -9,7 +9,7 @@ use Rattle.fc_spec.specs.requests.RequestReading.{request_of}
 use Rattle.fc_spec.specs.requests.ValidRequests.{IsValidRequest}
 use Rattle.fc_spec.specs.scripts.AskedScripts.{Asked, line_asking}
 use Rattle.fc_spec.specs.scripts.LineReading.{line_said}
-use Rattle.fc_spec.specs.scripts.Script.{Line, add, commit, sync, asks}
+use Rattle.fc_spec.specs.scripts.Script.{Line, add, delete, commit, sync, asks}
 use Rattle.fc_spec.specs.scripts.ScriptReading.{value_on}
 use Rattle.fc_spec.proofs.scripts.JsonTexts.{IsJson}
 use Rattle.fc_spec.proofs.scripts.ValidSearches.{AsksJson, asks_valid, line_asks, value_is}
@@ -33,6 +33,7 @@ asked_is_valid s d valid = go (request_of s d) refl
 line_is_asked : (s : Schema) (l : Line Data) → AsksValid s l → IsAskedOf s (line_asking (request_of s) l)
 line_is_asked s (asks session d) valid = asked_is_valid s d valid
 line_is_asked s (add shard block) valid = tt
+line_is_asked s (delete shard id) valid = tt
 line_is_asked s (commit shard) valid = tt
 line_is_asked s sync valid = tt
 

@@ -2,10 +2,8 @@ pub mod AskedCounts
 pub mod AskedLines
 pub mod CountedDocuments
 pub mod CountedLines
-pub mod IdSets
 pub mod InRange
 pub mod LimitsLeft
-pub mod NewIds
 pub mod Outcomes
 pub mod SessionOrder
 pub mod SumsOfBlocks

@@ -2,11 +2,11 @@
 use Rattle.std.proofs.Common.{◌≡◌, ℕ, List, [], ◌∷◌, ◌++◌, length, map, All, Option, None, refl, sym, ◌∙◌, ap, subst}
 use Rattle.std.specs.List.{filter_map}
 use Rattle.std.proofs.lemmas.List.Elements.{All-append, All-cons, All-nil}
-use Rattle.fc_spec.specs.documents.Document.{Block}
+use Rattle.fc_spec.specs.documents.Document.{Block, adding, deleting}
 use Rattle.fc_spec.specs.documents.Val.{Text}
 use Rattle.fc_spec.specs.documents.ValidBlocks.{IsBlockOf}
 use Rattle.fc_spec.specs.scripts.AskedScripts.{Asked, AskedLine}
-use Rattle.fc_spec.specs.scripts.Script.{add, commit, sync, asks}
+use Rattle.fc_spec.specs.scripts.Script.{add, delete, commit, sync, asks}
 use Rattle.fc_spec.specs.scripts.ScriptTotals.{Limits, added}
 use Rattle.fc_script.specs.DocumentCounts.{AreDocumentCounts}
 use Rattle.fc_script.specs.Gathered as definition
@@ -45,19 +45,36 @@ module _ (m : Limits) (old : ScriptReader) (ls : List AskedLine) (has : HasRead 
     searches = subst (All (IsSoundSearch old.schema (length old.sessions.items))) (ap (λ v. v.items) (sym searches)) has.sound.searches;
   })
 
+  -- what was gathered, where shards alone change
+  shards_alone : (xs : List definition.ShardSoFar) → names ≡ old.sessions.items → map shard_view g.shards.items ≡ xs → g.phases ≡ old.gathered.phases → g.searches ≡ old.gathered.searches
+      → gathered_view names g ≡ record (gathered_view old.sessions.items old.gathered) { shards = xs }
+  shards_alone xs among shards phases searches = λ i. record {
+    shards = shards i;
+    phases = phases_view (among i) (phases i).items;
+    searches = map (search_view (among i) (length (phases i).items)) (searches i).items;
+  }
+
   -- a block
   pub with_block : (shard : ℕ) (b : Block) → IsBlockOf old.schema b → names ≡ old.sessions.items → AreDocumentCounts m (length old.schema.fields) (filter_map added ls ++ b ∷ []) counts
-      → map shard_view g.shards.items ≡ definition.changed_at (definition.with_block b) shard (map shard_view old.gathered.shards.items) → g.phases ≡ old.gathered.phases → g.searches ≡ old.gathered.searches → HoldsWith (add shard b)
+      → map shard_view g.shards.items ≡ definition.changed_at (definition.with_op (adding b)) shard (map shard_view old.gathered.shards.items) → g.phases ≡ old.gathered.phases → g.searches ≡ old.gathered.searches → HoldsWith (add shard b)
   with_block shard b good among documents shards phases searches = record {
     schema = refl;
     blocks = subst (All (IsBlockOf old.schema)) (sym (added-add ls shard b)) (All-append (IsBlockOf old.schema) (filter_map added ls) (b ∷ []) has.blocks (All-cons (IsBlockOf old.schema) b [] good (All-nil (IsBlockOf old.schema))));
     documents = subst (λ bs. AreDocumentCounts m (length old.schema.fields) bs counts) (sym (added-add ls shard b)) documents;
     sessions = among ∙ has.sessions ∙ sym (sessions-other ls (add shard b) refl);
-    gathered = stepped (add shard b) (λ i. record {
-      shards = shards i;
-      phases = phases_view (among i) (phases i).items;
-      searches = map (search_view (among i) (length (phases i).items)) (searches i).items;
-    });
+    gathered = stepped (add shard b) (shards_alone _ among shards phases searches);
+    sound = sound_same among phases searches;
+  }
+
+  -- an id that is deleted
+  pub with_delete : (shard : ℕ) (id : Text) → names ≡ old.sessions.items → counts ≡ old.documents → map shard_view g.shards.items ≡ definition.changed_at (definition.with_op (deleting id)) shard (map shard_view old.gathered.shards.items)
+      → g.phases ≡ old.gathered.phases → g.searches ≡ old.gathered.searches → HoldsWith (delete shard id)
+  with_delete shard id among documents shards phases searches = record {
+    schema = refl;
+    blocks = blocks_other (delete shard id) refl;
+    documents = documents_other (delete shard id) refl documents;
+    sessions = among ∙ has.sessions ∙ sym (sessions-other ls (delete shard id) refl);
+    gathered = stepped (delete shard id) (shards_alone _ among shards phases searches);
     sound = sound_same among phases searches;
   }
 
@@ -69,11 +86,7 @@ module _ (m : Limits) (old : ScriptReader) (ls : List AskedLine) (has : HasRead 
     blocks = blocks_other (commit o) refl;
     documents = documents_other (commit o) refl documents;
     sessions = among ∙ has.sessions ∙ sym (sessions-other ls (commit o) refl);
-    gathered = stepped (commit o) (λ i. record {
-      shards = shards i;
-      phases = phases_view (among i) (phases i).items;
-      searches = map (search_view (among i) (length (phases i).items)) (searches i).items;
-    });
+    gathered = stepped (commit o) (shards_alone _ among shards phases searches);
     sound = sound_same among phases searches;
   }
 

@@ -1,5 +1,5 @@
 -- What a reader answers to one line more, by the lines before it alone.
-use Rattle.std.proofs.Common.{◌≡◌, List, [], ◌∷◌, ◌++◌, Result, Ok, Err, sym, ◌∙◌, ap, subst}
+use Rattle.std.proofs.Common.{◌≡◌, List, [], ◌∷◌, ◌++◌, Result, Ok, Err, sym, ap, subst}
 use Rattle.fc_spec.specs.documents.Schema.{Schema}
 use Rattle.fc_spec.specs.documents.Val.{Text}
 use Rattle.fc_spec.specs.scripts.AskedScripts.{AskedLine}
@@ -7,12 +7,6 @@ use Rattle.fc_spec.specs.scripts.ScriptFault as fault
 use Rattle.fc_spec.specs.scripts.ScriptReading.{check_last}
 use Rattle.fc_spec.specs.scripts.ScriptTotals.{Limits}
 use Rattle.fc_spec.specs.words.Walks.{◌>>=◌}
-use Rattle.fc_base.specs.Answers.{Answers}
-use Rattle.fc_base.specs.declared.error.Refusal.{Refusal}
-use Rattle.fc_base.specs.declared.error.Refusal.TheVariants as refusal
-use Rattle.fc_lines.specs.FaultView.{line_fault_view}
-use Rattle.fc_lines.specs.declared.fault.LineFault.{LineFault}
-use Rattle.fc_script.specs.Meets.{Meets}
 use Rattle.fc_script.specs.ReadSoFar.{ReadSoFar, with_asked}
 use Rattle.fc_script.specs.ReadView.{HasRead, Holds}
 use Rattle.fc_script.specs.declared.counts.documents.DocumentCounts.{DocumentCounts}
@@ -57,8 +51,3 @@ taken old counts names g l step = by_lines old (λ S. HoldsOf old.schema counts 
 pub refused : (old : ScriptReader) (l : AskedLine) (f : fault.LineFault) → ((m : Limits) (ls : List AskedLine) → HasRead old (so_far m old ls) → check (so_far m old ls) l ≡ Err f)
     → (S : ReadSoFar) → HasRead old S → with_asked S l ≡ Err f
 refused old l f step = by_lines old (λ S. with_asked S l ≡ Err f) (λ m ls has. ap (λ (v : Result (Unit {0}) fault.LineFault). v >>= λ u. Ok (pushed (so_far m old ls) l)) (step m ls has))
-
--- and where something else looked at it, with what that answers
-pub refused_as : (C : Type 0) (S : ReadSoFar) (l : AskedLine) (e : Refusal LineFault) (d : Result (Unit {0}) fault.LineFault) → check S l ≡ d → Answers (λ (c : C). tt {0}) line_fault_view (Err e) d → Meets HasRead line_fault_view (Err e) (with_asked S l)
-refused_as C S l refusal.Memory d is answer = tt
-refused_as C S l (refusal.Fault f) d is answer = ap (λ (v : Result (Unit {0}) fault.LineFault). v >>= λ u. Ok (pushed S l)) (is ∙ answer)

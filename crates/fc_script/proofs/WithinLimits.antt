@@ -30,7 +30,7 @@ is_within r = by_lines r (λ S. IsWithin S.limits (script_so_far S)) (λ m ls ha
     let few : are_few m (documents_added ls) ≡ true = ap (λ limits. are_few limits (documents_added ls)) has.documents.left ∙ few_of _ (filter_map added ls) in
     record {
       blocks = has.blocks;
-      documents = rw (has.documents.once, fits, few) refl;
+      documents = rw (fits, few) refl;
       commits = sym (few_commits_are s ls) ∙ ap (λ (g : Gathered). list_all has_few g.shards) (sym has.gathered) ∙ r.within.commits;
       sessions = let is = ap (λ known. length known) has.sessions in let most = r.within.sessions in grind (arith, nat_tests);
       syncs = sym (few_syncs_are s ls) ∙ ap (λ (g : Gathered). nat_le (length g.phases) 4096) (sym has.gathered) ∙ (let long = phases_length r.sessions.items r.gathered.phases.items in let most = r.within.phases in grind (arith, nat_tests));

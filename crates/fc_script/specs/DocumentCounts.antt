@@ -1,18 +1,14 @@
 -- What is counted over the documents of blocks.
-use Rattle.std.specs.Prelude.{◌≡◌, ◌≤◌, ℕ, List, length, map, slice_index, All, false}
+use Rattle.std.specs.Prelude.{◌≡◌, ◌≤◌, ℕ, List, length, slice_index, All}
 use Rattle.fc_spec.specs.documents.Document.{Block}
 use Rattle.fc_spec.specs.documents.Totals.{documents_in}
-use Rattle.fc_spec.specs.scripts.ScriptTotals.{Limits, ids_in, has_repeat, absolute_total, total_limit}
-use Rattle.fc_base.specs.View.{val_view}
-use Rattle.fc_script.specs.Ids.{AreIdsOf}
+use Rattle.fc_spec.specs.scripts.ScriptTotals.{Limits, absolute_total, total_limit}
 use Rattle.fc_script.specs.Left.{limits_with}
 use Rattle.fc_script.specs.LimitsView.{limits_view}
 use Rattle.fc_script.specs.declared.counts.documents.DocumentCounts.{DocumentCounts}
 
--- the ids are the blocks' and none stands twice, each of so many fields has its sum, and what is left of the limits is what the blocks leave
+-- each of so many fields has its sum, and what is left of the limits is what the blocks leave
 pub record AreDocumentCounts (limits : Limits) (fields : ℕ) (blocks : List Block) (c : DocumentCounts) : Type 0 where
-  pub ids : AreIdsOf (map val_view c.ids.keys) blocks
-  pub once : has_repeat (ids_in (documents_in blocks)) ≡ false
   pub count : length c.sums.items ≡ fields
   pub sums : (field : ℕ) → slice_index c.sums.items field ≡ absolute_total (documents_in blocks) field
   pub within : All (λ sum. sum ≤ total_limit) c.sums.items

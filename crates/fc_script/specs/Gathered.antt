@@ -1,14 +1,14 @@
 -- What the lines of a script add up to, one line after another.
 use Rattle.std.specs.Prelude.{Bool, ℕ, zero, suc, List, [], ◌∷◌, ◌++◌, length, map, nat_le, replicate, fold, Option, None, Some}
 use Rattle.fc_spec.specs.documents.Val.{Text}
-use Rattle.fc_spec.specs.documents.Document.{Block, Batch}
+use Rattle.fc_spec.specs.documents.Document.{Op, adding, deleting, Batch}
 use Rattle.fc_spec.specs.documents.Schema.{Schema}
 use Rattle.fc_spec.specs.scripts.AskedScripts.{Asked, AskedLine}
 use Rattle.fc_spec.specs.scripts.Phases.{Phase, Search}
-use Rattle.fc_spec.specs.scripts.Script.{add, commit, sync, asks}
+use Rattle.fc_spec.specs.scripts.Script.{add, delete, commit, sync, asks}
 use Rattle.fc_spec.specs.scripts.ScriptParts.{Parts}
 
--- a batch for each commit of a shard, and the blocks behind the last one
+-- a batch for each commit of a shard, and the operations behind the last one
 pub record ShardSoFar : Type 0 where
   pub batches : List Batch
   pub waiting : Batch
@@ -32,8 +32,8 @@ changed_at f i [] = []
 changed_at f zero (x ∷ xs) = f x ∷ xs
 changed_at f (suc i) (x ∷ xs) = x ∷ changed_at f i xs
 
-abbrev pub with_block : Block → ShardSoFar → ShardSoFar
-with_block b x = record { batches = x.batches; waiting = x.waiting ++ b ∷ [] }
+abbrev pub with_op : Op → ShardSoFar → ShardSoFar
+with_op op x = record { batches = x.batches; waiting = x.waiting ++ op ∷ [] }
 
 abbrev pub with_commit : ShardSoFar → ShardSoFar
 with_commit x = record { batches = x.batches ++ x.waiting ∷ []; waiting = [] }
@@ -59,7 +59,8 @@ with_search session a g = record g { searches = g.searches ++ record { phase = l
 
 -- behind one more line
 abbrev pub after : Gathered → AskedLine → Gathered
-after g (add shard b) = record g { shards = changed_at (with_block b) shard g.shards }
+after g (add shard b) = record g { shards = changed_at (with_op (adding b)) shard g.shards }
+after g (delete shard id) = record g { shards = changed_at (with_op (deleting id)) shard g.shards }
 after g (commit shard) = record g { shards = with_commit_of shard g.shards }
 after g sync = with_sync g
 after g (asks session a) = with_search session a g

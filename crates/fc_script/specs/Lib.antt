@@ -2,7 +2,6 @@ pub mod LimitsView
 pub mod PartsView
 pub mod SoundScripts
 pub mod Left
-pub mod Ids
 pub mod DocumentCounts
 pub mod Sessions
 pub mod WithinLimits

@@ -3,6 +3,7 @@ use Rattle.std.specs.Prelude.{◌≡◌, ℕ, ◌<◌, ◌≤◌, List, [], leng
 use Rattle.std.specs.declared.alloc.Global.{Global}
 use Rattle.std.specs.Arc.{arc_value}
 use Rattle.fc_spec.specs.documents.Document as documents
+use Rattle.fc_spec.specs.documents.Operations.{blocks_added}
 use Rattle.fc_spec.specs.documents.Schema.{Schema}
 use Rattle.fc_spec.specs.documents.Totals.{document_total}
 use Rattle.fc_spec.specs.documents.ValidBlocks.{IsBlockOf}
@@ -32,10 +33,10 @@ pub record IsSoundPhase {X : Type 0} (s : Schema) (sessions : ℕ) (batches : Li
   pub commits : CutLists batches p.commits.items
   pub searches : All (IsSoundSearch s sessions) p.searches.items
 
--- its blocks are of the schema, and their documents are no more than a script may have
+-- the blocks that it adds are of the schema, and their documents are no more than a script may have
 pub record IsBatchOf (limits : Limits) (s : Schema) (b : documents.Batch) : Type 0 where
-  pub valid : All (IsBlockOf s) b
-  pub few : document_total b ≤ limits.documents
+  pub valid : All (IsBlockOf s) (blocks_added b)
+  pub few : document_total (blocks_added b) ≤ limits.documents
 
 -- so are the batches of a shard
 abbrev pub AreBatchesOf : Limits → Schema → Vec Batch Global → Type 0

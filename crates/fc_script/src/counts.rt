@@ -1,6 +1,5 @@
 // What is counted over the documents of a script.
 mod documents;
-mod ids;
 mod room;
 
 pub(crate) use documents::DocumentCounts;

@@ -1,10 +1,11 @@
 -- What the lines of a script add up to are its parts.
 use Rattle.std.proofs.Common.{◌≡◌, List, [], ◌∷◌, ◌++◌, length, map, fold, refl, sym, ◌∙◌, ap, subst, arith, append-nil}
 use Rattle.std.proofs.lemmas.List.FromFn.{length-map-range_with_len, map-range_with_len_more}
+use Rattle.fc_spec.specs.documents.Document.{adding, deleting}
 use Rattle.fc_spec.specs.documents.Schema.{Schema}
 use Rattle.fc_spec.specs.words.Lists.{numbers_below}
 use Rattle.fc_spec.specs.scripts.AskedScripts.{AskedLine, AskedScript}
-use Rattle.fc_spec.specs.scripts.Script.{add, commit, sync, asks, commits_up_to}
+use Rattle.fc_spec.specs.scripts.Script.{add, delete, commit, sync, asks, commits_up_to}
 use Rattle.fc_spec.specs.scripts.Phases.{searches, phase, phases}
 use Rattle.fc_spec.specs.scripts.ScriptParts.{parts_of, batches}
 use Rattle.fc_spec.specs.scripts.ScriptTotals.{sessions}
@@ -12,7 +13,7 @@ use Rattle.fc_spec.proofs.words.MappedLists.{map-same}
 use Rattle.fc_spec.proofs.scripts.NumberedLines.{moved}
 use Rattle.fc_spec.proofs.scripts.PhasesSoFar.{ended, phase_in, searches_in, up_to_open, phases_sync, phases_other, searches_sync, searches_other}
 use Rattle.fc_script.specs.Gathered.{Gathered, nothing, open_phase, after, gathered, gathered_parts}
-use Rattle.fc_script.proofs.gathered.ShardsBehind.{shards_behind, shards_at_first, behind_block, behind_commit, behind_other, batches_behind, commits_behind}
+use Rattle.fc_script.proofs.gathered.ShardsBehind.{shards_behind, shards_at_first, behind_op, behind_commit, behind_other, batches_behind, commits_behind}
 
 -- ---- behind some lines
 
@@ -34,9 +35,14 @@ open_is s front g behind = λ i. record { commits = numbers i; searches = behind
 
 pub behind_after : (s : Schema) (front : List AskedLine) (g : Gathered) (l : AskedLine) → IsBehind s front g → IsBehind s (front ++ l ∷ []) (after g l)
 behind_after s front g (add shard b) behind = record {
-  shards = ap (λ xs. (after (record g { shards = xs }) (add shard b)).shards) behind.shards ∙ behind_block front s.shards shard b;
+  shards = ap (λ xs. (after (record g { shards = xs }) (add shard b)).shards) behind.shards ∙ behind_op front s.shards shard (add shard b) (adding b) (λ k. refl) (λ k. refl);
   phases = behind.phases ∙ sym (phases_other s front (add shard b) refl);
   searches = behind.searches ∙ sym (append-nil _) ∙ sym (searches_other front (add shard b) refl);
+}
+behind_after s front g (delete shard id) behind = record {
+  shards = ap (λ xs. (after (record g { shards = xs }) (delete shard id)).shards) behind.shards ∙ behind_op front s.shards shard (delete shard id) (deleting id) (λ k. refl) (λ k. refl);
+  phases = behind.phases ∙ sym (phases_other s front (delete shard id) refl);
+  searches = behind.searches ∙ sym (append-nil _) ∙ sym (searches_other front (delete shard id) refl);
 }
 behind_after s front g (commit o) behind = record {
   shards = ap (λ xs. (after (record g { shards = xs }) (commit o)).shards) behind.shards ∙ behind_commit front s.shards o;

@@ -3,13 +3,13 @@ use Rattle.std.proofs.Common.{◌≡◌, ℕ, zero, suc, ◌+◌, List, [], ◌�
 use Rattle.std.specs.List.{cons_option, range_with_len}
 use Rattle.std.proofs.lemmas.Bool.{eq-eqb, ne_eqb}
 use Rattle.std.proofs.lemmas.List.FromFn.{length-map-range_with_len}
-use Rattle.fc_spec.specs.documents.Document.{Block}
+use Rattle.fc_spec.specs.documents.Document.{Op}
 use Rattle.fc_spec.specs.words.Lists.{numbers_below}
-use Rattle.fc_spec.specs.scripts.Script.{add, commit, commits_shard, added_to, batch_of, stream}
+use Rattle.fc_spec.specs.scripts.Script.{commit, commits_shard, op_on, batch_of, stream}
 use Rattle.fc_spec.specs.scripts.AskedScripts.{Asked, AskedLine}
 use Rattle.fc_spec.proofs.words.MappedLists.{map-same}
 use Rattle.fc_spec.proofs.scripts.BatchesSoFar.{commits_in, same_from, stream_commit, waiting_commit, stream_other, waiting_other}
-use Rattle.fc_script.specs.Gathered.{ShardSoFar, empty_shard, changed_at, with_block, with_commit, with_commit_of}
+use Rattle.fc_script.specs.Gathered.{ShardSoFar, empty_shard, changed_at, with_op, with_commit, with_commit_of}
 
 -- ---- one member changed
 
@@ -29,22 +29,22 @@ changed f g h t a (suc n) (suc i) is same =
 
 -- ---- a shard
 
--- its batches and its waiting blocks behind some lines
+-- its batches and its waiting operations behind some lines
 abbrev pub shard_behind : List AskedLine → ℕ → ShardSoFar
 shard_behind front s = record { batches = stream front s; waiting = batch_of front s (commits_in s front) }
 
 with_it : (front : List AskedLine) (o : Option ℕ) (s : ℕ) → commits_shard {A = Asked} s (commit o) ≡ true → with_commit (shard_behind front s) ≡ shard_behind (front ++ commit o ∷ []) s
 with_it front o s commits = λ i. record { batches = sym (stream_commit s front (commit o) commits refl) i; waiting = sym (waiting_commit s front (commit o) commits) i }
 
-with_more : (front : List AskedLine) (l : AskedLine) (b : Block) (s : ℕ) → commits_shard s l ≡ false → added_to s l ≡ Some b → with_block b (shard_behind front s) ≡ shard_behind (front ++ l ∷ []) s
-with_more front l b s commits adds =
-    λ i. record { batches = sym (stream_other s front l commits) i; waiting = ((λ j. batch_of front s (commits_in s front) ++ cons_option (sym adds j) []) ∙ sym (waiting_other s front l commits)) i }
+with_more : (front : List AskedLine) (l : AskedLine) (op : Op) (s : ℕ) → commits_shard s l ≡ false → op_on s l ≡ Some op → with_op op (shard_behind front s) ≡ shard_behind (front ++ l ∷ []) s
+with_more front l op s commits does =
+    λ i. record { batches = sym (stream_other s front l commits) i; waiting = ((λ j. batch_of front s (commits_in s front) ++ cons_option (sym does j) []) ∙ sym (waiting_other s front l commits)) i }
 
-unchanged : (front : List AskedLine) (l : AskedLine) (s : ℕ) → commits_shard s l ≡ false → added_to s l ≡ None → shard_behind front s ≡ shard_behind (front ++ l ∷ []) s
-unchanged front l s commits adds =
+unchanged : (front : List AskedLine) (l : AskedLine) (s : ℕ) → commits_shard s l ≡ false → op_on s l ≡ None → shard_behind front s ≡ shard_behind (front ++ l ∷ []) s
+unchanged front l s commits does =
     λ i. record {
       batches = sym (stream_other s front l commits) i;
-      waiting = (sym (append-nil (batch_of front s (commits_in s front))) ∙ (λ j. batch_of front s (commits_in s front) ++ cons_option (sym adds j) []) ∙ sym (waiting_other s front l commits)) i;
+      waiting = (sym (append-nil (batch_of front s (commits_in s front))) ∙ (λ j. batch_of front s (commits_in s front) ++ cons_option (sym does j) []) ∙ sym (waiting_other s front l commits)) i;
     }
 
 -- ---- all shards
@@ -56,12 +56,13 @@ pub shards_at_first : (a n : ℕ) → replicate n empty_shard ≡ map (shard_beh
 shards_at_first a zero = refl
 shards_at_first a (suc n) = ap (λ xs. empty_shard ∷ xs) (shards_at_first (a + 1) n)
 
-pub behind_block : (front : List AskedLine) (n shard : ℕ) (b : Block) → changed_at (with_block b) shard (shards_behind front n) ≡ shards_behind (front ++ add shard b ∷ []) n
-behind_block front n shard b = changed (with_block b) (shard_behind front) (shard_behind (front ++ add shard b ∷ [])) shard 0 n shard (omega arith) (λ k. go k (shard == k) refl)
+-- a line that does something to one of them
+pub behind_op : (front : List AskedLine) (n shard : ℕ) (l : AskedLine) (op : Op) → ((k : ℕ) → commits_shard k l ≡ false) → ((k : ℕ) → op_on k l ≡ cond (shard == k) (Some op) None) → changed_at (with_op op) shard (shards_behind front n) ≡ shards_behind (front ++ l ∷ []) n
+behind_op front n shard l op commits does = changed (with_op op) (shard_behind front) (shard_behind (front ++ l ∷ [])) shard 0 n shard (omega arith) (λ k. go k (shard == k) refl)
   where
-    go : (k : ℕ) (c : Bool) → (shard == k) ≡ c → cond c (with_block b (shard_behind front k)) (shard_behind front k) ≡ shard_behind (front ++ add shard b ∷ []) k
-    go k true is = with_more front (add shard b) b k refl (ap (λ c. cond c (Some b) None) is)
-    go k false is = unchanged front (add shard b) k refl (ap (λ c. cond c (Some b) None) is)
+    go : (k : ℕ) (c : Bool) → (shard == k) ≡ c → cond c (with_op op (shard_behind front k)) (shard_behind front k) ≡ shard_behind (front ++ l ∷ []) k
+    go k true is = with_more front l op k (commits k) (does k ∙ ap (λ c. cond c (Some op) None) is)
+    go k false is = unchanged front l k (commits k) (does k ∙ ap (λ c. cond c (Some op) None) is)
 
 pub behind_commit : (front : List AskedLine) (n : ℕ) (o : Option ℕ) → with_commit_of o (shards_behind front n) ≡ shards_behind (front ++ commit o ∷ []) n
 behind_commit front n None = map-map with_commit (shard_behind front) (numbers_below n) ∙ map-same _ _ (numbers_below n) (λ k. with_it front None k refl)
@@ -71,8 +72,8 @@ behind_commit front n (Some shard) = changed with_commit (shard_behind front) (s
     go k true is = with_it front (Some shard) k is
     go k false is = unchanged front (commit (Some shard)) k is refl
 
-pub behind_other : (front : List AskedLine) (n : ℕ) (l : AskedLine) → ((k : ℕ) → commits_shard k l ≡ false) → ((k : ℕ) → added_to k l ≡ None) → shards_behind front n ≡ shards_behind (front ++ l ∷ []) n
-behind_other front n l commits adds = map-same _ _ (numbers_below n) (λ k. unchanged front l k (commits k) (adds k))
+pub behind_other : (front : List AskedLine) (n : ℕ) (l : AskedLine) → ((k : ℕ) → commits_shard k l ≡ false) → ((k : ℕ) → op_on k l ≡ None) → shards_behind front n ≡ shards_behind (front ++ l ∷ []) n
+behind_other front n l commits does = map-same _ _ (numbers_below n) (λ k. unchanged front l k (commits k) (does k))
 
 -- ---- what they have
 

@@ -1,14 +1,15 @@
--- The batches of a script within its limits have valid blocks and few documents.
-use Rattle.std.proofs.Common.{◌≡◌, ℕ, ◌+◌, ◌≤◌, List, [], ◌∷◌, length, Bool, true, false, cond, ◌==◌, Option, None, Some, IfSome, All, Ok, refl, arith}
+-- The batches of a script within its limits add valid blocks and few documents.
+use Rattle.std.proofs.Common.{◌≡◌, ℕ, ◌+◌, ◌≤◌, List, [], ◌∷◌, length, Bool, true, false, cond, ◌==◌, Option, None, Some, IfSome, option_and_then, All, Ok, refl, sym, ◌∙◌, ap, subst, arith}
 use Rattle.std.specs.Prelude.{nat_le}
 use Rattle.std.specs.List.{cons_option, enumerate_from, filter_map}
 use Rattle.std.proofs.lemmas.Bool.{and_parts, leb-true}
 use Rattle.std.proofs.lemmas.List.Elements.{All-nil, All-cons, All-head, All-map, All-tail}
-use Rattle.fc_spec.specs.documents.Document.{Block}
+use Rattle.fc_spec.specs.documents.Document.{Block, Op, adding, deleting}
+use Rattle.fc_spec.specs.documents.Operations.{added_by, blocks_added}
 use Rattle.fc_spec.specs.documents.Totals.{document_total, value_count}
 use Rattle.fc_spec.specs.documents.ValidBlocks.{IsBlockOf}
 use Rattle.fc_spec.specs.scripts.AskedScripts.{AskedLine, AskedScript}
-use Rattle.fc_spec.specs.scripts.Script.{add, commit, sync, asks, added_to, batch_of, commits_shard, earlier, stream}
+use Rattle.fc_spec.specs.scripts.Script.{add, delete, commit, sync, asks, op_on, batch_of, commits_shard, earlier, stream}
 use Rattle.fc_spec.specs.scripts.ScriptParts.{batches}
 use Rattle.fc_spec.specs.scripts.ScriptTotals.{Limits, added, are_few, documents_added, sums_fit}
 use Rattle.fc_spec.specs.scripts.ValidScripts.{IsWithin}
@@ -58,16 +59,30 @@ picked_total pick each n (l ∷ ls) =
 
 -- ---- a batch
 
+-- the blocks that picked operations add, picked
+added_cons : (o : Option Op) (ops : List Op) → blocks_added (cons_option o ops) ≡ cons_option (option_and_then added_by o) (blocks_added ops)
+added_cons None ops = refl
+added_cons (Some op) ops = refl
+
+added_picked : {X : Type 0} (pick : X → Option Op) (xs : List X) → blocks_added (filter_map pick xs) ≡ filter_map (λ x. option_and_then added_by (pick x)) xs
+added_picked pick [] = refl
+added_picked pick (x ∷ xs) = added_cons (pick x) (filter_map pick xs) ∙ ap (cons_option (option_and_then added_by (pick x))) (added_picked pick xs)
+
 -- the block that a line adds to a shard, where a test passes
 abbrev added_where : Bool → ℕ → AskedLine → Option Block
-added_where test shard l = cond test (added_to shard l) None
+added_where test shard l = option_and_then added_by (cond test (op_on shard l) None)
 
 module _ (P : Block → Type 0) where
-  to_shard : (shard : ℕ) (l : AskedLine) → IfSome (added l) P → IfSome (added_to shard l) P
+  to_shard : (shard : ℕ) (l : AskedLine) → IfSome (added l) P → IfSome (option_and_then added_by (op_on shard l)) P
   to_shard shard (add s b) valid = go (s == shard)
     where
-      go : (here : Bool) → IfSome (cond here (Some b) None) P
+      go : (here : Bool) → IfSome (option_and_then added_by (cond here (Some (adding b)) None)) P
       go true = valid
+      go false = tt
+  to_shard shard (delete s id) valid = go (s == shard)
+    where
+      go : (here : Bool) → IfSome (option_and_then added_by (cond here (Some (deleting id)) None)) P
+      go true = tt
       go false = tt
   to_shard shard (commit c) valid = tt
   to_shard shard sync valid = tt
@@ -77,10 +92,15 @@ module _ (P : Block → Type 0) where
   valid_where true shard l valid = to_shard shard l valid
   valid_where false shard l valid = tt
 
-size_to_shard : (shard : ℕ) (l : AskedLine) → size (added_to shard l) ≤ size (added l)
+size_to_shard : (shard : ℕ) (l : AskedLine) → size (option_and_then added_by (op_on shard l)) ≤ size (added l)
 size_to_shard shard (add s b) = go (s == shard)
   where
-    go : (here : Bool) → size (cond here (Some b) None) ≤ size (Some b)
+    go : (here : Bool) → size (option_and_then added_by (cond here (Some (adding b)) None)) ≤ size (Some b)
+    go true = omega arith
+    go false = omega arith
+size_to_shard shard (delete s id) = go (s == shard)
+  where
+    go : (here : Bool) → size (option_and_then added_by (cond here (Some (deleting id)) None)) ≤ 0
     go true = omega arith
     go false = omega arith
 size_to_shard shard (commit c) = omega arith
@@ -93,23 +113,26 @@ size_where false shard l = omega arith
 
 -- ---- all batches
 
-passed_check : {E : Type 0} (a b c : Bool) (e f g : E) → (unless a e >>= λ _. unless b f >>= λ _. unless c g) ≡ Ok tt → c ≡ true
-passed_check true true true e f g h = refl
-passed_check true true false e f g h = absurd cc
-passed_check true false c e f g h = absurd cc
-passed_check false b c e f g h = absurd cc
+passed_check : {E : Type 0} (a b : Bool) (e f : E) → (unless a e >>= λ _. unless b f) ≡ Ok tt → b ≡ true
+passed_check true true e f h = refl
+passed_check true false e f h = absurd cc
+passed_check false b e f h = absurd cc
 
 module _ (limits : Limits) (S : AskedScript) (within : IsWithin limits S) where
   few_documents : document_total (filter_map added S.lines) ≤ limits.documents
   few_documents =
-      let few : are_few limits (documents_added S.lines) ≡ true = passed_check _ (sums_fit S.schema (documents_added S.lines)) (are_few limits (documents_added S.lines)) _ _ _ within.documents in
+      let few : are_few limits (documents_added S.lines) ≡ true = passed_check (sums_fit S.schema (documents_added S.lines)) (are_few limits (documents_added S.lines)) _ _ within.documents in
       leb-true _ limits.documents (and_parts (nat_le (document_total (filter_map added S.lines)) limits.documents) (nat_le (value_count (documents_added S.lines)) limits.values) few).0
 
   batch_is : (shard j : ℕ) → IsBatchOf limits S.schema (batch_of S.lines shard j)
-  batch_is shard j = record {
-    valid = picked (IsBlockOf S.schema) (λ n. added_where (earlier (commits_shard shard) S.lines n.0 == j) shard n.1) (λ n l valid. valid_where (IsBlockOf S.schema) (earlier (commits_shard shard) S.lines n == j) shard l valid) 0 S.lines within.blocks;
-    few = (let some = picked_total (λ n. added_where (earlier (commits_shard shard) S.lines n.0 == j) shard n.1) (λ n l. size_where (earlier (commits_shard shard) S.lines n == j) shard l) 0 S.lines in omega (arith, some, few_documents));
-  }
+  batch_is shard j =
+      let test : ℕ → Bool = λ n. earlier (commits_shard shard) S.lines n == j in
+      let adds : blocks_added (batch_of S.lines shard j) ≡ filter_map (λ n. added_where (test n.0) shard n.1) (enumerate_from 0 S.lines) = added_picked (λ n. cond (test n.0) (op_on shard n.1) None) (enumerate_from 0 S.lines) in
+      let some = picked_total (λ n. added_where (test n.0) shard n.1) (λ n l. size_where (test n) shard l) 0 S.lines in
+      record {
+        valid = subst (All (IsBlockOf S.schema)) (sym adds) (picked (IsBlockOf S.schema) (λ n. added_where (test n.0) shard n.1) (λ n l valid. valid_where (IsBlockOf S.schema) (test n) shard l valid) 0 S.lines within.blocks);
+        few = rw adds (omega (arith, some, few_documents));
+      }
 
   -- of each shard
   pub batches_are : All (All (IsBatchOf limits S.schema)) (batches S)

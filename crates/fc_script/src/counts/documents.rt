@@ -1,32 +1,29 @@
 // What is counted over the documents of a script.
-ghost use Rattle.std.specs.Prelude.{◌≡◌, ◌+◌, ◌≤◌, ℕ, [], ◌∷◌, ◌++◌, length, map, nat_le, slice_index, All, IfOk, List};
+ghost use Rattle.std.specs.Prelude.{◌≡◌, ◌+◌, ◌≤◌, ℕ, [], ◌∷◌, ◌++◌, length, nat_le, slice_index, All, IfOk, List};
 ghost use Rattle.std.specs.Bool.{OnTrue};
 ghost use Rattle.std.specs.List.{list_all, range_with_len};
+ghost use Rattle.std.specs.Result.{result_map_both};
 ghost use Rattle.fc_spec.specs.documents.Document as definition;
 ghost use Rattle.fc_spec.specs.scripts.ScriptReading.{check_documents};
 ghost use Rattle.fc_spec.specs.scripts.ScriptTotals as totals;
 ghost use Rattle.fc_spec.specs.documents.Totals.{documents_in, documents_of};
 ghost use Rattle.fc_spec.specs.documents.ValidBlocks.{IsBlockOf};
-ghost use Rattle.fc_base.specs.Answers.{Answers};
 ghost use Rattle.fc_docs.specs.View.{block_view};
 ghost use Rattle.fc_lines.specs.FaultView.{line_fault_view};
 ghost use Rattle.fc_script.specs.DocumentCounts.{AreDocumentCounts};
 ghost use Rattle.fc_script.specs.LimitsView.{limits_view};
 
-use super::ids::insert_ids;
 use super::room::limits_after;
 use crate::limits::Limits;
-use fc_base::{Refusal, Schema, Val, WantMemory};
+use fc_base::{Schema, WantMemory};
 use fc_docs::Block;
 use fc_lines::LineFault;
 use std::alloc::Global;
-use std::collections::BTreeSet;
 
-/// The ids so far, for each field the sum of the absolute values of its integers, and what is left of
-/// the limits on documents and values.
+/// For each field the sum of the absolute values of its integers, and what is left of the limits on
+/// documents and values.
 #[derive(Drop)]
 pub(crate) struct DocumentCounts {
-    pub(crate) ids: BTreeSet<Val>,
     pub(crate) sums: Vec<u64>,
     pub(crate) left: Limits,
 }
@@ -62,20 +59,14 @@ impl DocumentCounts {
             (AreDocumentCounts (limits_view limits) (length schema.now.fields) []) }
     {
         Ok(DocumentCounts {
-            ids: BTreeSet::new(alloc),
             sums: vec![in alloc; 0; schema.fields() as usize]?,
             left: limits,
         })
     }
 
-    /// What is counted over the documents of one block more, where no id stands twice, and the sums and
-    /// the numbers are within their limits.
-    pub(crate) fn with(
-        self,
-        alloc: Global,
-        schema: &Schema,
-        block: &Block,
-    ) -> Result<DocumentCounts, Refusal<LineFault>>
+    /// What is counted over the documents of one block more, where the sums and the numbers are within
+    /// their limits.
+    pub(crate) fn with(self, schema: &Schema, block: &Block) -> Result<DocumentCounts, LineFault>
         requires valid { IsBlockOf schema.now (block_view block.now) }
         requires fields { length self.sums.items ≡ length schema.now.fields }
         requires within { All (λ sum. sum ≤ totals.total_limit) self.sums.items }
@@ -83,23 +74,18 @@ impl DocumentCounts {
         ensures within { IfOk result (λ counts. All (λ sum. sum ≤ totals.total_limit) counts.sums.items) }
         ensures counted { (limits : totals.Limits) (blocks : List definition.Block)
             → AreDocumentCounts limits (length schema.now.fields) blocks self
-            → Answers (λ counts. tt) line_fault_view result
-            (check_documents limits schema.now (documents_in (blocks ++ block_view block.now ∷ [])))
+            → (result_map_both (λ counts. tt) line_fault_view result
+            ≡ check_documents limits schema.now (documents_in (blocks ++ block_view block.now ∷ [])))
             × IfOk result (AreDocumentCounts limits (length schema.now.fields)
             (blocks ++ block_view block.now ∷ [])) }
     {
-        let DocumentCounts {
-            mut ids,
-            mut sums,
-            left,
-        } = self;
-        insert_ids(alloc, &mut ids, block)?;
+        let DocumentCounts { mut sums, left } = self;
         if !add_to_sums(&mut sums, block) {
-            return Err(Refusal::Fault(LineFault::FieldTotal));
+            return Err(LineFault::FieldTotal);
         }
         match limits_after(left, block) {
-            Some(left) => Ok(DocumentCounts { ids, sums, left }),
-            None => Err(Refusal::Fault(LineFault::TooManyDocuments)),
+            Some(left) => Ok(DocumentCounts { sums, left }),
+            None => Err(LineFault::TooManyDocuments),
         }
     }
 }

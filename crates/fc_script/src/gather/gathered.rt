@@ -7,17 +7,17 @@ ghost use Rattle.fc_spec.specs.requests.ValidRequests.{IsValidRequest};
 ghost use Rattle.fc_request.specs.RequestView.{request_view, IsRoot};
 ghost use Rattle.fc_lines.specs.LineView.{asked_view};
 ghost use Rattle.fc_base.specs.ValidSchema.{IsValidSchema};
-ghost use Rattle.fc_docs.specs.View.{block_view};
+ghost use Rattle.fc_docs.specs.View.{op_view};
 ghost use Rattle.fc_script.specs.Gathered as gathered;
-ghost use Rattle.fc_script.specs.Gathered.{changed_at, has_few, with_block, with_commit_of};
+ghost use Rattle.fc_script.specs.Gathered.{changed_at, has_few, with_commit_of, with_op};
 ghost use Rattle.fc_script.specs.GatheredView.{gathered_view, IsSoundSoFar, AreSoundPhases};
 ghost use Rattle.fc_script.specs.PartsView.{parts_view, session_at};
 ghost use Rattle.fc_script.specs.ShardView.{shard_view};
 
-use super::shards::{ShardSoFar, add_block, batches, commit, commits, empty_shards, have_few};
+use super::shards::{ShardSoFar, add_op, batches, commit, commits, empty_shards, have_few};
 use crate::script::{Phase, Script, Search};
 use fc_base::{Name, Schema, WantMemory};
-use fc_docs::Block;
+use fc_docs::Op;
 use fc_request::{Request, RequestFault};
 use std::alloc::Global;
 use std::mem;
@@ -46,16 +46,16 @@ impl Gathered {
         })
     }
 
-    /// Adds a block to a shard.
-    pub(crate) fn add(&mut self, shard: u32, block: Block) -> Result<(), WantMemory>
+    /// Puts an operation behind those of a shard.
+    pub(crate) fn add(&mut self, shard: u32, op: Op) -> Result<(), WantMemory>
         requires { shard < length self.old.shards.items }
         ensures shards { OnOk result (map shard_view self.new.shards.items
-            ≡ changed_at (with_block (block_view block)) shard (map shard_view self.old.shards.items)) }
+            ≡ changed_at (with_op (op_view op)) shard (map shard_view self.old.shards.items)) }
         ensures count { length self.new.shards.items ≡ length self.old.shards.items }
         ensures phases { self.new.phases ≡ self.old.phases }
         ensures searches { self.new.searches ≡ self.old.searches }
     {
-        add_block(&mut self.shards, shard, block)
+        add_op(&mut self.shards, shard, op)
     }
 
     /// Commits a shard, or every shard.

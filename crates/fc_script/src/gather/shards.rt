@@ -1,24 +1,24 @@
 // Shards as far as a script's lines have been gathered.
 ghost use Rattle.std.specs.Prelude.{◌≡◌, ◌<◌, length, map, nat_le, replicate, true, IfOk, IfSome, OnOk};
 ghost use Rattle.std.specs.List.{list_all};
-ghost use Rattle.fc_docs.specs.View.{block_view};
-ghost use Rattle.fc_script.specs.Gathered.{changed_at, empty_shard, has_few, with_block, with_commit, with_commit_of};
+ghost use Rattle.fc_docs.specs.View.{op_view};
+ghost use Rattle.fc_script.specs.Gathered.{changed_at, empty_shard, has_few, with_commit, with_commit_of, with_op};
 ghost use Rattle.fc_script.specs.PartsView.{batches_view};
 ghost use Rattle.fc_script.specs.ShardView.{shard_view};
 
 use fc_base::WantMemory;
-use fc_docs::{Batch, Block};
+use fc_docs::{Batch, Op};
 use std::alloc::Global;
 use std::mem;
 
 // The most commits of a shard.
 const COMMIT_LIMIT: usize = 4096;
 
-/// A batch for each commit of a shard, and the blocks behind the last one.
+/// A batch for each commit of a shard, and the operations behind the last one.
 #[derive(Debug, Drop)]
 pub(crate) struct ShardSoFar {
     pub(crate) batches: Vec<Batch>,
-    pub(crate) waiting: Vec<Block>,
+    pub(crate) waiting: Vec<Op>,
 }
 
 impl ShardSoFar {
@@ -32,11 +32,11 @@ impl ShardSoFar {
         }
     }
 
-    // Behind one more block.
-    fn add(&mut self, block: Block) -> Result<(), WantMemory>
-        ensures { OnOk result (shard_view self.new ≡ with_block (block_view block) (shard_view self.old)) }
+    // Behind one more operation.
+    fn add(&mut self, op: Op) -> Result<(), WantMemory>
+        ensures { OnOk result (shard_view self.new ≡ with_op (op_view op) (shard_view self.old)) }
     {
-        self.waiting.push(block)?;
+        self.waiting.push(op)?;
         Ok(())
     }
 
@@ -44,8 +44,8 @@ impl ShardSoFar {
     fn commit(&mut self, alloc: Global) -> Result<(), WantMemory>
         ensures { OnOk result (shard_view self.new ≡ with_commit (shard_view self.old)) }
     {
-        let blocks = mem::replace(&mut self.waiting, Vec::new(alloc));
-        self.batches.push(Batch { blocks })?;
+        let ops = mem::replace(&mut self.waiting, Vec::new(alloc));
+        self.batches.push(Batch { ops })?;
         Ok(())
     }
 }
@@ -61,18 +61,14 @@ pub(crate) fn empty_shards(alloc: Global, count: u32) -> Result<Vec<ShardSoFar>,
     Ok(shards)
 }
 
-/// Adds a block to a shard.
-pub(crate) fn add_block(
-    shards: &mut [ShardSoFar],
-    shard: u32,
-    block: Block,
-) -> Result<(), WantMemory>
+/// Puts an operation behind those of a shard.
+pub(crate) fn add_op(shards: &mut [ShardSoFar], shard: u32, op: Op) -> Result<(), WantMemory>
     requires { shard < length shards.old }
     ensures shards { OnOk result (map shard_view shards.new
-        ≡ changed_at (with_block (block_view block)) shard (map shard_view shards.old)) }
+        ≡ changed_at (with_op (op_view op)) shard (map shard_view shards.old)) }
     ensures count { length shards.new ≡ length shards.old }
 {
-    shards[shard as usize].add(block)
+    shards[shard as usize].add(op)
 }
 
 // Commits one shard.

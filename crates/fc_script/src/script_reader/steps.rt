@@ -2,7 +2,7 @@
 use super::ScriptReader;
 use crate::gather::session_number;
 use fc_base::{Name, Refusal};
-use fc_docs::Block;
+use fc_docs::{Block, Op};
 use fc_lines::{Line, LineFault, ScriptFault, at_line, line_on};
 use fc_request::{Request, RequestFault};
 use json::Scratch;
@@ -27,12 +27,11 @@ impl ScriptReader {
     ghost use Rattle.fc_script.specs.ReadView.{HasRead};
     ghost use Rattle.fc_spec.specs.documents.ValidBlocks.{IsBlockOf};
     ghost use Rattle.fc_spec.specs.requests.ValidRequests.{IsValidRequest};
-    ghost use Rattle.fc_spec.specs.scripts.Script.{add, asks, commit, sync};
+    ghost use Rattle.fc_spec.specs.scripts.Script.{add, asks, commit, delete, sync};
 
     /// With a block for a shard.
     pub(super) fn with_block(
         self,
-        alloc: Global,
         shard: u32,
         block: Block,
     ) -> Result<ScriptReader, Refusal<LineFault>>
@@ -48,8 +47,30 @@ impl ScriptReader {
             sessions,
             mut gathered,
         } = self;
-        let documents = documents.with(alloc, &schema, &block)?;
-        gathered.add(shard, block)?;
+        let documents = documents.with(&schema, &block)?;
+        gathered.add(shard, Op::Add(block))?;
+        Ok(ScriptReader {
+            schema,
+            documents,
+            sessions,
+            gathered,
+        })
+    }
+
+    // With an id whose blocks a shard loses.
+    fn with_delete(self, shard: u32, id: Name) -> Result<ScriptReader, Refusal<LineFault>>
+        requires placed { shard < self.schema.shards }
+        ensures schema { IfOk result (λ r. r.schema ≡ self.schema) }
+        ensures meets { (S : ReadSoFar) → HasRead self S
+            → Meets HasRead line_fault_view result (with_asked S (delete shard id)) }
+    {
+        let ScriptReader {
+            schema,
+            documents,
+            sessions,
+            mut gathered,
+        } = self;
+        gathered.add(shard, Op::Delete(id))?;
         Ok(ScriptReader {
             schema,
             documents,
@@ -152,7 +173,8 @@ impl ScriptReader {
             → Meets HasRead line_fault_view result (with_asked S (line_view line)) }
     {
         match line {
-            Line::Add(shard, block) => self.with_block(alloc, shard, block),
+            Line::Add(shard, block) => self.with_block(shard, block),
+            Line::Delete(shard, id) => self.with_delete(shard, id),
             Line::Commit(shard) => self.with_commit(alloc, shard),
             Line::Sync => self.with_sync(alloc),
             Line::Search(session, asked) => self.with_search(session, Box::into_inner(asked)),

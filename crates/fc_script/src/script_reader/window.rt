@@ -31,7 +31,7 @@ impl ScriptReader {
             → Meets HasRead line_fault_view result (with_text_line S text.now) }
     {
         match ahead {
-            Ok(Some((shard, block))) => self.with_block(alloc, shard, block),
+            Ok(Some((shard, block))) => self.with_block(shard, block),
             Ok(None) => self.with_text(alloc, scratch, text),
             Err(refusal) => Err(refusal),
         }

@@ -1,53 +1,26 @@
-use Rattle.std.proofs.Common.{◌≡◌, ◌+◌, ◌≤◌, ℕ, [], ◌∷◌, ◌++◌, get_or, length, map, true, false, Result, Err, sym, ◌∙◌, ap, subst, arith}
+use Rattle.std.proofs.Common.{◌≡◌, ◌+◌, ◌≤◌, ℕ, [], ◌∷◌, ◌++◌, get_or, length, true, false, sym, ◌∙◌, ap, subst, arith}
 use Rattle.std.specs.Prelude.{nat_le, All}
 use Rattle.std.specs.List.{list_all, range_with_len}
 use Rattle.std.proofs.lemmas.List.{with_items_is}
-use Rattle.std.proofs.lemmas.Result.{err_from_is_err_and}
-use Rattle.fc_base.specs.Answers.{Answers}
-use Rattle.fc_base.specs.declared.error.Refusal.{Refusal}
-use Rattle.fc_base.specs.declared.error.Refusal.TheVariants as refusal
-use Rattle.fc_spec.specs.scripts.ScriptFault as fault
-use Rattle.fc_lines.specs.FaultView.{line_fault_view}
-use Rattle.fc_lines.specs.declared.fault.LineFault.{LineFault}
-use Rattle.fc_script.specs.declared.counts.documents.DocumentCounts.{DocumentCounts}
 use Rattle.fc_spec.specs.documents.Totals.{documents_in, documents_of}
 use Rattle.fc_spec.specs.scripts.ScriptTotals.{absolute_total, total_limit, sums_fit}
-use Rattle.fc_base.specs.View.{val_view}
 use Rattle.fc_docs.specs.View.{block_view}
 use Rattle.fc_script.specs.LimitsView.{limits_view}
-use Rattle.fc_script.proofs.CountedDocuments.{duplicate, once_more, fits_are, sums_with, too_much, too_many, all_fits}
+use Rattle.fc_script.proofs.CountedDocuments.{fits_are, sums_with, too_much, too_many, all_fits}
 use Rattle.fc_script.proofs.LimitsLeft.{limits_with-append}
-use Rattle.fc_script.proofs.NewIds.{ids_with}
 use Rattle.fc_script.proofs.counts.documents.DocumentCounts.with.Goals as goal
-
--- a block that is refused for its ids
-shown : (e : Refusal LineFault) (new all : Result (Unit {0}) fault.LineFault) → ((f : fault.LineFault) → new ≡ Err f → all ≡ Err f) → Answers (λ (done : Unit {0}). tt {0}) line_fault_view (Err e) new
-    → Answers (λ (counts : DocumentCounts). tt {0}) line_fault_view (Err e) all
-shown refusal.Memory new all same answer = tt
-shown (refusal.Fault f) new all same answer = same (line_fault_view f) answer
-
-pub returns-in_err-insert_ids-clause-counted : goal.returns-in_err-insert_ids-clause-counted
-returns-in_err-insert_ids-clause-counted c = λ limits blocks are.
-    let p = err_from_is_err_and c.from_residual.result c.from_residual.ensures.1 in
-    rw (p.1, p.2) (
-      shown c.in_err-insert_ids.field-0.0 _ _ (λ f is. duplicate limits c.args.schema.now (map val_view c.args.self.ids.keys) blocks (block_view c.args.block.now) f are.ids are.once is) c.in_err-insert_ids.ensures.new,
-      tt,
-    )
 
 pub returns-then-not-add_to_sums-clause-counted : goal.returns-then-not-add_to_sums-clause-counted
 returns-then-not-add_to_sums-clause-counted c = λ limits blocks are.
-    let once = once_more (map val_view c.args.self.ids.keys) blocks (block_view c.args.block.now) are.ids are.once c.in_ok-insert_ids.ensures.new in
     let test : sums_fit c.args.schema.now (documents_in (blocks ++ block_view c.args.block.now ∷ [])) ≡ false =
     sym (fits_are c.args.schema.now c.args.self.sums.items blocks (block_view c.args.block.now) are.count are.sums)
     ∙ ap (λ sums. list_all (λ field. nat_le (get_or sums field 0 + absolute_total (documents_of (block_view c.args.block.now)) field) total_limit) (range_with_len 0 (length sums))) (sym c.deref_mut.ensures.value)
     ∙ sym c.add_to_sums.ensures.fits ∙ c.if-not-add_to_sums.true in
-    (too_much limits c.args.schema.now (documents_in (blocks ++ block_view c.args.block.now ∷ [])) once test, tt)
+    (sym (too_much limits c.args.schema.now (documents_in (blocks ++ block_view c.args.block.now ∷ [])) test), tt)
 
 pub returns-in-Some-clause-counted : goal.returns-in-Some-clause-counted
 returns-in-Some-clause-counted c = λ limits blocks are.
     let block = block_view c.args.block.now in
-    let keys = map val_view c.args.self.ids.keys in
-    let once = once_more keys blocks block are.ids are.once c.in_ok-insert_ids.ensures.new in
     let yes : c.add_to_sums.result ≡ true = c.if-not-add_to_sums.false in
     let test : sums_fit c.args.schema.now (documents_in (blocks ++ block ∷ [])) ≡ true =
     sym (fits_are c.args.schema.now c.args.self.sums.items blocks block are.count are.sums)
@@ -56,10 +29,8 @@ returns-in-Some-clause-counted c = λ limits blocks are.
     let more : (field : ℕ) → get_or c.add_to_sums.new.sums field 0 ≡ get_or c.deref_mut.result.now field 0 + absolute_total (documents_of block) field = rw yes at c.add_to_sums.ensures.sums in
     let still : All (λ sum. sum ≤ total_limit) c.add_to_sums.new.sums = rw yes at c.add_to_sums.ensures.still in
     let kept = with_items_is c.args.self.sums c.add_to_sums.new.sums (omega arith) in (
-      all_fits limits (limits_view c.args.self.left) (limits_view c.in-Some.left) c.args.schema.now blocks block are.left once test (sym c.in-Some.ensures),
+      sym (all_fits limits (limits_view c.args.self.left) (limits_view c.in-Some.left) c.args.schema.now blocks block are.left test (sym c.in-Some.ensures)),
       record {
-        ids = ids_with keys (map val_view c.insert_ids.new.ids.keys) blocks block are.ids c.in_ok-insert_ids.ensures.known;
-        once = once;
         count = ap length kept ∙ c.add_to_sums.auto.sums ∙ ap length c.deref_mut.ensures.value ∙ are.count;
         sums = λ field. ap (λ sums. get_or sums field 0) kept ∙ more field ∙ ap (λ sums. get_or sums field 0 + absolute_total (documents_of block) field) c.deref_mut.ensures.value ∙ sums_with c.args.self.sums.items blocks block field (are.sums field);
         within = subst (All (λ sum. sum ≤ total_limit)) (sym kept) still;
@@ -70,13 +41,12 @@ returns-in-Some-clause-counted c = λ limits blocks are.
 pub returns-in-None-clause-counted : goal.returns-in-None-clause-counted
 returns-in-None-clause-counted c = λ limits blocks are.
     let block = block_view c.args.block.now in
-    let once = once_more (map val_view c.args.self.ids.keys) blocks block are.ids are.once c.in_ok-insert_ids.ensures.new in
     let yes : c.add_to_sums.result ≡ true = c.if-not-add_to_sums.false in
     let test : sums_fit c.args.schema.now (documents_in (blocks ++ block ∷ [])) ≡ true =
     sym (fits_are c.args.schema.now c.args.self.sums.items blocks block are.count are.sums)
     ∙ ap (λ sums. list_all (λ field. nat_le (get_or sums field 0 + absolute_total (documents_of block) field) total_limit) (range_with_len 0 (length sums))) (sym c.deref_mut.ensures.value)
     ∙ sym c.add_to_sums.ensures.fits ∙ yes in
-    (too_many limits (limits_view c.args.self.left) c.args.schema.now blocks block are.left once test (sym c.in-None.ensures), tt)
+    (sym (too_many limits (limits_view c.args.self.left) c.args.schema.now blocks block are.left test (sym c.in-None.ensures)), tt)
 
 pub returns-in-Some-clause-fields : goal.returns-in-Some-clause-fields
 returns-in-Some-clause-fields c =
