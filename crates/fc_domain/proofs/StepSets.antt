@@ -15,7 +15,8 @@ use Rattle.fc_spec.specs.requests.Request.{Request, DomainChange, children, pare
 use Rattle.fc_spec.specs.requests.Base.{base, meets_base}
 use Rattle.fc_spec.specs.requests.Domain.{changed}
 use Rattle.fc_spec.specs.requests.DomainSets.{changed_set, moved_set, by_blocks, to_parent, to_children}
-use Rattle.fc_spec.proofs.words.WhereTrue.{filter-items_where_true, zip_with-append, zip_with-map, length-zip_with}
+use Rattle.fc_spec.specs.laws.LiveSetLaws.{PassingOnLive}
+use Rattle.fc_spec.proofs.words.WhereTrue.{filter_where_true, zip_with-append, zip_with-map, length-zip_with}
 use Rattle.fc_spec.proofs.documents.LiveBlocks.{live_documents}
 use Rattle.fc_spec.proofs.documents.PlacedDocuments.{documents_at-places}
 use Rattle.fc_spec.proofs.requests.SetChanges.{changes_are_blockwise}
@@ -185,9 +186,25 @@ filtered_documents t (p ∷ X) = go (t p.document) (filtered_documents t X)
     go true rest = ap (λ l. p.document ∷ l) rest
     go false rest = rest
 
+none_picked : {X : Type 0} (set : List Bool) → [] ≡ items_where_true {X = X} set []
+none_picked [] = refl
+none_picked (here ∷ set) = refl
+
+-- what passes of a set picks what passes, kept at the set's positions, of the members there
+kept_within : {X : Type 0} (set passes : List Bool) (xs : List X) → items_where_true (zip_with ◌&&◌ set passes) xs ≡ items_where_true (items_where_true set passes) (items_where_true set xs)
+kept_within [] passes xs = refl
+kept_within (here ∷ set) [] xs = refl
+kept_within (here ∷ set) (pass ∷ passes) [] = none_picked (items_where_true (here ∷ set) (pass ∷ passes))
+kept_within (true ∷ set) (true ∷ passes) (x ∷ xs) = ap (λ l. x ∷ l) (kept_within set passes xs)
+kept_within (true ∷ set) (false ∷ passes) (x ∷ xs) = kept_within set passes xs
+kept_within (false ∷ set) (pass ∷ passes) (x ∷ xs) = kept_within set passes xs
+
 -- they are those of the live blocks
-pub base_documents : (r : Request) (tags : List Text) (blocks : List Block) (live : List Bool) → HasWholeBlocks blocks live
+pub base_documents : PassingOnLive → (r : Request) (tags : List Text) (blocks : List Block) (live : List Bool) → HasWholeBlocks blocks live
     → items_where_true (passing_of (meets_base r tags) blocks live) (documents_in blocks) ≡ map (λ p. p.document) (base r (live_in blocks live ∷ []) tags)
-base_documents r tags blocks live whole =
-    sym (filter-items_where_true (meets_base r tags) live (documents_in blocks)) ∙ ap (filter (meets_base r tags)) (sym (live_documents blocks live whole))
-    ∙ sym (filtered_documents (meets_base r tags) (places (live_in blocks live ∷ [])) ∙ ap (filter (meets_base r tags)) (documents_at-places (live_in blocks live)))
+base_documents on_live r tags blocks live whole =
+    let meets = meets_base r tags in
+    let alive = live_in blocks live in
+    kept_within live (passing meets blocks) (documents_in blocks)
+    ∙ ap₂ items_where_true (on_live meets blocks live whole) (sym (live_documents blocks live whole))
+    ∙ sym (filtered_documents meets (places (alive ∷ [])) ∙ ap (filter meets) (documents_at-places alive) ∙ filter_where_true meets (documents_in alive))

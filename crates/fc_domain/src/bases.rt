@@ -16,6 +16,7 @@ use fc_docset::DocSet;
 use fc_query::Filter;
 use fc_request::Request;
 use fc_segment::Segment;
+use fc_spec::sets_hold_on_live_blocks;
 use std::alloc::Global;
 
 /// Makes the set the positions of the segment whose document is live and matches the request's query and each of its filters
@@ -37,6 +38,7 @@ pub fn base(
         (live_in segment.now.blocks segment.now.live ∷ []) exclude.now)) }
     ensures length { length into.new ≡ length into.old }
 {
+    sets_hold_on_live_blocks();
     matches(alloc, segment, &request.query, into)?;
     keep_filtered(alloc, segment, &request.filters, exclude, into)?;
     into.and_with(segment.live());

@@ -33,7 +33,7 @@ pub returns-clause-documents : goal.returns-clause-documents
 returns-clause-documents c =
     let segment = c.args.segment.now in
     ap (λ set. items_where_true set (documents_in segment.blocks)) (returns-clause-set c)
-    ∙ base_documents (request_view c.args.request.now) c.args.exclude.now segment.blocks segment.live c.live.ensures.whole
+    ∙ base_documents c.sets_hold_on_live_blocks.ensures.passing (request_view c.args.request.now) c.args.exclude.now segment.blocks segment.live c.live.ensures.whole
 
 pub returns-clause-length : goal.returns-clause-length
 returns-clause-length c =
