@@ -57,10 +57,10 @@ impl LongMerger {
             alloc,
         } = self;
         let first = rows.len();
-        rows.add_rows(column.rows(), live)?;
+        let counts = counts_of(alloc, live)?;
+        rows.add_rows(alloc, column.rows(), live, &counts)?;
         // So it is known that all positions are counted by a `u32`.
         let _end = rows.len();
-        let counts = counts_of(alloc, live)?;
         add_kept(&mut ordered, column, live, &counts, first)?;
         Ok(LongMerger {
             rows,

@@ -1,6 +1,7 @@
 -- How many positions of a set stand before one.
 use Rattle.std.proofs.Common.{◌≡◌, ℕ, zero, suc, ◌+◌, ◌<◌, ◌≤◌, Bool, true, false, cond, List, [], ◌∷◌, length, get_or, take, count_by, refl, sym, ap, ap₂, ◌∙◌, arith}
 use Rattle.std.specs.List.{items_where_true}
+use Rattle.std.proofs.lemmas.List.{take_all}
 use Rattle.fc_spec.specs.documents.Bits.{HasBits}
 use Rattle.fc_spec.proofs.words.Counting.{count_by-cons}
 use Rattle.fc_docset.specs.Positions.{contains}
@@ -14,7 +15,7 @@ one_if b = cond b 1 0
 pub kept_before-cons : (h : Bool) (set : List Bool) (at : ℕ) → kept_before (h ∷ set) (suc at) ≡ cond h 1 0 + kept_before set at
 kept_before-cons h set at = count_by-cons (λ here. here) h (take at set)
 
-kept_before-next : (set : List Bool) (at : ℕ) → kept_before set (suc at) ≡ kept_before set at + cond (contains set at) 1 0
+pub kept_before-next : (set : List Bool) (at : ℕ) → kept_before set (suc at) ≡ kept_before set at + cond (contains set at) 1 0
 kept_before-next [] zero = refl
 kept_before-next [] (suc at) = refl
 kept_before-next (h ∷ set) zero = kept_before-cons h set 0 ∙ omega arith
@@ -28,6 +29,9 @@ bits_are words set is zero = refl
 bits_are words set is (suc at) =
     let more : suc at ≡ at + 1 = omega arith in
     ap (λ n. bits_below n words) more ∙ bits_below-next at words ∙ ap₂ (λ n b. n + cond b 1 0) (bits_are words set is at) (is at) ∙ sym (kept_before-next set at)
+
+pub kept_before-all : (set : List Bool) (at : ℕ) → length set ≤ at → kept_before set at ≡ count_by (λ here. here) set
+kept_before-all set at past = ap (count_by (λ here. here)) (take_all at set past)
 
 pub kept_before-most : (set : List Bool) (at : ℕ) → kept_before set at ≤ count_by (λ here. here) set
 kept_before-most set zero = omega arith

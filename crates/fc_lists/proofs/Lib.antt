@@ -10,3 +10,4 @@ pub mod SortedEntries
 pub mod Marks
 pub mod KeptRows
 pub mod KeptCounts
+pub mod FilledRows

@@ -4,9 +4,11 @@ ghost use Rattle.std.specs.List.{items_where_true, range_with_len};
 ghost use Rattle.std.specs.List.Sorted.{IsStrictlyIncreasing};
 ghost use Rattle.fc_docset.specs.Positions.{positions};
 ghost use Rattle.fc_lists.specs.Among.{is_among};
+ghost use Rattle.fc_lists.specs.Kept.{AreCounts};
 ghost use Rattle.fc_lists.specs.Ordered.{AreInOrder};
 
 use crate::lists::Lists;
+use crate::live::{filled, place_of};
 use crate::numbered::positions_of_numbers;
 use crate::ordered::in_order;
 use crate::rows::Rows;
@@ -121,9 +123,18 @@ impl Entries<u32> {
         self.end_row()
     }
 
-    /// Adds the rows of the positions in a set, one behind the other; to each of their numbers another is added.
-    pub fn add_rows(&mut self, rows: &Rows<u32>, live: &DocSet, more: u32) -> Result<(), WantMemory>
+    /// Adds the rows of the positions in a set, one behind the other; to each of their numbers another is added. Empty rows
+    /// are not looked at.
+    pub fn add_rows(
+        &mut self,
+        alloc: Global,
+        rows: &Rows<u32>,
+        live: &DocSet,
+        counts: &[u32],
+        more: u32,
+    ) -> Result<(), WantMemory>
         requires length { length live.now ≡ length rows.now }
+        requires counts { AreCounts live.now counts.now }
         requires small { All (All (λ number. number + more < 2 ^ 32)) rows.now }
         requires whole { self.old.next ≡ [] }
         ensures { OnOk result (self.new ≡ record {
@@ -132,10 +143,19 @@ impl Entries<u32> {
           next = [];
         }) }
     {
-        for at in live.iter() {
+        let filled = filled(alloc, rows, live)?;
+        let mut done = 0;
+        let mut from = 0;
+        while let Some(at) = filled.next_from(from) {
+            let Some(place) = place_of(live, counts, at) else {
+                unreachable!()
+            };
+            self.skip(place - done)?;
             self.add_row(rows.row(at), more)?;
+            done = place + 1;
+            from = at + 1;
         }
-        Ok(())
+        self.skip(live.count() - done)
     }
 
     /// Puts the number that stands at its place in the list in place of each item.
@@ -177,17 +197,33 @@ impl Entries<i64> {
         self.end_row()
     }
 
-    /// Adds the rows of the positions in a set, one behind the other.
-    pub fn add_rows(&mut self, rows: &Rows<i64>, live: &DocSet) -> Result<(), WantMemory>
+    /// Adds the rows of the positions in a set, one behind the other. Empty rows are not looked at.
+    pub fn add_rows(
+        &mut self,
+        alloc: Global,
+        rows: &Rows<i64>,
+        live: &DocSet,
+        counts: &[u32],
+    ) -> Result<(), WantMemory>
         requires length { length live.now ≡ length rows.now }
+        requires counts { AreCounts live.now counts.now }
         requires whole { self.old.next ≡ [] }
         ensures { OnOk result (self.new ≡ record
             { rows = self.old.rows ++ items_where_true live.now rows.now; next = [] }) }
     {
-        for at in live.iter() {
+        let filled = filled(alloc, rows, live)?;
+        let mut done = 0;
+        let mut from = 0;
+        while let Some(at) = filled.next_from(from) {
+            let Some(place) = place_of(live, counts, at) else {
+                unreachable!()
+            };
+            self.skip(place - done)?;
             self.add_row(rows.row(at))?;
+            done = place + 1;
+            from = at + 1;
         }
-        Ok(())
+        self.skip(live.count() - done)
     }
 
     /// The integers in ascending order, and beside each its position.

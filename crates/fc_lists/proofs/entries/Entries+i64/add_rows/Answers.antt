@@ -1,17 +1,39 @@
-use Rattle.std.proofs.Common.{◌≡◌, ◌<◌, ◌++◌, [], ◌∙◌, get_or, map, sym, ap, subst}
-use Rattle.std.proofs.lemmas.List.{append-nil}
-use Rattle.fc_docset.specs.Positions.{positions}
-use Rattle.fc_lists.proofs.KeptRows.{rows_picked, next_below}
+use Rattle.std.proofs.Common.{arith}
+use Rattle.std.proofs.lemmas.Result.{on_ok_weaker}
+use Rattle.fc_docset.specs.Positions.{contains}
+use Rattle.fc_lists.specs.Kept.{kept_before}
+use Rattle.fc_lists.proofs.BitRanks.{some_rank, no_rank}
+use Rattle.fc_lists.proofs.FilledRows.{none_added, one_added, all_added, is_behind, kept_if_filled, empty_beside}
 use Rattle.fc_lists.proofs.entries.Entries+i64.add_rows.Goals as goal
 
-pub row-requires : goal.row-requires
-row-requires c =
-    subst (λ n. c.in-Some.at < n) c.requires.length
-    (next_below c.args.live.now c.loop-at.yielded c.in-Some.at c.next.new.self (rw c.in-Some.ensures.steps at c.loop-at.invariant.left))
+pub loop-at-init : goal.loop-at-init
+loop-at-init c = none_added c.args.live.now c.args.rows.now c.args.self.now c.requires.whole
+
+pub unreachable-requires : goal.unreachable-requires
+unreachable-requires c =
+    let here = kept_if_filled c.args.live.now c.args.rows.now c.in_ok-filled.filled c.in_ok-filled.ensures c.in-Some.at c.in-Some.ensures.found.member in
+    let none = no_rank (contains c.args.live.now c.in-Some.at) (kept_before c.args.live.now c.in-Some.at) c.in_default-place_of.ensures in
+    absurd cc
+
+pub overflow_sub-place : goal.overflow_sub-place
+overflow_sub-place c =
+    let place = some_rank (contains c.args.live.now c.in-Some.at) (kept_before c.args.live.now c.in-Some.at) c.in-Some-place_of.place c.in-Some-place_of.ensures in
+    let behind = is_behind c.args.live.now c.in_ok-filled.filled c.args.rows.now c.requires.length
+    (empty_beside c.args.live.now c.args.rows.now c.in_ok-filled.filled c.requires.length c.in_ok-filled.ensures)
+    c.args.self.now.rows c.loop-at.self c.loop-at.done c.loop-at.from c.in-Some.at c.loop-at.invariant c.in-Some.ensures.found in
+    omega (arith, place.1, behind)
+
+pub loop-at-preserved : goal.loop-at-preserved
+loop-at-preserved c =
+    let place = some_rank (contains c.args.live.now c.in-Some.at) (kept_before c.args.live.now c.in-Some.at) c.in-Some-place_of.place c.in-Some-place_of.ensures in
+    one_added c.args.live.now c.in_ok-filled.filled c.args.rows.now c.requires.length
+    (empty_beside c.args.live.now c.args.rows.now c.in_ok-filled.filled c.requires.length c.in_ok-filled.ensures)
+    c.args.self.now.rows c.loop-at.self c.skip.new.self c.add_row.new.self c.loop-at.done c.loop-at.from c.in-Some-place_of.place c.in-Some.at c.row.result.now
+    c.loop-at.invariant c.in-Some.ensures.found place.0 place.1 c.row.ensures c.in_ok-skip.ensures.ok c.in_ok-add_row.ensures
 
 pub returns : goal.returns
-returns c =
-    let rows = c.args.rows.now in
-    let all : c.loop-at.yielded ≡ positions c.args.live.now = sym (append-nil c.loop-at.yielded) ∙ (rw c.in-None.ensures.steps.0 at c.loop-at.invariant.left) in
-    c.loop-at.invariant.made
-    ∙ ap (λ l. record { rows = c.args.self.now.rows ++ l; next = [] }) (ap (map (λ at. get_or rows at [])) all ∙ rows_picked [] rows c.args.live.now c.requires.length)
+returns c = on_ok_weaker c.skip-2.result
+    (all_added c.args.live.now c.in_ok-filled.filled c.args.rows.now c.requires.length
+    (empty_beside c.args.live.now c.args.rows.now c.in_ok-filled.filled c.requires.length c.in_ok-filled.ensures)
+    c.args.self.now.rows c.loop-at.self c.skip-2.new.self c.loop-at.done c.loop-at.from c.count.result c.loop-at.invariant c.in_default.ensures.found c.count.ensures)
+    c.skip-2.ensures.ok

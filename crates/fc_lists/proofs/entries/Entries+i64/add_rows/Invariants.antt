@@ -1,9 +1,9 @@
-use Rattle.std.proofs.Common.{◌≡◌, ◌++◌, [], map, get_or}
-use Rattle.fc_docset.specs.Positions.{positions}
+use Rattle.std.proofs.Common.{◌-◌, length}
+use Rattle.fc_lists.proofs.FilledRows.{AreAdded}
 use Rattle.fc_lists.proofs.entries.Entries+i64.add_rows.Given as goal
 
 abbrev pub invariant-loop-at : goal.invariant-loop-at
-invariant-loop-at l = record {
-  made : l.self ≡ record { rows = l.fn.self.rows ++ map (λ at. get_or l.rows at []) l.yielded; next = [] };
-  left : l.yielded ++ l.at-iterator ≡ positions l.live;
-}
+invariant-loop-at l = AreAdded l.live l.rows l.fn.self.rows l.self l.done l.from
+
+abbrev pub decreases-loop-at : goal.decreases-loop-at
+decreases-loop-at l = length l.live - l.from
