@@ -1,10 +1,14 @@
 pub mod Cutting
 pub mod Transposed
-pub mod Marking
+pub mod Begun
+pub mod AddedBlocks
 pub mod Rows
 pub mod ValidFields
 pub mod WalkedFields
 pub mod WalkedDocuments
 pub mod StoredBlocks
 pub mod BlockMarks
+pub mod BlockRanges
+pub mod IdPositions
 pub mod MergedParts
+pub mod MergedMarks

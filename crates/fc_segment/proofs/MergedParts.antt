@@ -1,22 +1,19 @@
--- Segments with sets, one segment after another; and what is kept of them.
-use Rattle.std.proofs.Common.{◌≡◌, ℕ, suc, ◌+◌, ◌-◌, ◌<◌, List, [], ◌∷◌, ◌++◌, length, get_or, set, take, map, replicate, Bool, true, false, All, refl, sym, ap, ap₂, subst, ◌∙◌, arith, length-append, append_assoc}
-use Rattle.std.specs.List.{items_where_true}
-use Rattle.std.proofs.lemmas.List.{get_or-map, map-append, length-map, length-replicate, take_more}
+-- Segments one after another; and what is live of their blocks.
+use Rattle.std.proofs.Common.{◌≡◌, ℕ, ◌+◌, ◌<◌, ◌≤◌, List, [], ◌∷◌, ◌++◌, length, get_or, take, map, replicate, Bool, true, false, All, refl, sym, ap, ap₂, subst, ◌∙◌, arith, length-append}
+use Rattle.std.specs.List.{flat_map, items_where_true, take-map}
+use Rattle.std.proofs.lemmas.List.{append-nil, get_or-map, map-append, map_more, length-map, length-replicate}
 use Rattle.std.proofs.lemmas.List.Concat.{flat_map-append}
+use Rattle.std.proofs.lemmas.List.Folds.{length-flat_map-take}
+use Rattle.std.proofs.lemmas.List.Elements.{All-head, All-tail, All-push}
 use Rattle.fc_spec.specs.documents.Document.{Block, values_of}
 use Rattle.fc_spec.specs.documents.Columns.{column_of}
 use Rattle.fc_spec.specs.documents.Totals.{documents_of, documents_in}
-use Rattle.fc_spec.specs.documents.World.{World}
-use Rattle.fc_spec.specs.documents.Live.{parents_in_set, whole_blocks, HasWholeBlocks, HaveWholeBlocks, live_in, live_in_all}
+use Rattle.fc_spec.specs.documents.Live.{parents_in_set, whole_blocks, HasWholeBlocks, live_in}
 use Rattle.fc_spec.proofs.words.WhereTrue.{items_where_true-append, items_where_true-map}
-use Rattle.fc_spec.proofs.documents.LiveBlocks.{length-parents_in_set, length-live, live_documents}
-use Rattle.fc_segment.specs.Merged.{blocks_each, kept_marks, kept_values, HaveLengths}
+use Rattle.fc_spec.proofs.documents.LiveBlocks.{length-parents_in_set, live_documents}
+use Rattle.fc_segment.specs.Merged.{IsWhole, live_blocks_of, live_marks, live_values}
 use Rattle.fc_segment.specs.Parents.{marks_of, parents_in}
 use Rattle.fc_segment.specs.Segmented.{Segmented}
-
--- ---- one set for each segment
-even_lengths : (V : World) (sets : List (List Bool)) → HaveLengths V sets → length sets ≡ length V
-even_lengths V sets lengths = sym (length-map sets length) ∙ ap length lengths ∙ length-map V (λ blocks. length (documents_in blocks))
 
 -- ---- one segment, at its place
 module _ {X : Type 0} (value : X → Segmented) (segments : List X) (at : ℕ) (one : X) (inside : at < length segments) (is : one ≡ get_or segments at one) where
@@ -26,34 +23,36 @@ module _ {X : Type 0} (value : X → Segmented) (segments : List X) (at : ℕ) (
   pub holds_here : (P : Segmented → Type 0) → All P (map value segments) → P (value one)
   holds_here P all = subst P value_here (all at (value one) (omega (arith, length-map segments value)))
 
-  -- it has a set
-  set_here : (live : List (List Bool)) → HaveLengths (blocks_each (map value segments)) live → at < length live
-  set_here live lengths =
-      omega (arith, even_lengths (blocks_each (map value segments)) live lengths, length-map (map value segments) (λ (s : Segmented). s.blocks), length-map segments value)
+  segments_more : map value (take (at + 1) segments) ≡ map value (take at segments) ++ value one ∷ []
+  segments_more = map_more value segments at one inside ∙ ap (λ o. map value (take at segments) ++ value o ∷ []) (sym is)
 
-  pub length_here : (live : List (List Bool)) (set : List Bool) → HaveLengths (blocks_each (map value segments)) live → set ≡ get_or live at set
-      → length set ≡ length (documents_in (value one).blocks)
-  length_here live set lengths set_is =
-      let size = λ (blocks : List Block). length (documents_in blocks) in
-      let V = blocks_each (map value segments) in
-      let none : List Block = [] in
-      ap length set_is ∙ sym (get_or-map length live at set 0 (set_here live lengths)) ∙ ap (λ l. get_or l at 0) lengths
-      ∙ get_or-map size V at (value one).blocks 0 (omega (arith, length-map (map value segments) (λ (s : Segmented). s.blocks), length-map segments value))
-      ∙ ap size (get_or-map (λ (s : Segmented). s.blocks) (map value segments) at (value one) (value one).blocks (omega (arith, length-map segments value)) ∙ ap (λ (s : Segmented). s.blocks) value_here)
+  pub holds_more : (P : Segmented → Type 0) → All P (map value (take at segments)) → P (value one) → All P (map value (take (at + 1) segments))
+  holds_more P all here = subst (All P) (sym segments_more) (All-push P (map value (take at segments)) (value one) all here)
 
--- ---- marks become a set
-pub next_mark : (marks : List Bool) (at : ℕ) → at < length marks → take at marks ++ replicate (length marks - at) false ≡ take at marks ++ false ∷ replicate (length marks - (at + 1)) false
-next_mark marks at inside =
-    let more : length marks - at ≡ suc (length marks - (at + 1)) = omega arith in
-    ap (λ n. take at marks ++ replicate n false) more
+  more_of : {Y : Type 0} (f : Segmented → List Y) → flat_map f (map value (take (at + 1) segments)) ≡ flat_map f (map value (take at segments)) ++ f (value one)
+  more_of f =
+      ap (flat_map f) segments_more ∙ flat_map-append f (map value (take at segments)) (value one ∷ [])
+      ∙ ap (λ l. flat_map f (map value (take at segments)) ++ l) (append-nil (f (value one)))
 
-pub taken_mark : (marks : List Bool) (at : ℕ) (mark : Bool) → at < length marks → get_or marks at false ≡ mark
-    → take at marks ++ mark ∷ replicate (length marks - (at + 1)) false ≡ take (at + 1) marks ++ replicate (length marks - (at + 1)) false
-taken_mark marks at mark inside is =
-    let rest = replicate (length marks - (at + 1)) false in
-    sym (ap (λ l. l ++ rest) (take_more marks at false inside) ∙ append_assoc (take at marks) (get_or marks at false ∷ []) rest ∙ ap (λ b. take at marks ++ b ∷ rest) is)
+  pub values_more : (field : ℕ) → live_values field (map value (take (at + 1) segments))
+      ≡ live_values field (map value (take at segments)) ++ items_where_true (value one).live (column_of field (documents_in (value one).blocks))
+  values_more field = more_of (λ s. items_where_true s.live (column_of field (documents_in s.blocks)))
 
--- ---- what is kept of blocks
+  pub marks_more : live_marks (map value (take (at + 1) segments)) ≡ live_marks (map value (take at segments)) ++ items_where_true (value one).live (parents_in (value one).blocks)
+  marks_more = more_of (λ s. items_where_true s.live (parents_in s.blocks))
+
+  -- no more of it than of all
+  pub marks_few : length (live_marks (map value (take at segments))) + length (items_where_true (value one).live (parents_in (value one).blocks)) ≤ length (live_marks (map value segments))
+  marks_few =
+      let f = λ (s : Segmented). items_where_true s.live (parents_in s.blocks) in
+      omega (
+        arith,
+        length-flat_map-take f (map value segments) at (value one) (omega (arith, length-map segments value)),
+        ap (λ s. length (f s)) value_here,
+        ap (λ l. length (flat_map f l)) (take-map value at segments),
+      )
+
+-- ---- what is live of blocks
 
 pub all_of : {X : Type 0} (xs : List X) → items_where_true (replicate (length xs) true) xs ≡ xs
 all_of [] = refl
@@ -85,29 +84,21 @@ marks_of_whole (b ∷ blocks) (here ∷ kept) size = first here ∙ by here (mar
     by true rest = ap₂ (λ a c. a ++ c) (all_of (marks_of b)) rest
     by false rest = ap₂ (λ a c. a ++ c) (none_of (marks_of b)) rest
 
-live_marks : (blocks : List Block) (set : List Bool) → HasWholeBlocks blocks set → items_where_true set (parents_in blocks) ≡ parents_in (live_in blocks set)
-live_marks blocks set is = ap (λ s. items_where_true s (parents_in blocks)) is.whole ∙ marks_of_whole blocks (parents_in_set blocks set) (length-parents_in_set blocks set)
+live_marks-one : (blocks : List Block) (set : List Bool) → HasWholeBlocks blocks set → items_where_true set (parents_in blocks) ≡ parents_in (live_in blocks set)
+live_marks-one blocks set is = ap (λ s. items_where_true s (parents_in blocks)) is.whole ∙ marks_of_whole blocks (parents_in_set blocks set) (length-parents_in_set blocks set)
 
-pub kept_marks_are : (V : World) (sets : List (List Bool)) → HaveWholeBlocks V sets → kept_marks V sets ≡ parents_in (live_in_all V sets)
-kept_marks_are [] [] are = refl
-kept_marks_are [] (set ∷ sets) are = absurd are
-kept_marks_are (blocks ∷ V) [] are = absurd are
-kept_marks_are (blocks ∷ V) (set ∷ sets) are =
-    ap₂ (λ a b. a ++ b) (live_marks blocks set are.0) (kept_marks_are V sets are.1) ∙ sym (flat_map-append marks_of (live_in blocks set) (live_in_all V sets))
+pub live_marks_are : (segments : List Segmented) → All IsWhole segments → live_marks segments ≡ parents_in (live_blocks_of segments)
+live_marks_are [] are = refl
+live_marks_are (s ∷ segments) are =
+    ap₂ (λ a b. a ++ b) (live_marks-one s.blocks s.live (All-head IsWhole s segments are)) (live_marks_are segments (All-tail IsWhole s segments are))
+    ∙ sym (flat_map-append marks_of (live_in s.blocks s.live) (live_blocks_of segments))
 
-pub kept_values_are : (field : ℕ) (V : World) (sets : List (List Bool)) → HaveWholeBlocks V sets → kept_values field V sets ≡ column_of field (documents_in (live_in_all V sets))
-kept_values_are field [] [] are = refl
-kept_values_are field [] (set ∷ sets) are = absurd are
-kept_values_are field (blocks ∷ V) [] are = absurd are
-kept_values_are field (blocks ∷ V) (set ∷ sets) are =
+pub live_values_are : (field : ℕ) (segments : List Segmented) → All IsWhole segments → live_values field segments ≡ column_of field (documents_in (live_blocks_of segments))
+live_values_are field [] are = refl
+live_values_are field (s ∷ segments) are =
+    let live = live_in s.blocks s.live in
     ap₂ (λ a b. a ++ b)
-    (items_where_true-map (λ d. values_of d field) set (documents_in blocks) ∙ ap (column_of field) (sym (live_documents blocks set are.0)))
-    (kept_values_are field V sets are.1)
-    ∙ sym (map-append (λ d. values_of d field) (documents_in (live_in blocks set)) (documents_in (live_in_all V sets)))
-    ∙ ap (column_of field) (sym (flat_map-append documents_of (live_in blocks set) (live_in_all V sets)))
-
-pub lengths_of_whole : (V : World) (sets : List (List Bool)) → HaveWholeBlocks V sets → HaveLengths V sets
-lengths_of_whole [] [] are = refl
-lengths_of_whole [] (set ∷ sets) are = absurd are
-lengths_of_whole (blocks ∷ V) [] are = absurd are
-lengths_of_whole (blocks ∷ V) (set ∷ sets) are = ap₂ (λ n ns. n ∷ ns) (length-live blocks set are.0) (lengths_of_whole V sets are.1)
+    (items_where_true-map (λ d. values_of d field) s.live (documents_in s.blocks) ∙ ap (column_of field) (sym (live_documents s.blocks s.live (All-head IsWhole s segments are))))
+    (live_values_are field segments (All-tail IsWhole s segments are))
+    ∙ sym (map-append (λ d. values_of d field) (documents_in live) (documents_in (live_blocks_of segments)))
+    ∙ ap (column_of field) (sym (flat_map-append documents_of live (live_blocks_of segments)))

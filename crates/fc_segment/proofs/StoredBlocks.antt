@@ -1,4 +1,4 @@
--- The blocks that a segment stands for.
+-- The blocks that columns stand for.
 use Rattle.std.proofs.Common.{◌≡◌, ℕ, ◌<◌, List, [], length, get_or, map, All, Bool, true, sym, ap, ap₂, ◌∙◌, arith}
 use Rattle.std.specs.List.{range_with_len}
 use Rattle.std.proofs.lemmas.List.{get_or-map, length-map}
@@ -7,11 +7,11 @@ use Rattle.fc_spec.specs.documents.Document.{Document, Block, values_of}
 use Rattle.fc_spec.specs.documents.Totals.{documents_in, document_total}
 use Rattle.fc_spec.specs.documents.Columns.{column_of}
 use Rattle.fc_segment.specs.declared.column.Column.{Column}
-use Rattle.fc_segment.specs.declared.segment.Segment.TheInside.{Inside}
+use Rattle.fc_segment.specs.declared.segment_core.SegmentCore.TheInside.{Inside}
 use Rattle.fc_segment.specs.Columns.{column_values, is_text_column}
 use Rattle.fc_segment.specs.Parents.{parents_in}
 use Rattle.fc_segment.specs.Cut.{cut, ends_with_parent}
-use Rattle.fc_segment.specs.Segmented.{Segmented}
+use Rattle.fc_segment.specs.Columned.{Columned}
 use Rattle.fc_segment.specs.Stored.{document_at, documents_at, stored, IsStored}
 use Rattle.fc_segment.proofs.Cutting.{cut-documents_in, documents_in-cut, parents_in-cut, ends_with_parent-parents_in, length-parents_in}
 use Rattle.fc_segment.proofs.Transposed.{column_of-documents_at, documents_at-columns_of}
@@ -73,4 +73,4 @@ made_blocks blocks count s made lists =
 pub made_segment : (texts : List Bool) (blocks : List Block) (count : ℕ) (s : Inside) → IsMadeOf blocks count s → map is_text_column s.columns.items ≡ texts
     → All (λ d. length d ≡ count) (documents_in blocks) → stored s ≡ record { texts = texts; blocks = blocks }
 made_segment texts blocks count s made kinds lists =
-    ap₂ (λ (t : List Bool) (b : List Block). let made : Segmented = record { texts = t; blocks = b } in made) kinds (made_blocks blocks count s made lists)
+    ap₂ (λ (t : List Bool) (b : List Block). let made : Columned = record { texts = t; blocks = b } in made) kinds (made_blocks blocks count s made lists)

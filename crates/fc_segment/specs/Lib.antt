@@ -1,6 +1,7 @@
 pub mod Parents
 pub mod BlockPositions
 pub mod Cut
+pub mod Columned
 pub mod Segmented
 pub mod Merged
 pub mod Columns
@@ -8,3 +9,5 @@ pub mod Building
 pub mod Walked
 pub mod ColumnsSoFar
 pub mod Stored
+pub mod Begun
+pub mod Marked

@@ -1,10 +1,13 @@
--- What is merged of segments, each with a set of positions.
-use Rattle.std.specs.Prelude.{◌≡◌, ℕ, List, [], ◌∷◌, ◌++◌, map, length, Bool}
-use Rattle.std.specs.List.{items_where_true}
+-- What is merged of segments: what is live of each, one segment behind the other.
+use Rattle.std.specs.Prelude.{ℕ, List, map, Bool}
+use Rattle.std.specs.List.{flat_map, items_where_true}
 use Rattle.fc_spec.specs.documents.Val.{Val}
+use Rattle.fc_spec.specs.documents.Document.{Block}
+use Rattle.fc_spec.specs.documents.Live.{HasWholeBlocks, live_in}
 use Rattle.fc_spec.specs.documents.World.{World}
 use Rattle.fc_spec.specs.documents.Columns.{column_of}
 use Rattle.fc_spec.specs.documents.Totals.{documents_in}
+use Rattle.fc_spec.specs.words.Lists.{joined}
 use Rattle.fc_segment.specs.Parents.{parents_in}
 use Rattle.fc_segment.specs.Segmented.{Segmented}
 
@@ -12,20 +15,22 @@ use Rattle.fc_segment.specs.Segmented.{Segmented}
 abbrev pub blocks_each : List Segmented → World
 blocks_each segments = map (λ s. s.blocks) segments
 
--- of each list the elements at the positions of its set, one list behind the other
-abbrev pub kept_each : {A : Type 0} → List (List A) → List (List Bool) → List A
-kept_each [] sets = []
-kept_each (items ∷ more) [] = []
-kept_each (items ∷ more) (set ∷ sets) = items_where_true set items ++ kept_each more sets
+-- of each of its blocks all documents are live, or none
+abbrev pub IsWhole : Segmented → Type 0
+IsWhole s = HasWholeBlocks s.blocks s.live
 
--- the values of a field at the positions of the sets
-abbrev pub kept_values : ℕ → World → List (List Bool) → List (List Val)
-kept_values field V sets = kept_each (map (λ blocks. column_of field (documents_in blocks)) V) sets
+-- its live blocks
+abbrev pub live_blocks : Segmented → List Block
+live_blocks s = live_in s.blocks s.live
 
--- which of those positions are parents
-abbrev pub kept_marks : World → List (List Bool) → List Bool
-kept_marks V sets = kept_each (map parents_in V) sets
+-- those of segments, one segment after another
+abbrev pub live_blocks_of : List Segmented → List Block
+live_blocks_of segments = joined (map live_blocks segments)
 
--- each set has the positions of its segment
-abbrev pub HaveLengths : World → List (List Bool) → Type 0
-HaveLengths V sets = map length sets ≡ map (λ blocks. length (documents_in blocks)) V
+-- the values of a field at the live positions
+abbrev pub live_values : ℕ → List Segmented → List (List Val)
+live_values field segments = flat_map (λ s. items_where_true s.live (column_of field (documents_in s.blocks))) segments
+
+-- which of the live positions are parents
+abbrev pub live_marks : List Segmented → List Bool
+live_marks segments = flat_map (λ s. items_where_true s.live (parents_in s.blocks)) segments

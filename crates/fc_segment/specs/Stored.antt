@@ -5,8 +5,8 @@ use Rattle.fc_spec.specs.documents.Val.{Val}
 use Rattle.fc_spec.specs.documents.Document.{Document}
 use Rattle.fc_segment.specs.Columns.{column_values, is_text_column}
 use Rattle.fc_segment.specs.Cut.{cut, ends_with_parent}
-use Rattle.fc_segment.specs.Segmented.{Segmented}
-use Rattle.fc_segment.specs.declared.segment.Segment.TheInside.{Inside}
+use Rattle.fc_segment.specs.Columned.{Columned}
+use Rattle.fc_segment.specs.declared.segment_core.SegmentCore.TheInside.{Inside}
 
 -- the document at a position: its values in each column
 abbrev pub document_at : List (List (List Val)) → ℕ → Document
@@ -17,7 +17,7 @@ abbrev pub documents_at : List (List (List Val)) → ℕ → List Document
 documents_at columns count = map (document_at columns) (range_with_len 0 count)
 
 -- the documents are cut behind the parents
-abbrev pub stored : Inside → Segmented
+abbrev pub stored : Inside → Columned
 stored s = record {
   texts = map is_text_column s.columns.items;
   blocks = cut s.parents (documents_at (map column_values s.columns.items) (length s.parents));

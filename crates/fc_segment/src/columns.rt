@@ -3,18 +3,19 @@ ghost use Rattle.std.specs.Prelude.{◌≡◌, ℕ, ◌+◌, ◌^◌, ◌<◌, �
 ghost use Rattle.std.specs.List.{range_with_len};
 ghost use Rattle.fc_spec.specs.documents.Columns.{column_of};
 ghost use Rattle.fc_spec.specs.documents.Document.{values_of};
+ghost use Rattle.fc_spec.specs.documents.Operations.{blocks_added};
 ghost use Rattle.fc_spec.specs.documents.Totals.{document_total, documents_in, documents_of};
 ghost use Rattle.fc_spec.specs.documents.Schema.{texts_held};
 ghost use Rattle.fc_spec.specs.documents.ValidBlocks.{IsBlockOf};
 ghost use Rattle.fc_base.specs.View.{val_view};
-ghost use Rattle.fc_docs.specs.View.{batch_view, block_view};
+ghost use Rattle.fc_docs.specs.View.{block_view, op_view};
 ghost use Rattle.fc_segment.specs.Building.{builds_texts, padded, values_built, FitsTexts, IsRow};
 ghost use Rattle.fc_segment.specs.Columns.{column_values, is_text_column};
 
 use crate::Column;
 use crate::builder::Builder;
 use fc_base::{FieldId, Schema, Val, WantMemory};
-use fc_docs::{Batch, Block, Document};
+use fc_docs::{Block, Document, Op};
 use std::alloc::Global;
 use std::marker::Model;
 
@@ -80,6 +81,25 @@ impl Columns {
         }
         let whole = columns.push(&block.parent)?;
         Ok(whole)
+    }
+
+    // With the documents that an operation adds.
+    fn push_op(self, op: &Op) -> Result<Columns, WantMemory>
+        requires fit { All (FitsTexts self.texts)
+            (documents_in (blocks_added (op_view op.now ∷ []))) }
+        requires few { length self.documents
+            + document_total (blocks_added (op_view op.now ∷ [])) < 2 ^ 32 }
+        ensures { IfOk result (λ columns. columns ≡ record self {
+          documents = self.documents ++ documents_in (blocks_added (op_view op.now ∷ []));
+        }) }
+    {
+        match op {
+            Op::Add(block) => {
+                let whole = self.push_block(block)?;
+                Ok(whole)
+            }
+            Op::Delete(_) => Ok(self),
+        }
     }
 
     // The columns of the documents.
@@ -149,19 +169,19 @@ fn push_field(
     Ok(())
 }
 
-/// The column of each field of the schema.
-pub fn columns_of(alloc: Global, schema: &Schema, batch: &Batch) -> Result<Vec<Column>, WantMemory>
-    requires valid { All (IsBlockOf schema.now) (batch_view batch.now) }
-    requires few { document_total (batch_view batch.now) ≤ 1_048_576 }
+/// The column of each field of the schema, of the blocks that operations add.
+pub fn columns_of(alloc: Global, schema: &Schema, ops: &[Op]) -> Result<Vec<Column>, WantMemory>
+    requires valid { All (IsBlockOf schema.now) (blocks_added (map op_view ops.now)) }
+    requires few { document_total (blocks_added (map op_view ops.now)) ≤ 1_048_576 }
     ensures values { IfOk result (λ columns. map column_values columns.items
-        ≡ map (λ field. column_of field (documents_in (batch_view batch.now)))
+        ≡ map (λ field. column_of field (documents_in (blocks_added (map op_view ops.now))))
         (range_with_len 0 (length schema.now.fields))) }
     ensures kinds { IfOk result (λ columns. map is_text_column columns.items
         ≡ texts_held schema.now.fields) }
 {
     let mut columns = Columns::new(alloc, schema)?;
-    for block in &batch.blocks {
-        columns = columns.push_block(block)?;
+    for op in ops {
+        columns = columns.push_op(op)?;
     }
     let finished = columns.finish(alloc)?;
     Ok(finished)

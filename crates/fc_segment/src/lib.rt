@@ -4,9 +4,11 @@
 mod builder;
 mod column;
 mod columns;
-mod merged;
+mod merged_columns;
+mod merged_parents;
 mod parents;
 mod segment;
+mod segment_core;
 
 pub use column::Column;
 pub use segment::Segment;

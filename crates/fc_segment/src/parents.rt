@@ -1,37 +1,67 @@
 // The positions of the parents of a batch.
-ghost use Rattle.std.specs.Prelude.{◌≡◌, ◌^◌, ◌<◌, map, IfOk};
+ghost use Rattle.std.specs.Prelude.{◌≡◌, ◌+◌, ◌^◌, ◌<◌, ◌≤◌, [], ◌∷◌, ◌++◌, length, map, take, IfOk};
+ghost use Rattle.fc_spec.specs.documents.Operations.{blocks_added};
 ghost use Rattle.fc_spec.specs.documents.Totals.{document_total};
-ghost use Rattle.fc_docs.specs.View.{block_view};
+ghost use Rattle.fc_docs.specs.View.{op_view};
+ghost use Rattle.fc_segment.specs.Begun.{begun};
 ghost use Rattle.fc_segment.specs.Parents.{parents_in};
 
 use fc_base::WantMemory;
-use fc_docs::Block;
+use fc_docs::Op;
 use fc_docset::DocSet;
 use std::alloc::Global;
 
-// How many documents blocks have.
-fn document_count(blocks: &[Block]) -> u32
-    requires { document_total (map block_view blocks.now) < 2 ^ 32 }
-    ensures { result ≡ document_total (map block_view blocks.now) }
+// How many documents an operation adds.
+fn added(op: &Op) -> u32
+    requires { document_total (blocks_added (op_view op.now ∷ [])) < 2 ^ 32 }
+    ensures { result ≡ document_total (blocks_added (op_view op.now ∷ [])) }
+{
+    match op {
+        Op::Add(block) => block.children.len() as u32 + 1,
+        Op::Delete(_) => 0,
+    }
+}
+
+// How many documents operations add.
+fn document_count(ops: &[Op]) -> u32
+    requires { document_total (blocks_added (map op_view ops.now)) < 2 ^ 32 }
+    ensures { result ≡ document_total (blocks_added (map op_view ops.now)) }
 {
     let mut count = 0;
-    for block in blocks {
-        count += block.children.len() as u32 + 1;
+    for op in ops {
+        count += added(op);
     }
     count
 }
 
-/// The positions of the parents, where each parent stands behind its children, block after block.
-pub fn parents_of(alloc: Global, blocks: &[Block]) -> Result<DocSet, WantMemory>
-    requires { document_total (map block_view blocks.now) < 2 ^ 32 }
-    ensures { IfOk result (λ parents. parents ≡ parents_in (map block_view blocks.now)) }
+// Marks the parent that an operation adds, whose block begins at `from`, and answers where the next block begins.
+fn mark(parents: &mut DocSet, from: u32, op: &Op) -> u32
+    requires room { from + document_total (blocks_added (op_view op.now ∷ [])) ≤ length parents.old }
+    requires begun { parents.old ≡ begun (length parents.old) (take from parents.old) }
+    ensures parents { parents.new ≡ begun (length parents.old)
+        (take from parents.old ++ parents_in (blocks_added (op_view op.now ∷ []))) }
+    ensures next { result ≡ from + document_total (blocks_added (op_view op.now ∷ [])) }
 {
-    let mut parents = DocSet::empty(alloc, document_count(blocks))?;
+    let _len = parents.len();
+    match op {
+        Op::Add(block) => {
+            let at = from + block.children.len() as u32;
+            parents.add(at);
+            at + 1
+        }
+        Op::Delete(_) => from,
+    }
+}
+
+/// The positions of the parents that operations add, where each parent stands behind its children, block after block.
+pub fn parents_of(alloc: Global, ops: &[Op]) -> Result<DocSet, WantMemory>
+    requires { document_total (blocks_added (map op_view ops.now)) < 2 ^ 32 }
+    ensures { IfOk result (λ parents. parents ≡ parents_in (blocks_added (map op_view ops.now))) }
+{
+    let mut parents = DocSet::empty(alloc, document_count(ops))?;
     let mut next = 0;
-    for block in blocks {
-        let at = next + block.children.len() as u32;
-        parents.add(at);
-        next = at + 1;
+    for op in ops {
+        next = mark(&mut parents, next, op);
     }
     Ok(parents)
 }

@@ -1,21 +1,21 @@
 // Segments.
-ghost use Rattle.std.specs.Prelude.{◌≡◌, ◌<◌, ◌≤◌, length, map, slice_index_or, All, IfOk, false};
+ghost use Rattle.std.specs.Prelude.{◌≡◌, ◌<◌, ◌≤◌, ◌||◌, length, map, replicate, slice_index_or, All, IfOk, false, true};
 ghost use Rattle.std.specs.Arc.{arc_value};
 ghost use Rattle.fc_spec.specs.documents.Columns.{column_of};
-ghost use Rattle.fc_spec.specs.documents.Live.{live_in_all, HaveWholeBlocks};
+ghost use Rattle.fc_spec.specs.documents.Live.{blocks_where, HasWholeBlocks};
+ghost use Rattle.fc_spec.specs.documents.Operations.{blocks_added, has_id};
+ghost use Rattle.fc_spec.specs.documents.Sets.{zip_with};
 ghost use Rattle.fc_spec.specs.documents.Totals.{document_total, documents_in};
 ghost use Rattle.fc_spec.specs.documents.Schema.{texts_held};
 ghost use Rattle.fc_spec.specs.documents.ValidBlocks.{IsBlockOf};
 ghost use Rattle.fc_docs.specs.View.{batch_view};
 ghost use Rattle.fc_segment.specs.BlockPositions.{first_in_block, parent_in_block};
 ghost use Rattle.fc_segment.specs.Columns.{column_values, is_text_column};
-ghost use Rattle.fc_segment.specs.Merged.{blocks_each};
+ghost use Rattle.fc_segment.specs.Merged.{live_blocks_of};
 ghost use Rattle.fc_segment.specs.Parents.{parents_in};
 
 use crate::Column;
-use crate::columns::columns_of;
-use crate::merged::{merged_columns, merged_parents};
-use crate::parents::parents_of;
+use crate::segment_core::SegmentCore;
 use fc_base::{FieldId, Schema, WantMemory};
 use fc_docs::Batch;
 use fc_docset::DocSet;
@@ -23,12 +23,12 @@ use std::alloc::Global;
 use std::marker::Model;
 use std::sync::Arc;
 
-/// Blocks that nothing changes, as one column for each field of the schema. Its
+/// Blocks that nothing changes, as one column for each field of the schema, and which of them are live. Its
 /// documents stand at positions from 0, block after block, each parent behind its children.
 #[derive(Debug, Drop)]
 pub struct Segment {
-    parents: DocSet,
-    columns: Vec<Column>,
+    core: Arc<SegmentCore>,
+    live: DocSet,
 }
 
 impl Model for Segment {
@@ -36,57 +36,85 @@ impl Model for Segment {
 
     ghost Value = { Segmented };
 
-    ghost use Rattle.fc_segment.specs.Stored.{stored, IsStored};
+    ghost use Rattle.fc_segment.specs.Marked.{segmented, IsMarked};
 
-    ghost view = { stored };
+    ghost view = { segmented };
 
-    ghost invariant = { IsStored };
+    ghost invariant = { IsMarked };
 }
 
 impl Segment {
-    /// The blocks of a batch.
+    /// The blocks that a batch adds, all live.
     pub fn build(alloc: Global, schema: &Schema, batch: &Batch) -> Result<Segment, WantMemory>
-        requires valid { All (IsBlockOf schema.now) (batch_view batch.now) }
-        requires few { document_total (batch_view batch.now) ≤ 1_048_576 }
-        ensures { IfOk result (λ segment. segment ≡ record
-            { texts = texts_held schema.now.fields; blocks = batch_view batch.now }) }
+        requires valid { All (IsBlockOf schema.now) (blocks_added (batch_view batch.now)) }
+        requires few { document_total (blocks_added (batch_view batch.now)) ≤ 1_048_576 }
+        ensures { IfOk result (λ segment. segment ≡ record {
+          texts = texts_held schema.now.fields;
+          blocks = blocks_added (batch_view batch.now);
+          live = replicate (document_total (blocks_added (batch_view batch.now))) true;
+        }) }
     {
-        Ok(Segment {
-            parents: parents_of(alloc, &batch.blocks)?,
-            columns: columns_of(alloc, schema, batch)?,
-        })
+        let core = SegmentCore::build(alloc, schema, batch)?;
+        let segment = Segment::all_live(alloc, core)?;
+        Ok(segment)
     }
 
-    /// The live blocks of segments, one segment behind the other: those whose positions are in the set of their segment. No
-    /// document is read again, and no text is compared for a document. A segment has at most 4,294,967,295 documents: more
-    /// are answered as want of memory.
+    /// The live blocks of segments, one segment behind the other, all live. No document is read again, and no text is
+    /// compared for a document. A segment has at most 4,294,967,295 documents: more are answered as want of memory.
     pub fn merge(
         alloc: Global,
         schema: &Schema,
         segments: &[Arc<Segment>],
-        live: &[DocSet],
     ) -> Result<Segment, WantMemory>
-        requires whole { HaveWholeBlocks (blocks_each (map arc_value segments.now)) live.now }
         requires kinds { All (λ segment. segment.texts ≡ texts_held schema.now.fields)
             (map arc_value segments.now) }
-        requires valid { All (IsBlockOf schema.now)
-            (live_in_all (blocks_each (map arc_value segments.now)) live.now) }
+        requires valid { All (IsBlockOf schema.now) (live_blocks_of (map arc_value segments.now)) }
         ensures { IfOk result (λ segment. segment ≡ record {
           texts = texts_held schema.now.fields;
-          blocks = live_in_all (blocks_each (map arc_value segments.now)) live.now;
+          blocks = live_blocks_of (map arc_value segments.now);
+          live = replicate (document_total (live_blocks_of (map arc_value segments.now))) true;
         }) }
     {
-        Ok(Segment {
-            parents: merged_parents(alloc, segments, live)?,
-            columns: merged_columns(alloc, schema, segments, live)?,
-        })
+        let core = SegmentCore::merge(alloc, schema, segments)?;
+        let segment = Segment::all_live(alloc, core)?;
+        Ok(segment)
     }
 
-    /// How many documents there are, children and parents.
+    // All blocks, live.
+    fn all_live(alloc: Global, core: SegmentCore) -> Result<Segment, WantMemory>
+        ensures { IfOk result (λ segment. segment ≡ record {
+          texts = core.texts;
+          blocks = core.blocks;
+          live = replicate (document_total core.blocks) true;
+        }) }
+    {
+        let live = DocSet::full(alloc, core.doc_count())?;
+        let core = Arc::new(alloc, core)?;
+        Ok(Segment { core, live })
+    }
+
+    /// The same blocks, of which these are live: their columns are shared.
+    pub fn with_live(&self, alloc: Global, live: DocSet) -> Result<Segment, WantMemory>
+        requires whole { HasWholeBlocks self.now.blocks live }
+        ensures { IfOk result (λ segment. segment ≡ record self.now { live = live }) }
+    {
+        let core = Arc::try_clone(&self.core)?;
+        Ok(Segment { core, live })
+    }
+
+    /// The positions of the documents that are live: of each block all, or none.
+    pub fn live(&self) -> &DocSet
+        ensures live { result.now ≡ self.now.live }
+        ensures whole { HasWholeBlocks self.now.blocks self.now.live }
+    {
+        &self.live
+    }
+
+    /// How many documents there are, children and parents, live or not.
     pub fn doc_count(&self) -> u32
         ensures { result ≡ document_total self.now.blocks }
     {
-        self.parents.len()
+        self.core.doc_count()
     }
 
     /// The values of a field, position by position.
@@ -96,14 +124,14 @@ impl Segment {
             ≡ column_of field.0 (documents_in self.now.blocks) }
         ensures kind { is_text_column result.now ≡ slice_index_or self.now.texts field.0 false }
     {
-        &self.columns[field.0 as usize]
+        self.core.column(field)
     }
 
     /// The positions of the parents.
     pub fn parents(&self) -> &DocSet
         ensures { result.now ≡ parents_in self.now.blocks }
     {
-        &self.parents
+        self.core.parents()
     }
 
     /// The position of the parent of the block in which a position stands.
@@ -111,10 +139,7 @@ impl Segment {
         requires { at < document_total self.now.blocks }
         ensures { result ≡ parent_in_block self.now.blocks at }
     {
-        match self.parents.next_from(at) {
-            Some(parent) => parent,
-            None => unreachable!(),
-        }
+        self.core.parent_of(at)
     }
 
     /// The first position of the block in which a position stands: its first child, or the parent where it has none.
@@ -122,12 +147,17 @@ impl Segment {
         requires { at < document_total self.now.blocks }
         ensures { result ≡ first_in_block self.now.blocks at }
     {
-        if at == 0 {
-            return 0;
-        }
-        match self.parents.last_up_to(at - 1) {
-            Some(parent) => parent + 1,
-            None => 0,
-        }
+        self.core.first_child(at)
+    }
+
+    /// Adds the positions of the blocks whose parent has the id, by its UTF-8 bytes, live or not, children included. The id is
+    /// looked up among the terms of field 0. That takes no memory.
+    pub fn parents_with_id(&self, id: &[u8], into: &mut DocSet)
+        requires texts { slice_index_or self.now.texts 0 false ≡ true }
+        requires length { length into.old ≡ document_total self.now.blocks }
+        ensures { into.new ≡ zip_with ◌||◌ into.old
+            (blocks_where (has_id id.now) self.now.blocks) }
+    {
+        self.core.parents_with_id(id, into);
     }
 }

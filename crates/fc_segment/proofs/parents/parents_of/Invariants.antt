@@ -1,14 +1,15 @@
-use Rattle.std.proofs.Common.{◌≡◌, ◌+◌, map, take, drop, length}
+use Rattle.std.proofs.Common.{◌≡◌, map}
+use Rattle.fc_spec.specs.documents.Operations.{blocks_added}
 use Rattle.fc_spec.specs.documents.Totals.{document_total}
-use Rattle.fc_docs.specs.View.{block_view}
+use Rattle.fc_docs.specs.View.{op_view}
+use Rattle.fc_segment.specs.Begun.{begun}
 use Rattle.fc_segment.specs.Parents.{parents_in}
-use Rattle.fc_segment.proofs.Marking.{marked}
+use Rattle.fc_segment.proofs.AddedBlocks.{added_before}
 use Rattle.fc_segment.proofs.parents.parents_of.Given as goal
 
--- what was counted, and what is left; the parents so far
-abbrev pub invariant-loop-block : goal.invariant-loop-block
-invariant-loop-block l = record {
-  fits : l.next + document_total (map block_view (drop l.block-index l.blocks)) ≡ document_total (map block_view l.blocks);
-  place : l.next ≡ length (parents_in (map block_view (take l.block-index l.blocks)));
-  parents : l.parents ≡ marked l.blocks l.block-index;
+-- where the next block begins, and the parents so far
+abbrev pub invariant-loop-op : goal.invariant-loop-op
+invariant-loop-op l = record {
+  place : l.next ≡ document_total (added_before l.ops l.op-index);
+  parents : l.parents ≡ begun (document_total (blocks_added (map op_view l.ops))) (parents_in (added_before l.ops l.op-index));
 }

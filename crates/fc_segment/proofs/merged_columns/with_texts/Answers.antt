@@ -1,0 +1,13 @@
+use Rattle.std.proofs.Common.{◌∙◌, ◌++◌, map, ap, sym}
+use Rattle.std.proofs.lemmas.List.{map-append}
+use Rattle.std.specs.List.{items_where_true}
+use Rattle.fc_spec.specs.documents.Val.{text}
+use Rattle.fc_spec.proofs.words.WhereTrue.{items_where_true-map}
+use Rattle.fc_segment.specs.Columns.{column_values}
+use Rattle.fc_segment.proofs.merged_columns.with_texts.Goals as goal
+
+pub returns : goal.returns
+returns c =
+    ap (map (map text)) c.in_ok-merged-in-Text.ensures ∙ map-append (map text) c.args.merger (items_where_true c.args.live.now c.in-Text.texts)
+    ∙ ap (λ l. map (map text) c.args.merger ++ l) (sym (items_where_true-map (map text) c.args.live.now c.in-Text.texts)
+    ∙ ap (λ o. items_where_true c.args.live.now (column_values o)) (sym c.in-Text.is))

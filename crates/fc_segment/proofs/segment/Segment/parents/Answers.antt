@@ -1,8 +1,0 @@
-use Rattle.std.proofs.Common.{◌∙◌, ap, sym}
-use Rattle.fc_segment.specs.Parents.{parents_in}
-use Rattle.fc_segment.specs.Segmented.{Segmented}
-use Rattle.fc_segment.proofs.StoredBlocks.{parents_in-stored}
-use Rattle.fc_segment.proofs.segment.Segment.parents.Goals as goal
-
-pub returns : goal.returns
-returns c = sym (parents_in-stored c.self.inside c.self.invariant) ∙ ap (λ (s : Segmented). parents_in s.blocks) c.self.view_is
