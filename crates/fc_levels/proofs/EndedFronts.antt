@@ -1,12 +1,11 @@
 -- The jobs that have ended stand in front of those of the message that will be.
 use Rattle.std.proofs.Common.{◌≡◌, ℕ, List, [], ◌∷◌, ◌++◌, map, reverse, sym, ap, ◌∙◌, append_assoc, append-nil}
-use Rattle.fc_spec.specs.documents.World.{World}
 use Rattle.fc_spec.specs.messages.Message.{Partials, partial, row}
 use Rattle.fc_partial.specs.BucketView.{bucket_view, linked, linked_rows, node_view}
 use Rattle.fc_partial.specs.StatsView.{stats_view}
 use Rattle.fc_partial.specs.View.{key_view}
 use Rattle.fc_request.specs.NodeView.{nodes_view}
-use Rattle.fc_answers.specs.SetAnswer.{Scope, set_rows}
+use Rattle.fc_answers.specs.SetAnswer.{Pieces, Scope, set_rows}
 use Rattle.fc_levels.specs.declared.level.Level.{Level}
 use Rattle.fc_levels.specs.Jobs.{opened, opened_inside, opened_in_rows, openings_of}
 use Rattle.fc_levels.specs.Levels.{around, ended_in, ended_inside, entry_of, filled, nested_in, open_scope, open_sets, plug, put_rows}
@@ -16,7 +15,7 @@ five : {A : Type 0} (a b c d e : List A) → a ++ ((b ++ (c ++ d)) ++ e) ≡ (a 
 five a b c d e = ap (λ x. a ++ x) (append_assoc b (c ++ d) e ∙ ap (λ x. b ++ x) (append_assoc c d e)) ∙ sym (append_assoc a b (c ++ (d ++ e)))
 
 -- the jobs inside a level's buckets: those that have ended, those of the list under way, and the others
-around_inside : (o : Scope) (V : World) (l : Level) (ps : Partials) → (rest : List ℕ) × (opened_inside (around o V l ps) ≡ ended_inside l ++ (openings_of ps ++ rest))
+around_inside : (o : Scope) (V : Pieces) (l : Level) (ps : Partials) → (rest : List ℕ) × (opened_inside (around o V l ps) ≡ ended_inside l ++ (openings_of ps ++ rest))
 around_inside o V l ps =
     let left = set_rows (open_scope o l) V (nodes_view l.left.now) (open_sets V l) in
     let wait = filled o V (nested_in l) l.domain.items (map entry_of (reverse l.wait.items)) in
@@ -28,7 +27,7 @@ around_inside o V l ps =
     )
 
 -- those of the levels, then those of the list under way in the innermost, then others
-pub ended_is_front : (o : Scope) (V : World) (ls : List Level) (ps : Partials) → (rest : List ℕ) × (openings_of (plug o V ls ps) ≡ ended_in o V ls ps ++ (openings_of ps ++ rest))
+pub ended_is_front : (o : Scope) (V : Pieces) (ls : List Level) (ps : Partials) → (rest : List ℕ) × (openings_of (plug o V ls ps) ≡ ended_in o V ls ps ++ (openings_of ps ++ rest))
 ended_is_front o V [] ps = ([], sym (append-nil (openings_of ps)))
 ended_is_front o V (l ∷ ls) ps =
     let o' = open_scope o l in

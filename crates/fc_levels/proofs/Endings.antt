@@ -7,8 +7,8 @@ use Rattle.std.proofs.lemmas.List.{length-map, reverse-append, reverse-reverse}
 use Rattle.std.proofs.lemmas.List.Elements.{All-head, All-nil, All-pop, All-push, All-same, All-tail}
 use Rattle.fc_base.specs.declared.error.WantMemory.{WantMemory}
 use Rattle.fc_spec.specs.documents.Schema.{Schema}
-use Rattle.fc_spec.specs.documents.Sets.{AreSets, places_at}
-use Rattle.fc_spec.specs.documents.World.{World, Place}
+use Rattle.fc_spec.specs.documents.Sets.{places_at}
+use Rattle.fc_spec.specs.documents.World.{Place}
 use Rattle.fc_spec.specs.messages.Answer.{partials_of}
 use Rattle.fc_spec.specs.messages.Message.{Partials, no_partials, partial, no_rows, row}
 use Rattle.fc_spec.specs.requests.Buckets.{bucket_places, is_key_of}
@@ -29,7 +29,8 @@ use Rattle.fc_request.specs.FacetNode.{facet_view, has_buckets, kind_of, kind_vi
 use Rattle.fc_request.specs.NodeView.{inner_view, nodes_view}
 use Rattle.fc_request.specs.declared.node.Node.{Node}
 use Rattle.fc_answers.specs.Listed.{bucket_entry}
-use Rattle.fc_answers.specs.SetAnswer.{Scope, Sets, inside, bucket_sets, own_keys, set_rows}
+use Rattle.fc_answers.specs.LiveSets.{AreLive}
+use Rattle.fc_answers.specs.SetAnswer.{Pieces, Scope, Sets, bucket_sets, inside, own_keys, set_rows, whole_world}
 use Rattle.fc_levels.specs.declared.level.Level.{Level}
 use Rattle.fc_levels.specs.declared.level.Next.{Next}
 use Rattle.fc_levels.specs.declared.level.Next.TheVariants.{Job, Whole}
@@ -61,7 +62,7 @@ entries_bare (e ∷ es) = ap (λ es. e ∷ es) (entries_bare es)
 listed_entries : (bs : List PartialBucket) (es : List Entry) → buckets_view bs ≡ bare es → map entry_of bs ≡ es
 listed_entries bs es e = sym (entries_linked bs) ∙ ap entries e ∙ entries_bare es
 
-module _ (o : Scope) (V : World) where
+module _ (o : Scope) (V : Pieces) where
   filled_alike : (n m : Nested) (domain : Sets) (es : List Entry) → n.0 ≡ m.0 → facets_of n.1 ≡ facets_of m.1 → filled o V n domain es ≡ filled o V m domain es
   filled_alike n m domain [] same e = refl
   filled_alike n m domain (x ∷ es) same e =
@@ -75,20 +76,20 @@ module _ (o : Scope) (V : World) where
 
   -- what is listed over a domain
   module _ (n : Node) (domain : Sets) (listed : List PartialBucket)
-      (is : buckets_view listed ≡ bare (map (bucket_entry (facet_view n).kind (stats_of (inner_view n)) (places_at V domain)) (own_keys (facet_view n).kind (inner_view n) (places_at V domain)))) where
-    listed_keys : map entry_of listed ≡ map (bucket_entry (facet_view n).kind (stats_of (inner_view n)) (places_at V domain)) (own_keys (facet_view n).kind (inner_view n) (places_at V domain))
-    listed_keys = listed_entries listed (map (bucket_entry (facet_view n).kind (stats_of (inner_view n)) (places_at V domain)) (own_keys (facet_view n).kind (inner_view n) (places_at V domain))) is
+      (is : buckets_view listed ≡ bare (map (bucket_entry (facet_view n).kind (stats_of (inner_view n)) (places_at (whole_world V) domain)) (own_keys (facet_view n).kind (inner_view n) (places_at (whole_world V) domain)))) where
+    listed_keys : map entry_of listed ≡ map (bucket_entry (facet_view n).kind (stats_of (inner_view n)) (places_at (whole_world V) domain)) (own_keys (facet_view n).kind (inner_view n) (places_at (whole_world V) domain))
+    listed_keys = listed_entries listed (map (bucket_entry (facet_view n).kind (stats_of (inner_view n)) (places_at (whole_world V) domain)) (own_keys (facet_view n).kind (inner_view n) (places_at (whole_world V) domain))) is
 
     pub filled_over : (inner : Nodes) → facets_of inner ≡ facets_of (inner_view n) → filled o V (facet_view n, inner) domain (map entry_of listed) ≡ row_over o V (nested_view n) domain
     filled_over inner e =
         ap (filled o V (facet_view n, inner) domain) listed_keys
-        ∙ filled_alike (facet_view n, inner) (nested_view n) domain (map (bucket_entry (facet_view n).kind (stats_of (inner_view n)) (places_at V domain)) (own_keys (facet_view n).kind (inner_view n) (places_at V domain))) refl e
-        ∙ filled_keys (nested_view n) domain (places_at V domain) (own_keys (facet_view n).kind (inner_view n) (places_at V domain))
+        ∙ filled_alike (facet_view n, inner) (nested_view n) domain (map (bucket_entry (facet_view n).kind (stats_of (inner_view n)) (places_at (whole_world V) domain)) (own_keys (facet_view n).kind (inner_view n) (places_at (whole_world V) domain))) refl e
+        ∙ filled_keys (nested_view n) domain (places_at (whole_world V) domain) (own_keys (facet_view n).kind (inner_view n) (places_at (whole_world V) domain))
 
     pub opened_over : opened (row_over o V (nested_view n) domain) ≡ length listed * facet_count (inner_view n)
     opened_over =
-        opened_of V (inner_view n) (λ k. stats_over (stats_of (inner_view n)) (bucket_places (facet_view n).kind k (places_at V domain))) (λ k. inside o (facet_view n) k) (λ k. bucket_sets V (facet_view n).kind k domain) (own_keys (facet_view n).kind (inner_view n) (places_at V domain))
-        ∙ ap (λ k. k * facet_count (inner_view n)) (sym (sym (length-map listed entry_of) ∙ ap length listed_keys ∙ length-map (own_keys (facet_view n).kind (inner_view n) (places_at V domain)) (bucket_entry (facet_view n).kind (stats_of (inner_view n)) (places_at V domain))))
+        opened_of V (inner_view n) (λ k. stats_over (stats_of (inner_view n)) (bucket_places (facet_view n).kind k (places_at (whole_world V) domain))) (λ k. inside o (facet_view n) k) (λ k. bucket_sets V (facet_view n).kind k domain) (own_keys (facet_view n).kind (inner_view n) (places_at (whole_world V) domain))
+        ∙ ap (λ k. k * facet_count (inner_view n)) (sym (sym (length-map listed entry_of) ∙ ap length listed_keys ∙ length-map (own_keys (facet_view n).kind (inner_view n) (places_at (whole_world V) domain)) (bucket_entry (facet_view n).kind (stats_of (inner_view n)) (places_at (whole_world V) domain))))
 
 -- ---- a list that is whole
 
@@ -98,7 +99,7 @@ pub record IsLeaf (h : PartialNode) (ps : Partials) : Type 0 where
   pub none : opened ps ≡ 0
   pub inside : opened_inside ps ≡ []
 
-module _ (before after : List Level) (D : Sets) (h : PartialNode) (o : Scope) (V : World) (ps : Partials) (leaf : IsLeaf h ps) where
+module _ (before after : List Level) (D : Sets) (h : PartialNode) (o : Scope) (V : Pieces) (ps : Partials) (leaf : IsLeaf h ps) where
   ended_leaf : ended_in o V before (node_view h) ++ openings_of (node_view h) ≡ ended_in o V before ps ++ 0 ∷ []
   ended_leaf = ap (λ x. ended_in o V before x ++ openings_of x) leaf.same ∙ ap (λ xs. ended_in o V before ps ++ (opened ps ∷ xs)) leaf.inside ∙ ap (λ k. ended_in o V before ps ++ k ∷ []) leaf.none
 
@@ -106,14 +107,14 @@ module _ (before after : List Level) (D : Sets) (h : PartialNode) (o : Scope) (V
   given_goes (Job n k) g = (g.0 ∙ sym leaf.none, g.1 o V ∙ ap (plug o V before) leaf.same, g.2 o V ∙ ended_leaf ∙ ap (λ j. ended_in o V before ps ++ j ∷ []) (sym g.0), g.3)
   given_goes (Whole p domain) g = (leaf.none, g.0 o V ∙ ap (plug o V before) leaf.same, g.1 o V ∙ ended_leaf, g.2, g.3)
 
-bare_over : (o : Scope) (V : World) (n : Node) (domain : Sets) (keys : List definition.Key) → facets_of (inner_view n) ≡ []
-    → bare (map (bucket_entry (facet_view n).kind (stats_of (inner_view n)) (places_at V domain)) keys)
-    ≡ partials_of (λ k. stats_over (stats_of (inner_view n)) (bucket_places (facet_view n).kind k (places_at V domain))) (λ k. set_rows (inside o (facet_view n) k) V (inner_view n) (bucket_sets V (facet_view n).kind k domain)) keys
+bare_over : (o : Scope) (V : Pieces) (n : Node) (domain : Sets) (keys : List definition.Key) → facets_of (inner_view n) ≡ []
+    → bare (map (bucket_entry (facet_view n).kind (stats_of (inner_view n)) (places_at (whole_world V) domain)) keys)
+    ≡ partials_of (λ k. stats_over (stats_of (inner_view n)) (bucket_places (facet_view n).kind k (places_at (whole_world V) domain))) (λ k. set_rows (inside o (facet_view n) k) V (inner_view n) (bucket_sets V (facet_view n).kind k domain)) keys
 bare_over o V n domain [] e = refl
 bare_over o V n domain (k ∷ keys) e =
-    ap (partial k (stats_over (stats_of (inner_view n)) (bucket_places (facet_view n).kind k (places_at V domain))) no_rows) (bare_over o V n domain keys e)
-    ∙ ap (λ rows. partial k (stats_over (stats_of (inner_view n)) (bucket_places (facet_view n).kind k (places_at V domain))) rows
-    (partials_of (λ k. stats_over (stats_of (inner_view n)) (bucket_places (facet_view n).kind k (places_at V domain))) (λ k. set_rows (inside o (facet_view n) k) V (inner_view n) (bucket_sets V (facet_view n).kind k domain)) keys))
+    ap (partial k (stats_over (stats_of (inner_view n)) (bucket_places (facet_view n).kind k (places_at (whole_world V) domain))) no_rows) (bare_over o V n domain keys e)
+    ∙ ap (λ rows. partial k (stats_over (stats_of (inner_view n)) (bucket_places (facet_view n).kind k (places_at (whole_world V) domain))) rows
+    (partials_of (λ k. stats_over (stats_of (inner_view n)) (bucket_places (facet_view n).kind k (places_at (whole_world V) domain))) (λ k. set_rows (inside o (facet_view n) k) V (inner_view n) (bucket_sets V (facet_view n).kind k domain)) keys))
     (sym (rows_none (inside o (facet_view n) k) V (inner_view n) (bucket_sets V (facet_view n).kind k domain) e))
 
 bare_opened : (es : List Entry) → opened (bare es) ≡ 0
@@ -125,19 +126,19 @@ bare_inside [] = refl
 bare_inside (e ∷ es) = bare_inside es
 
 -- the listed buckets are those of the node's keys, with nothing nested
-abbrev pub IsListed : World → Node → Sets → List PartialBucket → Type 0
-IsListed V n domain listed = buckets_view listed ≡ bare (map (bucket_entry (facet_view n).kind (stats_of (inner_view n)) (places_at V domain)) (own_keys (facet_view n).kind (inner_view n) (places_at V domain)))
+abbrev pub IsListed : Pieces → Node → Sets → List PartialBucket → Type 0
+IsListed V n domain listed = buckets_view listed ≡ bare (map (bucket_entry (facet_view n).kind (stats_of (inner_view n)) (places_at (whole_world V) domain)) (own_keys (facet_view n).kind (inner_view n) (places_at (whole_world V) domain)))
 
 -- the end of a node's job
 abbrev pub JobGoes : (before after : List Level) → Node → Sets → List PartialBucket → Next → Type 0
-JobGoes before after n domain listed next = (o : Scope) (V : World) → IsListed V n domain listed → Goes o V before after domain (row_over (scope_in o before) V (nested_view n) domain) next
+JobGoes before after n domain listed next = (o : Scope) (V : Pieces) → IsListed V n domain listed → Goes o V before after domain (row_over (scope_in o before) V (nested_view n) domain) next
 
 -- with no facet in it
 module _ (before after : List Level) (n : Node) (domain : Sets) (listed : Vec PartialBucket Global) where
-  leaf_listed : (o : Scope) (V : World) → facets_of (inner_view n) ≡ [] → IsListed V n domain listed.items → IsLeaf (roll-PartialNode (record { buckets = listed })) (row_over o V (nested_view n) domain)
+  leaf_listed : (o : Scope) (V : Pieces) → facets_of (inner_view n) ≡ [] → IsListed V n domain listed.items → IsLeaf (roll-PartialNode (record { buckets = listed })) (row_over o V (nested_view n) domain)
   leaf_listed o V e is =
-      let es = map (bucket_entry (facet_view n).kind (stats_of (inner_view n)) (places_at V domain)) (own_keys (facet_view n).kind (inner_view n) (places_at V domain)) in
-      let over = bare_over o V n domain (own_keys (facet_view n).kind (inner_view n) (places_at V domain)) e in
+      let es = map (bucket_entry (facet_view n).kind (stats_of (inner_view n)) (places_at (whole_world V) domain)) (own_keys (facet_view n).kind (inner_view n) (places_at (whole_world V) domain)) in
+      let over = bare_over o V n domain (own_keys (facet_view n).kind (inner_view n) (places_at (whole_world V) domain)) e in
       record { same = list_is listed ∙ is ∙ over; none = ap opened (sym over) ∙ bare_opened es; inside = ap opened_inside (sym over) ∙ bare_inside es }
 
   pub listed_goes : facets_of (inner_view n) ≡ [] → (result : Result Next WantMemory) → IfOk result (Given before after domain (roll-PartialNode (record { buckets = listed }))) → IfOk result (JobGoes before after n domain listed.items)
@@ -146,7 +147,7 @@ module _ (before after : List Level) (n : Node) (domain : Sets) (listed : Vec Pa
 
 -- with no bucket
 module _ (before after : List Level) (n : Node) (domain : Sets) (listed : List PartialBucket) (empty : listed ≡ []) (buckets : Vec PartialBucket Global) (none : buckets.items ≡ []) where
-  leaf_none : (o : Scope) (V : World) → IsListed V n domain listed → IsLeaf (roll-PartialNode (record { buckets = buckets })) (row_over o V (nested_view n) domain)
+  leaf_none : (o : Scope) (V : Pieces) → IsListed V n domain listed → IsLeaf (roll-PartialNode (record { buckets = buckets })) (row_over o V (nested_view n) domain)
   leaf_none o V is =
       let over : no_partials ≡ row_over o V (nested_view n) domain = ap (λ bs. filled o V (nested_view n) domain (map entry_of bs)) (sym empty) ∙ filled_over o V n domain listed is (inner_view n) refl in
       record { same = list_is buckets ∙ ap buckets_view none ∙ over; none = ap opened (sym over); inside = ap opened_inside (sym over) }
@@ -156,12 +157,12 @@ module _ (before after : List Level) (n : Node) (domain : Sets) (listed : List P
   none_goes (Err x) g = g
 
 -- a bucket by itself, with no facet in it
-abbrev pub top_over : Scope → World → Node → Sets → definition.Key → statistics.Stats → Partials
+abbrev pub top_over : Scope → Pieces → Node → Sets → definition.Key → statistics.Stats → Partials
 top_over o V n domain key stats = partial key stats (set_rows (inside o (facet_view n) key) V (inner_view n) (bucket_sets V (facet_view n).kind key domain)) no_partials
 
 module _ (before after : List Level) (n : Node) (domain : Sets) (key : Key) (stats : Stats) (rows : Vec PartialNode Global) (none : rows.items ≡ []) (buckets : Vec PartialBucket Global)
     (is : buckets.items ≡ roll-PartialBucket (record { key = key; stats = stats; nodes = rows }) ∷ []) where
-  leaf_top : (o : Scope) (V : World) → facets_of (inner_view n) ≡ [] → IsLeaf (roll-PartialNode (record { buckets = buckets })) (top_over o V n domain (key_view key) (stats_view stats))
+  leaf_top : (o : Scope) (V : Pieces) → facets_of (inner_view n) ≡ [] → IsLeaf (roll-PartialNode (record { buckets = buckets })) (top_over o V n domain (key_view key) (stats_view stats))
   leaf_top o V e =
       let over : partial (key_view key) (stats_view stats) no_rows no_partials ≡ top_over o V n domain (key_view key) (stats_view stats)
       = ap (λ x. partial (key_view key) (stats_view stats) x no_partials) (sym (rows_none (inside o (facet_view n) (key_view key)) V (inner_view n) (bucket_sets V (facet_view n).kind (key_view key) domain) e)) in
@@ -174,7 +175,7 @@ module _ (before after : List Level) (n : Node) (domain : Sets) (key : Key) (sta
       }
 
   pub top_goes : facets_of (inner_view n) ≡ [] → (result : Result Next WantMemory) → IfOk result (Given before after domain (roll-PartialNode (record { buckets = buckets })))
-      → (P : Scope → World → Type 0) → IfOk result (λ next. (o : Scope) (V : World) → P o V → Goes o V before after domain (top_over (scope_in o before) V n domain (key_view key) (stats_view stats)) next)
+      → (P : Scope → Pieces → Type 0) → IfOk result (λ next. (o : Scope) (V : Pieces) → P o V → Goes o V before after domain (top_over (scope_in o before) V n domain (key_view key) (stats_view stats)) next)
   top_goes e (Ok next) g P = λ o V p. given_goes before after domain (roll-PartialNode (record { buckets = buckets })) o V (top_over (scope_in o before) V n domain (key_view key) (stats_view stats)) (leaf_top (scope_in o before) V e) next g
   top_goes e (Err x) g P = g
 
@@ -182,13 +183,13 @@ module _ (before after : List Level) (n : Node) (domain : Sets) (key : Key) (sta
 
 module _ (before after : List Level) (l : Level) (f : after ≡ before ++ l ∷ []) (done : l.done.items ≡ []) (rows : l.rows.items ≡ []) (left : l.left.now ≡ l.others.now) where
   -- what its buckets will be
-  abbrev whole_level : Scope → World → Partials
+  abbrev whole_level : Scope → Pieces → Partials
   whole_level o V = partial (key_view l.key) (stats_view l.stats) (set_rows (open_scope o l) V (nested_in l).1 (open_sets V l)) (filled o V (nested_in l) l.domain.items (map entry_of (reverse l.wait.items)))
 
-  abbrev first_list : Scope → World → Partials
+  abbrev first_list : Scope → Pieces → Partials
   first_list o V = row_in (open_scope o l) V (nested_view l.first.now) (open_sets V l)
 
-  pub pushed_goes : (o : Scope) (V : World) (D : Sets) (ps : Partials) (k : ℕ) → ps ≡ whole_level (scope_in o before) V → k ≡ opened ps → l.domain.items ≡ D → Goes o V before after D ps (Job l.first k)
+  pub pushed_goes : (o : Scope) (V : Pieces) (D : Sets) (ps : Partials) (k : ℕ) → ps ≡ whole_level (scope_in o before) V → k ≡ opened ps → l.domain.items ≡ D → Goes o V before after D ps (Job l.first k)
   pushed_goes o V D ps k is counted own = (counted, plugged, ended, ap (outermost_domain D) f ∙ outermost_top D before l ∙ ap (λ d. outermost_domain d before) own)
     where
       opens : around (scope_in o before) V l (first_list (scope_in o before) V) ≡ ps
@@ -213,12 +214,12 @@ module _ (before after : List Level) (l : Level) (f : after ≡ before ++ l ∷ 
           ∙ ended_top o V before l (first_list (scope_in o before) V) ∙ ap (λ x. ended_in o V before x ++ (opened x ∷ ended_inside l)) opens
           ∙ ap (λ xs. ended_in o V before ps ++ (opened ps ∷ xs)) inside_none ∙ ap (λ j. ended_in o V before ps ++ j ∷ []) (sym counted)
 
-  pub pushed_kept : (s : Schema) (V : World) → All (IsLevel s V) before → IsLevel s V l → All (IsLevel s V) after
+  pub pushed_kept : (s : Schema) (V : Pieces) → All (IsLevel s V) before → IsLevel s V l → All (IsLevel s V) after
   pushed_kept s V a i = All-same (IsLevel s V) after (before ++ l ∷ []) f (All-push (IsLevel s V) before l a i)
 
 -- for the first of the buckets that are listed
 pub job_opens : (l : Level) (listed : List PartialBucket) (open' : PartialBucket) → l.key ≡ (out-PartialBucket open').key → l.stats ≡ (out-PartialBucket open').stats → reverse listed ≡ l.wait.items ++ open' ∷ []
-    → facets_of (inner_view l.node.now) ≡ nested_view l.first.now ∷ facets_of (nodes_view l.others.now) → (o : Scope) (V : World) → IsListed V l.node.now l.domain.items listed
+    → facets_of (inner_view l.node.now) ≡ nested_view l.first.now ∷ facets_of (nodes_view l.others.now) → (o : Scope) (V : Pieces) → IsListed V l.node.now l.domain.items listed
     → row_over o V (nested_view l.node.now) l.domain.items ≡ partial (key_view l.key) (stats_view l.stats) (set_rows (open_scope o l) V (nested_in l).1 (open_sets V l)) (filled o V (nested_in l) l.domain.items (map entry_of (reverse l.wait.items)))
 job_opens l listed open' key stats split e o V is = sym (
     (λ i. partial (key_view (key i)) (stats_view (stats i)) (set_rows (inside o (nested_in l).0 (key_view (key i))) V (nested_in l).1 (bucket_sets V (nested_in l).0.kind (key_view (key i)) l.domain.items)) (filled o V (nested_in l) l.domain.items (map entry_of (reverse l.wait.items))))
@@ -226,13 +227,13 @@ job_opens l listed open' key stats split e o V is = sym (
     ∙ filled_over o V l.node.now l.domain.items listed is (nested_in l).1 (sym e))
 
 -- for a bucket by itself
-pub top_opens : (l : Level) → l.wait.items ≡ [] → facets_of (inner_view l.node.now) ≡ nested_view l.first.now ∷ facets_of (nodes_view l.others.now) → (o : Scope) (V : World)
+pub top_opens : (l : Level) → l.wait.items ≡ [] → facets_of (inner_view l.node.now) ≡ nested_view l.first.now ∷ facets_of (nodes_view l.others.now) → (o : Scope) (V : Pieces)
     → top_over o V l.node.now l.domain.items (key_view l.key) (stats_view l.stats) ≡ partial (key_view l.key) (stats_view l.stats) (set_rows (open_scope o l) V (nested_in l).1 (open_sets V l)) (filled o V (nested_in l) l.domain.items (map entry_of (reverse l.wait.items)))
 top_opens l none e o V =
     ap (λ rows. partial (key_view l.key) (stats_view l.stats) rows no_partials) (rows_alike (open_scope o l) V (inner_view l.node.now) (nested_in l).1 (open_sets V l) e)
     ∙ ap (λ bs. partial (key_view l.key) (stats_view l.stats) (set_rows (open_scope o l) V (nested_in l).1 (open_sets V l)) (filled o V (nested_in l) l.domain.items (map entry_of (reverse bs)))) (sym none)
 
-pub top_counted : (o : Scope) (V : World) (n : Node) (domain : Sets) (key : definition.Key) (stats : statistics.Stats) → facet_count (inner_view n) ≡ opened (top_over o V n domain key stats)
+pub top_counted : (o : Scope) (V : Pieces) (n : Node) (domain : Sets) (key : definition.Key) (stats : statistics.Stats) → facet_count (inner_view n) ≡ opened (top_over o V n domain key stats)
 top_counted o V n domain key stats =
     let one : row_count (set_rows (inside o (facet_view n) key) V (inner_view n) (bucket_sets V (facet_view n).kind key domain)) ≡ facet_count (inner_view n) = rows_counted (inside o (facet_view n) key) V (inner_view n) (bucket_sets V (facet_view n).kind key domain) in
     omega arith
@@ -240,8 +241,8 @@ top_counted o V n domain key stats =
 -- ---- levels that are valid
 
 -- whatever else is known
-pub given_kept : (before after : List Level) (n : Node) (domain : Sets) (K : Type 0) (result : Result Next WantMemory) → IfOk result (λ next. (s : Schema) (V : World) → All (IsLevel s V) before → All (IsLevel s V) after)
-    → IfOk result (λ next. (s : Schema) (V : World) → All (IsLevel s V) before → IsValidNode s n → AreSets V domain → K → All (IsLevel s V) after)
+pub given_kept : (before after : List Level) (n : Node) (domain : Sets) (K : Type 0) (result : Result Next WantMemory) → IfOk result (λ next. (s : Schema) (V : Pieces) → All (IsLevel s V) before → All (IsLevel s V) after)
+    → IfOk result (λ next. (s : Schema) (V : Pieces) → All (IsLevel s V) before → IsValidNode s n → AreLive V domain → K → All (IsLevel s V) after)
 given_kept before after n domain K (Ok next) kept = λ s V a i sets k. kept s V a
 given_kept before after n domain K (Err x) kept = kept
 
@@ -258,8 +259,8 @@ keys_split n listed wait open' split a =
 pub no_keys : (n : Node) (wait : List PartialBucket) → wait ≡ [] → AreKeysOf n wait
 no_keys n wait e = All-same (λ b. IsTrue (is_key_of (kind_view (kind_of n)) (entry_of b).0)) wait [] e (All-nil (λ b. IsTrue (is_key_of (kind_view (kind_of n)) (entry_of b).0)))
 
-module _ (s : Schema) (V : World) (l : Level) (e : facets_of (inner_view l.node.now) ≡ nested_view l.first.now ∷ facets_of (nodes_view l.others.now)) (b : IsTrue (has_buckets (kind_of l.first.now))) (left : l.left.now ≡ l.others.now) where
-  pub level_valid : IsValidNode s l.node.now → AreSets V l.domain.items → IsTrue (is_key_of (kind_view (kind_of l.node.now)) (key_view l.key)) → AreKeysOf l.node.now l.wait.items → IsLevel s V l
+module _ (s : Schema) (V : Pieces) (l : Level) (e : facets_of (inner_view l.node.now) ≡ nested_view l.first.now ∷ facets_of (nodes_view l.others.now)) (b : IsTrue (has_buckets (kind_of l.first.now))) (left : l.left.now ≡ l.others.now) where
+  pub level_valid : IsValidNode s l.node.now → AreLive V l.domain.items → IsTrue (is_key_of (kind_view (kind_of l.node.now)) (key_view l.key)) → AreKeysOf l.node.now l.wait.items → IsLevel s V l
   level_valid i sets key wait =
       let others = rest_valid s (inner_view l.node.now) (nodes_view l.others.now) l.first.now e (valid_facets s (inner_view l.node.now) i.inner) in
       record {

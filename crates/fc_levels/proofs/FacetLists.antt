@@ -4,7 +4,6 @@ use Rattle.std.specs.Prelude.{IsTrue, count_by}
 use Rattle.std.proofs.lemmas.List.Elements.{All-nil, All-cons, All-head, All-same, All-rest}
 use Rattle.std.proofs.lemmas.List.Recursion.{is_count_by}
 use Rattle.fc_spec.specs.documents.Schema.{Schema}
-use Rattle.fc_spec.specs.documents.World.{World}
 use Rattle.fc_spec.specs.messages.Answer.{partials_of}
 use Rattle.fc_spec.specs.messages.Message.{Rows, no_rows, row}
 use Rattle.fc_spec.specs.requests.Buckets.{Key}
@@ -18,7 +17,7 @@ use Rattle.fc_request.specs.FacetNode.{has_buckets, kind_of}
 use Rattle.fc_request.specs.NodeView.{nodes_view}
 use Rattle.fc_request.specs.declared.node.Node.{Node}
 use Rattle.fc_request.proofs.Nodes.{facet_is, statistic_is}
-use Rattle.fc_answers.specs.SetAnswer.{Scope, Sets, set_rows}
+use Rattle.fc_answers.specs.SetAnswer.{Pieces, Scope, Sets, set_rows}
 use Rattle.fc_levels.specs.Facets.{Nested, nested_view, facets_of, facet_count}
 use Rattle.fc_levels.specs.Jobs.{row_count, opened}
 use Rattle.fc_levels.specs.Levels.{row_in}
@@ -69,7 +68,7 @@ rest_valid s nodes rest n e v = All-rest (IsValidNested s) (nested_view n) (face
 
 -- ---- lists
 
-module _ (o : Scope) (V : World) where
+module _ (o : Scope) (V : Pieces) where
   -- a list for each of the facets
   rows_of : List Nested → Sets → Rows
   rows_of [] sets = no_rows
@@ -95,7 +94,7 @@ module _ (o : Scope) (V : World) where
   rows_counted (statistic name s rest) sets = rows_counted rest sets
   rows_counted (facet f inner rest) sets = ap suc (rows_counted rest sets)
 
-pub opened_of : (V : World) (inner : Nodes) (stats : Key → Stats) (scopes : Key → Scope) (sets : Key → Sets) (keys : List Key) → opened (partials_of stats (λ k. set_rows (scopes k) V inner (sets k)) keys) ≡ length keys * facet_count inner
+pub opened_of : (V : Pieces) (inner : Nodes) (stats : Key → Stats) (scopes : Key → Scope) (sets : Key → Sets) (keys : List Key) → opened (partials_of stats (λ k. set_rows (scopes k) V inner (sets k)) keys) ≡ length keys * facet_count inner
 opened_of V inner stats scopes sets [] = omega arith
 opened_of V inner stats scopes sets (key ∷ keys) =
     let here : row_count (set_rows (scopes key) V inner (sets key)) ≡ facet_count inner = rows_counted (scopes key) V inner (sets key) in

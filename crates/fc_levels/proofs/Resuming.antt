@@ -6,7 +6,6 @@ use Rattle.std.specs.declared.alloc.Global.{Global}
 use Rattle.std.proofs.lemmas.List.{reverse-append}
 use Rattle.std.proofs.lemmas.List.Elements.{All-pop}
 use Rattle.fc_spec.specs.documents.Schema.{Schema}
-use Rattle.fc_spec.specs.documents.World.{World}
 use Rattle.fc_spec.specs.messages.Message.{Partials, partial, row}
 use Rattle.fc_spec.specs.requests.Buckets.{is_key_of}
 use Rattle.fc_partial.specs.BucketView.{Part, bucket_step, bucket_view, linked, linked_rows, node_step, node_view}
@@ -22,7 +21,7 @@ use Rattle.fc_partial.specs.declared.bucket.PartialNode.{PartialNode}
 use Rattle.fc_request.specs.FacetNode.{has_buckets, kind_of, kind_view}
 use Rattle.fc_request.specs.NodeView.{nodes_view}
 use Rattle.fc_request.specs.declared.node.Node.{Node}
-use Rattle.fc_answers.specs.SetAnswer.{Scope, Sets, inside, bucket_sets, set_rows}
+use Rattle.fc_answers.specs.SetAnswer.{Pieces, Scope, Sets, bucket_sets, inside, set_rows}
 use Rattle.fc_levels.specs.declared.level.Level.{Level}
 use Rattle.fc_levels.specs.declared.level.Step.TheVariants.{Opened, Closed}
 use Rattle.fc_levels.specs.Facets.{Nested, nested_view, facets_of}
@@ -42,7 +41,7 @@ pub entry_is : (b : PartialBucket) → entry_of b ≡ (key_view (out-PartialBuck
 entry_is b = let entry : Part → Entry = λ p. (p.key, p.stats) in ap entry (fold_out-PartialBucket Part Partials bucket_step node_step b)
 
 -- a bucket that waits, before those that wait behind it
-pub next_bucket : (o : Scope) (V : World) (n : Nested) (domain : Sets) (open' : PartialBucket) (wait wait' : List PartialBucket) → wait ≡ wait' ++ open' ∷ []
+pub next_bucket : (o : Scope) (V : Pieces) (n : Nested) (domain : Sets) (open' : PartialBucket) (wait wait' : List PartialBucket) → wait ≡ wait' ++ open' ∷ []
     → partial (key_view (out-PartialBucket open').key) (stats_view (out-PartialBucket open').stats) (set_rows (inside o n.0 (key_view (out-PartialBucket open').key)) V n.1 (bucket_sets V n.0.kind (key_view (out-PartialBucket open').key) domain)) (filled o V n domain (map entry_of (reverse wait')))
     ≡ filled o V n domain (map entry_of (reverse wait))
 next_bucket o V n domain open' wait wait' e =
@@ -63,13 +62,13 @@ module _ (l : Level) (h : PartialNode) (rows : Vec PartialNode Global) (grown : 
   )
 
   pub valid_next : (left : Bor (List Node)) (n : Bor Node) → facets_of (nodes_view l.left.now) ≡ nested_view n.now ∷ facets_of (nodes_view left.now) → IsTrue (has_buckets (kind_of n.now))
-      → (s : Schema) (V : World) → IsLevel s V l → StaysValid s V (Opened (record l { rows = rows; left = left }) n)
+      → (s : Schema) (V : Pieces) → IsLevel s V l → StaysValid s V (Opened (record l { rows = rows; left = left }) n)
   valid_next left n e b s V i =
       (record { node = i.node; sets = i.sets; key = i.key; wait = i.wait; first = i.first; others = i.others; left = rest_valid s (nodes_view l.left.now) (nodes_view left.now) n.now e i.left }, first_valid s (nodes_view l.left.now) (nodes_view left.now) n.now e b i.left)
 
   -- that was the last: the bucket is whole
   module _ (none : facets_of (nodes_view l.left.now) ≡ []) (done : Vec PartialBucket Global) (more : done.items ≡ l.done.items ++ roll-PartialBucket (record { key = l.key; stats = l.stats; nodes = rows }) ∷ []) where
-    closed_bucket : (o : Scope) (V : World) (ps : Partials)
+    closed_bucket : (o : Scope) (V : Pieces) (ps : Partials)
         → put (map bucket_view done.items) ps ≡ put (map bucket_view l.done.items) (partial (key_view l.key) (stats_view l.stats) (put_rows (map node_view l.rows.items) (row (node_view h) (set_rows (open_scope o l) V (nodes_view l.left.now) (open_sets V l)))) ps)
     closed_bucket o V ps =
         put_bucket l.done.items done.items (roll-PartialBucket (record { key = l.key; stats = l.stats; nodes = rows })) ps more
@@ -97,7 +96,7 @@ module _ (l : Level) (h : PartialNode) (rows : Vec PartialNode Global) (grown : 
         refl,
       )
 
-      pub valid_bucket : (s : Schema) (V : World) → IsLevel s V l → StaysValid s V (Opened next_level l.first)
+      pub valid_bucket : (s : Schema) (V : Pieces) → IsLevel s V l → StaysValid s V (Opened next_level l.first)
       valid_bucket s V i =
           let both = All-pop (λ b. IsTrue (is_key_of (kind_view (kind_of l.node.now)) (entry_of b).0)) l.wait.items wait.items (Some open') split i.wait in
           (record { node = i.node; sets = i.sets; key = subst (λ (e : Entry). IsTrue (is_key_of (kind_view (kind_of l.node.now)) e.0)) (entry_is open') both.1; wait = both.0; first = i.first; others = i.others; left = i.others }, i.first)

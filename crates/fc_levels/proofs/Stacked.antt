@@ -1,17 +1,16 @@
 -- The innermost of some levels.
 use Rattle.std.proofs.Common.{◌≡◌, List, [], ◌∷◌, ◌++◌, refl, sym, ◌∙◌, ap, append_assoc, append-nil}
-use Rattle.fc_spec.specs.documents.World.{World}
 use Rattle.fc_spec.specs.messages.Message.{Partials}
-use Rattle.fc_answers.specs.SetAnswer.{Scope, Sets}
+use Rattle.fc_answers.specs.SetAnswer.{Pieces, Scope, Sets}
 use Rattle.fc_levels.specs.declared.level.Level.{Level}
 use Rattle.fc_levels.specs.Jobs.{opened}
 use Rattle.fc_levels.specs.Levels.{around, ended_in, ended_inside, open_in, open_scope, open_sets, outermost_domain, plug, scope_in}
 
-pub plug_top : (o : Scope) (V : World) (ls : List Level) (l : Level) (ps : Partials) → plug o V (ls ++ l ∷ []) ps ≡ plug o V ls (around (scope_in o ls) V l ps)
+pub plug_top : (o : Scope) (V : Pieces) (ls : List Level) (l : Level) (ps : Partials) → plug o V (ls ++ l ∷ []) ps ≡ plug o V ls (around (scope_in o ls) V l ps)
 plug_top o V [] l ps = refl
 plug_top o V (k ∷ ls) l ps = ap (around o V k) (plug_top (open_scope o k) V ls l ps)
 
-pub open_top : (V : World) (D : Sets) (ls : List Level) (l : Level) → open_in V D (ls ++ l ∷ []) ≡ open_sets V l
+pub open_top : (V : Pieces) (D : Sets) (ls : List Level) (l : Level) → open_in V D (ls ++ l ∷ []) ≡ open_sets V l
 open_top V D [] l = refl
 open_top V D (k ∷ ls) l = open_top V (open_sets V k) ls l
 
@@ -23,7 +22,7 @@ pub outermost_top : (D : Sets) (ls : List Level) (l : Level) → outermost_domai
 outermost_top D [] l = refl
 outermost_top D (k ∷ ls) l = refl
 
-pub ended_top : (o : Scope) (V : World) (ls : List Level) (l : Level) (ps : Partials) → ended_in o V (ls ++ l ∷ []) ps ≡ ended_in o V ls (around (scope_in o ls) V l ps) ++ (opened (around (scope_in o ls) V l ps) ∷ ended_inside l)
+pub ended_top : (o : Scope) (V : Pieces) (ls : List Level) (l : Level) (ps : Partials) → ended_in o V (ls ++ l ∷ []) ps ≡ ended_in o V ls (around (scope_in o ls) V l ps) ++ (opened (around (scope_in o ls) V l ps) ∷ ended_inside l)
 ended_top o V [] l ps = append-nil (opened (around o V l ps) ∷ ended_inside l)
 ended_top o V (k ∷ ls) l ps =
     let in' = open_scope o k in

@@ -1,8 +1,7 @@
 // Levels: facets whose job has ended, each with one bucket open.
 ghost use Rattle.std.specs.Prelude.{◌≡◌, [], All, IfOk, IsTrue, map};
 ghost use Rattle.fc_spec.specs.documents.Schema.{Schema};
-ghost use Rattle.fc_spec.specs.documents.Sets.{AreSets, places_at};
-ghost use Rattle.fc_spec.specs.documents.World.{World};
+ghost use Rattle.fc_spec.specs.documents.Sets.{places_at};
 ghost use Rattle.fc_spec.specs.messages.Message.{partial, no_partials};
 ghost use Rattle.fc_spec.specs.requests.Buckets.{is_key_of};
 ghost use Rattle.fc_spec.specs.requests.Request.{stats_of};
@@ -13,7 +12,8 @@ ghost use Rattle.fc_partial.specs.View.{key_view};
 ghost use Rattle.fc_request.specs.FacetNode.{facet_view, has_buckets, kind_of, kind_view};
 ghost use Rattle.fc_request.specs.NodeView.{inner_view};
 ghost use Rattle.fc_answers.specs.Listed.{bucket_entry};
-ghost use Rattle.fc_answers.specs.SetAnswer.{Scope, inside, bucket_sets, own_keys, set_rows};
+ghost use Rattle.fc_answers.specs.LiveSets.{AreLive};
+ghost use Rattle.fc_answers.specs.SetAnswer.{Pieces, Scope, inside, bucket_sets, own_keys, set_rows, whole_world};
 ghost use Rattle.fc_levels.specs.Facets.{nested_view};
 ghost use Rattle.fc_levels.specs.Levels.{row_over, scope_in};
 ghost use Rattle.fc_levels.specs.Steps.{AreKeysOf, Given, Goes, IsLevel, IsNextOf, IsValidNode, Resumes, StaysValid};
@@ -25,8 +25,8 @@ use fc_partial::{Key, PartialBucket, PartialNode, Stats};
 use fc_request::Node;
 use std::alloc::Global;
 
-/// A facet whose job has ended, or that of a top bucket: its domain as a set for each segment, and what it lists, with one
-/// bucket open.
+/// A facet whose job has ended, or that of a top bucket: its domain as a set of live documents for each segment, and what it
+/// lists, with one bucket open.
 #[derive(Debug, Drop)]
 pub struct Level<'a> {
     pub node: &'a Node,
@@ -65,16 +65,16 @@ pub fn job_ended<'a>(
     listed: Vec<PartialBucket>,
 ) -> Result<Next<'a>, WantMemory>
     requires { IsTrue (has_buckets (kind_of node.now)) }
-    ensures goes { IfOk result (λ next. (o : Scope) (V : World)
+    ensures goes { IfOk result (λ next. (o : Scope) (V : Pieces)
         → buckets_view listed.items ≡ bare (map
-        (bucket_entry (kind_view (kind_of node.now)) (stats_of (inner_view node.now)) (places_at V domain.items))
-        (own_keys (kind_view (kind_of node.now)) (inner_view node.now) (places_at V domain.items)))
+        (bucket_entry (kind_view (kind_of node.now)) (stats_of (inner_view node.now)) (places_at (whole_world V) domain.items))
+        (own_keys (kind_view (kind_of node.now)) (inner_view node.now) (places_at (whole_world V) domain.items)))
         → Goes o V levels.old.items levels.new.items domain.items (row_over (scope_in o levels.old.items) V (nested_view node.now) domain.items) next) }
-    ensures kept { IfOk result (λ next. (s : Schema) (V : World) → All (IsLevel s V) levels.old.items
-        → IsValidNode s node.now → AreSets V domain.items → AreKeysOf node.now listed.items
+    ensures kept { IfOk result (λ next. (s : Schema) (V : Pieces) → All (IsLevel s V) levels.old.items
+        → IsValidNode s node.now → AreLive V domain.items → AreKeysOf node.now listed.items
         → All (IsLevel s V) levels.new.items) }
-    ensures next { IfOk result (λ next. (s : Schema) (V : World) → All (IsLevel s V) levels.old.items
-        → IsValidNode s node.now → AreSets V domain.items → AreKeysOf node.now listed.items
+    ensures next { IfOk result (λ next. (s : Schema) (V : Pieces) → All (IsLevel s V) levels.old.items
+        → IsValidNode s node.now → AreLive V domain.items → AreKeysOf node.now listed.items
         → IsNextOf s V next) }
 {
     let Some((first, others)) = next_facet(&node.nodes) else {
@@ -120,18 +120,18 @@ pub fn top_ended<'a>(
     stats: Stats,
 ) -> Result<Next<'a>, WantMemory>
     requires { IsTrue (has_buckets (kind_of node.now)) }
-    ensures goes { IfOk result (λ next. (o : Scope) (V : World)
+    ensures goes { IfOk result (λ next. (o : Scope) (V : Pieces)
         → stats_view stats ≡ stats_over (stats_of (inner_view node.now))
-        (places_at V (bucket_sets V (kind_view (kind_of node.now)) (key_view key) domain.items))
+        (places_at (whole_world V) (bucket_sets V (kind_view (kind_of node.now)) (key_view key) domain.items))
         → Goes o V levels.old.items levels.new.items domain.items
         (partial (key_view key) (stats_view stats) (set_rows (inside (scope_in o levels.old.items) (facet_view node.now) (key_view key)) V (inner_view node.now)
         (bucket_sets V (kind_view (kind_of node.now)) (key_view key) domain.items)) no_partials) next) }
-    ensures kept { IfOk result (λ next. (s : Schema) (V : World) → All (IsLevel s V) levels.old.items
-        → IsValidNode s node.now → AreSets V domain.items
+    ensures kept { IfOk result (λ next. (s : Schema) (V : Pieces) → All (IsLevel s V) levels.old.items
+        → IsValidNode s node.now → AreLive V domain.items
         → IsTrue (is_key_of (kind_view (kind_of node.now)) (key_view key))
         → All (IsLevel s V) levels.new.items) }
-    ensures next { IfOk result (λ next. (s : Schema) (V : World) → All (IsLevel s V) levels.old.items
-        → IsValidNode s node.now → AreSets V domain.items
+    ensures next { IfOk result (λ next. (s : Schema) (V : Pieces) → All (IsLevel s V) levels.old.items
+        → IsValidNode s node.now → AreLive V domain.items
         → IsTrue (is_key_of (kind_view (kind_of node.now)) (key_view key))
         → IsNextOf s V next) }
 {
@@ -177,7 +177,7 @@ fn resumed<'a>(
     row: PartialNode,
 ) -> Result<Step<'a>, WantMemory>
     ensures resumes { IfOk result (Resumes level.entry row) }
-    ensures valid { IfOk result (λ step. (s : Schema) (V : World) → IsLevel s V level.entry → StaysValid s V step) }
+    ensures valid { IfOk result (λ step. (s : Schema) (V : Pieces) → IsLevel s V level.entry → StaysValid s V step) }
 {
     level.rows.push(row)?;
     if let Some((node, left)) = next_facet(level.left) {
@@ -232,10 +232,10 @@ fn given<'a>(
     row: PartialNode,
 ) -> Result<Next<'a>, WantMemory>
     ensures given { IfOk result (Given levels.old.items levels.new.items domain.items row) }
-    ensures kept { IfOk result (λ next. (s : Schema) (V : World) → All (IsLevel s V) levels.old.items
+    ensures kept { IfOk result (λ next. (s : Schema) (V : Pieces) → All (IsLevel s V) levels.old.items
         → All (IsLevel s V) levels.new.items) }
-    ensures next { IfOk result (λ next. (s : Schema) (V : World) → All (IsLevel s V) levels.old.items
-        → AreSets V domain.items → IsNextOf s V next) }
+    ensures next { IfOk result (λ next. (s : Schema) (V : Pieces) → All (IsLevel s V) levels.old.items
+        → AreLive V domain.items → IsNextOf s V next) }
 {
     let mut row = row;
     let mut domain = domain;
