@@ -1,5 +1,5 @@
 -- The places of sets that are made segment by segment.
-use Rattle.std.proofs.Common.{◌≡◌, ℕ, suc, ◌+◌, List, [], ◌∷◌, ◌++◌, map, length, drop, Bool, refl, sym, ◌∙◌, ap, subst, arith, append_assoc, append-nil, add-zero}
+use Rattle.std.proofs.Common.{◌≡◌, ℕ, zero, suc, ◌+◌, List, [], ◌∷◌, ◌++◌, map, length, drop, Bool, refl, sym, ◌∙◌, ap, subst, arith, append_assoc, append-nil, add-zero}
 use Rattle.std.proofs.Math.Seq.{drop-append_seam}
 use Rattle.std.specs.List.{items_where_true}
 use Rattle.fc_spec.specs.words.Lists.{joined}
@@ -10,9 +10,15 @@ use Rattle.fc_spec.specs.documents.World.{World, Place, places_from, shard_place
 use Rattle.fc_spec.proofs.documents.PlacedDocuments.{documents_at-shard}
 use Rattle.fc_spec.proofs.requests.SetChanges.{first_is_set, length-shard_places, rest_are_sets}
 use Rattle.fc_spec.proofs.words.WhereTrue.{items_where_true-append, items_where_true-map}
-use Rattle.fc_answers.specs.SetAnswer.{Sets}
+use Rattle.fc_answers.specs.SetAnswer.{Piece, Pieces, Sets, whole_world}
 use Rattle.fc_kind.specs.Tallies.{SameDocuments}
 use Rattle.fc_jobs.specs.Gathered.{AreFirst, gathered, gathered_from}
+
+-- the blocks of a segment stand where it does
+pub whole_there : (n : ℕ) (V rest : Pieces) (p : Piece) → drop n V ≡ p ∷ rest → drop n (whole_world V) ≡ p.blocks ∷ whole_world rest
+whole_there zero V rest p there = ap whole_world there
+whole_there (suc n) [] rest p there = absurd (cc)
+whole_there (suc n) (q ∷ V) rest p there = whole_there n V rest p there
 
 -- of no set there is no place
 pub gathered_none : (s : ℕ) (V : World) → gathered_from s V [] ≡ []

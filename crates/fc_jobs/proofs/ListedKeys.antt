@@ -4,7 +4,7 @@ use Rattle.std.specs.Map.{keys_of}
 use Rattle.std.proofs.lemmas.Bool.{false≢true}
 use Rattle.std.proofs.lemmas.List.Elements.{All-nil, All-cons, All-head, All-tail}
 use Rattle.fc_spec.specs.documents.Sets.{AreSets, places_at}
-use Rattle.fc_spec.specs.documents.World.{Place, World}
+use Rattle.fc_spec.specs.documents.World.{Place}
 use Rattle.fc_spec.specs.words.Lists.{is_empty}
 use Rattle.fc_spec.specs.requests.Buckets.{Key, value, missing, gap, before, between, after, whole, bucket_places, is_key_of}
 use Rattle.fc_spec.specs.requests.Ranks.{offered_bound}
@@ -23,7 +23,7 @@ use Rattle.fc_partial.specs.declared.bucket.PartialBucket.{PartialBucket}
 use Rattle.fc_refine.specs.Tops.{is_value_or_missing, of_entry, others_of_tally, top_of, values_of_tally}
 use Rattle.fc_kind.specs.Tallies.{IsTallyOf}
 use Rattle.fc_answers.specs.Listed.{bucket_entry, entry_or_none, listed_of, top_values}
-use Rattle.fc_answers.specs.SetAnswer.{Sets, own_keys}
+use Rattle.fc_answers.specs.SetAnswer.{Pieces, Sets, own_keys, whole_world}
 use Rattle.fc_answers.proofs.ListedTallies.{tallies_list}
 use Rattle.fc_jobs.specs.Gathered.{IsCountedSoFar, gathered}
 use Rattle.fc_jobs.proofs.CountedTallies.{counted_all}
@@ -64,13 +64,13 @@ keys_own kind ss X t of = passes (is_key_of kind) t.entries (λ k h. of.entries 
 -- ---- the end of a facet's job
 
 -- what is listed are the buckets of the keys that the answer lists
-pub listed_all : (V : World) (D : Sets) (kind : Kind) (inner : Nodes) (t : Tallied) → AreSets V D → IsTally t → IsCountedSoFar V D kind (stats_of inner) D t
-    → listed_of kind inner t.entries ≡ map (bucket_entry kind (stats_of inner) (places_at V D)) (own_keys kind inner (places_at V D))
-listed_all V D kind inner t are tally so_far = tallies_list kind inner (places_at V D) t.entries tally.ascend (counted_all V D kind (stats_of inner) t are so_far).entries
+pub listed_all : (V : Pieces) (D : Sets) (kind : Kind) (inner : Nodes) (t : Tallied) → AreSets (whole_world V) D → IsTally t → IsCountedSoFar V D kind (stats_of inner) D t
+    → listed_of kind inner t.entries ≡ map (bucket_entry kind (stats_of inner) (places_at (whole_world V) D)) (own_keys kind inner (places_at (whole_world V) D))
+listed_all V D kind inner t are tally so_far = tallies_list kind inner (places_at (whole_world V) D) t.entries tally.ascend (counted_all V D kind (stats_of inner) t are so_far).entries
 
 -- and the keys of the tally are the facet's
-pub counted_keys : (V : World) (D domain : Sets) (kind : Kind) (ss : List Stat) (t : Tallied) → IsCountedSoFar V D kind ss domain t → All (λ key. IsTrue (is_key_of kind key)) (keys_of t.entries)
-counted_keys V D domain kind ss t so_far = all_keys (is_key_of kind) t.entries (keys_own kind ss (gathered V domain) t so_far.tally)
+pub counted_keys : (V : Pieces) (D domain : Sets) (kind : Kind) (ss : List Stat) (t : Tallied) → IsCountedSoFar V D kind ss domain t → All (λ key. IsTrue (is_key_of kind key)) (keys_of t.entries)
+counted_keys V D domain kind ss t so_far = all_keys (is_key_of kind) t.entries (keys_own kind ss (gathered (whole_world V) domain) t so_far.tally)
 
 -- ---- what is listed
 

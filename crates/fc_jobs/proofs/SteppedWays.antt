@@ -1,12 +1,11 @@
 -- One step of a way in a segment.
 use Rattle.std.proofs.Common.{◌≡◌, ℕ, suc, ◌+◌, ◌<◌, ◌≤◌, List, ◌∷◌, drop, drop-cons, length, get_or, Bool, true, Some, sym, ◌∙◌, ap, add-one}
 use Rattle.std.proofs.lemmas.Bool.{and_parts}
-use Rattle.fc_spec.specs.documents.Document.{Block}
 use Rattle.fc_spec.specs.laws.LacksLaws.{has_key, names_keys}
 use Rattle.fc_spec.specs.messages.Target.{facet_at, nodes_in}
 use Rattle.fc_spec.specs.requests.Buckets.{is_key_of}
 use Rattle.fc_spec.specs.requests.DomainSets.{bucket_set}
-use Rattle.fc_answers.specs.SetAnswer.{Scope, inside}
+use Rattle.fc_answers.specs.SetAnswer.{Piece, Scope, inside}
 use Rattle.fc_domain.specs.FieldsFit.{ChangeFits}
 use Rattle.fc_kind.specs.Columns.{FitsColumns}
 use Rattle.fc_partial.specs.View.{key_view}
@@ -51,12 +50,12 @@ module _ (xs : List Node) (way : List Step) (i : ℕ) (step : Step) (within : i 
     pub keys_inside : names_keys (inner_view n) (way_view (drop (i + 1) way)) ≡ true
     keys_inside = sym (ap (λ o. names_keys (nodes_in o) (way_view (drop (i + 1) way))) facet_is) ∙ both.1
 
-    pub walked_more : (o : Scope) (blocks : List Block) (docs : List Bool)
-        → walked (inside o (facet_view n) (key_view step.key)) blocks (inner_view n) (bucket_set (kind_view (kind_of n)) (key_view step.key) blocks (domain_set o blocks (facet_view n) docs)) (way_view (drop (i + 1) way))
-        ≡ walked o blocks (nodes_view xs) docs (way_view (drop i way))
-    walked_more o blocks docs =
-        sym (ap (λ f. walked (scope_into o (key_view step.key) f) blocks (nodes_in f) (set_in o blocks (key_view step.key) docs f) (way_view (drop (i + 1) way))) facet_is)
-        ∙ sym (ap (walked o blocks (nodes_view xs) docs) (way_from way i step within is))
+    pub walked_more : (o : Scope) (p : Piece) (docs : List Bool)
+        → walked (inside o (facet_view n) (key_view step.key)) p (inner_view n) (bucket_set (kind_view (kind_of n)) (key_view step.key) p.blocks (domain_set o p (facet_view n) docs)) (way_view (drop (i + 1) way))
+        ≡ walked o p (nodes_view xs) docs (way_view (drop i way))
+    walked_more o p docs =
+        sym (ap (λ f. walked (scope_into o (key_view step.key) f) p (nodes_in f) (set_in o p (key_view step.key) docs f) (way_view (drop (i + 1) way))) facet_is)
+        ∙ sym (ap (walked o p (nodes_view xs) docs) (way_from way i step within is))
 
     pub scope_more : (o : Scope) → scope_along (inside o (facet_view n) (key_view step.key)) (inner_view n) (way_view (drop (i + 1) way)) ≡ scope_along o (nodes_view xs) (way_view (drop i way))
     scope_more o =

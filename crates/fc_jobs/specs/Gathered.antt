@@ -7,7 +7,7 @@ use Rattle.fc_spec.specs.requests.Request.{Kind, Stat}
 use Rattle.fc_spec.specs.requests.Statistics.{Stats, stats_over}
 use Rattle.fc_partial.specs.Tallied.{Tallied}
 use Rattle.fc_kind.specs.Tallies.{IsTallyOf}
-use Rattle.fc_answers.specs.SetAnswer.{Sets, bucket_sets}
+use Rattle.fc_answers.specs.SetAnswer.{Pieces, Sets, bucket_sets, whole_world}
 
 -- the places of the first segments, of which sets are there; the segments are numbered from one number on
 abbrev pub gathered_from : ℕ → World → Sets → List Place
@@ -23,10 +23,10 @@ abbrev pub AreFirst : (all first : Sets) → Type 0
 AreFirst all first = first ++ drop (length first) all ≡ all
 
 -- of a facet with the domain D the sets so far are the first, and the tally is that of their places
-pub record IsCountedSoFar (V : World) (D : Sets) (kind : Kind) (ss : List Stat) (domain : Sets) (t : Tallied) : Type 0 where
+pub record IsCountedSoFar (V : Pieces) (D : Sets) (kind : Kind) (ss : List Stat) (domain : Sets) (t : Tallied) : Type 0 where
   pub first : AreFirst D domain
-  pub tally : IsTallyOf kind ss (gathered V domain) t
+  pub tally : IsTallyOf kind ss (gathered (whole_world V) domain) t
 
 -- the statistics are those of a key's bucket in the first segments
-abbrev pub AreSoFar : World → Sets → Kind → List Stat → Key → ℕ → Stats → Type 0
-AreSoFar V domain kind ss key at stats = stats ≡ stats_over ss (gathered V (take at (bucket_sets V kind key domain)))
+abbrev pub AreSoFar : Pieces → Sets → Kind → List Stat → Key → ℕ → Stats → Type 0
+AreSoFar V domain kind ss key at stats = stats ≡ stats_over ss (gathered (whole_world V) (take at (bucket_sets V kind key domain)))

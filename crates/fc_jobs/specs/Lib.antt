@@ -1,3 +1,4 @@
+pub mod Pieces
 pub mod BasesKept
 pub mod FacetFits
 pub mod FilterLists

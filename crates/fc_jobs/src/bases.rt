@@ -1,11 +1,13 @@
 // The bases that were made for an ask.
-ghost use Rattle.std.specs.Prelude.{◌≡◌, ◌<◌, [], Bool, List, IfOk, IfSome, IsTrue, length, slice_index_or};
-ghost use Rattle.fc_spec.specs.documents.World.{World};
+ghost use Rattle.std.specs.Prelude.{◌≡◌, ◌<◌, Bool, List, IfOk, IfSome, IsTrue, length, slice_index_or};
+ghost use Rattle.fc_spec.specs.documents.Totals.{document_total};
 ghost use Rattle.fc_spec.specs.requests.Request as definition;
 ghost use Rattle.fc_request.specs.RequestView.{request_view};
 ghost use Rattle.fc_domain.specs.FieldsFit.{BaseFits};
 ghost use Rattle.fc_jobs.specs.BasesKept.{kept_base};
+ghost use Rattle.fc_answers.specs.SetAnswer.{Pieces};
 ghost use Rattle.fc_jobs.specs.FilterLists.{AllQueriesFit, queries_in};
+ghost use Rattle.fc_jobs.specs.Pieces.{no_piece, piece_of};
 
 use crate::same_filters::are_same;
 use fc_base::{Name, WantMemory};
@@ -16,8 +18,8 @@ use fc_request::Request;
 use fc_segment::Segment;
 use std::alloc::Global;
 
-/// A base that was made: without the filters that have one of these tags, in the segment with this number, and of it what matches
-/// each query of these lists, which are the filters of domains.
+/// A base that was made: of the live documents of the segment with this number, without the filters that have one of these tags, and
+/// of it what matches each query of these lists, which are the filters of domains.
 #[derive(Debug, Drop)]
 pub(crate) struct KeptBase<'a> {
     pub(crate) at: usize,
@@ -56,8 +58,10 @@ impl<'a> Bases<'a> {
 
     // The number of the one of this segment, these tags and these filters.
     fn find(&self, at: usize, tags: &[Name], filters: &[&[Query]]) -> Option<usize>
-        ensures { IfSome result (λ number. (r : definition.Request) (V : World) → AreBases r V self.now
-            → Holds self.now number (kept_base r tags.now (queries_in filters.now) (slice_index_or V at []))) }
+        ensures docs { IfSome result (λ number. (r : definition.Request) (V : Pieces) → AreBases r V self.now
+            → Holds self.now number (kept_base r tags.now (queries_in filters.now) (slice_index_or V at no_piece))) }
+        ensures count { IfSome result (λ number. (r : definition.Request) (V : Pieces) → AreBases r V self.now
+            → length (kept_base r tags.now (queries_in filters.now) (slice_index_or V at no_piece)) ≡ document_total (slice_index_or V at no_piece).blocks) }
     {
         for (number, base) in self.kept.iter().enumerate() {
             if base.is_of(at, tags, filters) {
@@ -80,10 +84,12 @@ impl<'a> Bases<'a> {
     ) -> Result<usize, WantMemory>
         requires fits { BaseFits segment.now.texts (request_view request.now) }
         requires filters { AllQueriesFit segment.now.texts filters.items }
-        requires kept { AreBasesAt (request_view request.now) at segment.now.blocks self.old }
+        requires kept { AreBasesAt (request_view request.now) at (piece_of segment.now) self.old }
         ensures docs { IfOk result (λ number. Holds self.new number
-            (kept_base (request_view request.now) tags.items (queries_in filters.entry.items) segment.now.blocks)) }
-        ensures kept { StayBases (request_view request.now) at segment.now.blocks self.old self.new }
+            (kept_base (request_view request.now) tags.items (queries_in filters.entry.items) (piece_of segment.now))) }
+        ensures count { IfOk result (λ number. length (kept_base (request_view request.now) tags.items (queries_in filters.entry.items) (piece_of segment.now))
+            ≡ document_total segment.now.blocks) }
+        ensures kept { StayBases (request_view request.now) at (piece_of segment.now) self.old self.new }
     {
         if let Some(number) = self.find(at, &tags, &filters) {
             return Ok(number);
@@ -118,7 +124,8 @@ fn made(
 ) -> Result<DocSet, WantMemory>
     requires fits { BaseFits segment.now.texts (request_view request.now) }
     requires filters { AllQueriesFit segment.now.texts filters.now }
-    ensures { IfOk result (λ docs. docs ≡ kept_base (request_view request.now) tags.now (queries_in filters.now) segment.now.blocks) }
+    ensures set { IfOk result (λ docs. docs ≡ kept_base (request_view request.now) tags.now (queries_in filters.now) (piece_of segment.now)) }
+    ensures count { IfOk result (λ docs. length docs ≡ document_total segment.now.blocks) }
 {
     let mut docs = DocSet::empty(alloc, segment.doc_count())?;
     base(alloc, segment, request, tags, &mut docs)?;

@@ -15,6 +15,7 @@ ghost use Rattle.fc_kind.specs.Collecting.{BucketsAddUp, Collects};
 ghost use Rattle.fc_kind.specs.Names.{Covers};
 ghost use Rattle.fc_jobs.specs.BasesKept.{AreBasesAt, StayBases};
 ghost use Rattle.fc_jobs.specs.FacetFits.{FacetFits};
+ghost use Rattle.fc_jobs.specs.Pieces.{piece_of};
 ghost use Rattle.fc_jobs.specs.Scopes.{AllEnclosingFit, scope_over};
 ghost use Rattle.fc_jobs.specs.Walked.{domain_set};
 
@@ -50,9 +51,10 @@ pub(crate) fn changed<'a>(
     requires base { BaseFits segment.now.texts (request_view request.now) }
     requires fits { ChangeFits segment.now.texts (facet_view node.now).change }
     requires docs { length docs.now ≡ document_total segment.now.blocks }
-    requires kept { AreBasesAt (request_view request.now) at segment.now.blocks bases.old }
-    ensures set { IfOk result (λ set. set ≡ domain_set (scope_over (request_view request.now) enclosing.now) segment.now.blocks (facet_view node.now) docs.now) }
-    ensures kept { StayBases (request_view request.now) at segment.now.blocks bases.old bases.new }
+    requires kept { AreBasesAt (request_view request.now) at (piece_of segment.now) bases.old }
+    ensures set { IfOk result (λ set. set ≡ domain_set (scope_over (request_view request.now) enclosing.now) (piece_of segment.now) (facet_view node.now) docs.now) }
+    ensures length { IfOk result (λ set. length set ≡ document_total segment.now.blocks) }
+    ensures kept { StayBases (request_view request.now) at (piece_of segment.now) bases.old bases.new }
 {
     let mut into = DocSet::empty(alloc, docs.len())?;
     if node.domain.exclude.is_empty() {
@@ -101,16 +103,16 @@ pub fn facet_unit<'a>(
     requires key { IsTrue (is_key_of (kind_view (kind_of around.now)) (key_view key.now)) }
     requires length { length docs.now ≡ document_total segment.now.blocks }
     requires node { FacetFits segment.now.texts node.now }
-    requires kept { AreBasesAt (request_view request.now) at segment.now.blocks bases.old }
+    requires kept { AreBasesAt (request_view request.now) at (piece_of segment.now) bases.old }
     requires stats { tally.old.stats ≡ stats_of (inner_view node.now) }
     requires add_up { BucketsAddUp (kind_view (kind_of node.now)) tally.old.stats
-        (places_on 0 segment.now.blocks (domain_set (scope_over (request_view request.now) enclosing.now) segment.now.blocks (facet_view node.now)
+        (places_on 0 segment.now.blocks (domain_set (scope_over (request_view request.now) enclosing.now) (piece_of segment.now) (facet_view node.now)
         (bucket_set (kind_view (kind_of around.now)) (key_view key.now) segment.now.blocks docs.now))) tally.old.entries }
-    ensures set { IfOk result (λ set. set ≡ domain_set (scope_over (request_view request.now) enclosing.now) segment.now.blocks (facet_view node.now)
+    ensures set { IfOk result (λ set. set ≡ domain_set (scope_over (request_view request.now) enclosing.now) (piece_of segment.now) (facet_view node.now)
         (bucket_set (kind_view (kind_of around.now)) (key_view key.now) segment.now.blocks docs.now)) }
     ensures collected { IfOk result (λ set. Collects (kind_view (kind_of node.now)) tally.old.stats
         (places_on 0 segment.now.blocks set) tally.old tally.new) }
-    ensures kept { StayBases (request_view request.now) at segment.now.blocks bases.old bases.new }
+    ensures kept { StayBases (request_view request.now) at (piece_of segment.now) bases.old bases.new }
 {
     let bucket = selected(alloc, kinds, segment, docs, around, key)?;
     let set = changed(

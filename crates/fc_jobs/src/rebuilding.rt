@@ -8,6 +8,7 @@ ghost use Rattle.fc_kind.specs.Names.{Covers};
 ghost use Rattle.fc_answers.specs.SetAnswer.{base_in};
 ghost use Rattle.fc_jobs.specs.BasesKept.{AreBasesAt, StayBases};
 ghost use Rattle.fc_jobs.specs.FilterLists.{AllQueriesFit, queries_in};
+ghost use Rattle.fc_jobs.specs.Pieces.{piece_of};
 ghost use Rattle.fc_jobs.specs.Scopes.{AllEnclosingFit, filters_in, scope_over, selected_inside, tags_in};
 
 use crate::bases::Bases;
@@ -113,10 +114,10 @@ pub(crate) fn rebuilt<'a>(
     requires covers { Covers (map name kinds.now) }
     requires base { BaseFits segment.now.texts (request_view request.now) }
     requires enclosing { AllEnclosingFit segment.now.texts enclosing.now }
-    requires kept { AreBasesAt (request_view request.now) at segment.now.blocks bases.old }
-    ensures set { IfOk result (λ set. set ≡ base_in (scope_over (request_view request.now) enclosing.now) exclude.now segment.now.blocks) }
+    requires kept { AreBasesAt (request_view request.now) at (piece_of segment.now) bases.old }
+    ensures set { IfOk result (λ set. set ≡ base_in (scope_over (request_view request.now) enclosing.now) exclude.now (piece_of segment.now)) }
     ensures length { IfOk result (λ set. length set ≡ document_total segment.now.blocks) }
-    ensures kept { StayBases (request_view request.now) at segment.now.blocks bases.old bases.new }
+    ensures kept { StayBases (request_view request.now) at (piece_of segment.now) bases.old bases.new }
 {
     let tags = all_tags(alloc, enclosing, exclude)?;
     let filters = all_filters(alloc, enclosing)?;

@@ -15,6 +15,7 @@ ghost use Rattle.fc_kind.specs.Columns.{FitsColumns};
 ghost use Rattle.fc_kind.specs.Names.{Covers};
 ghost use Rattle.fc_jobs.specs.BasesKept.{AreBasesAt, StayBases};
 ghost use Rattle.fc_jobs.specs.FacetFits.{AllFit};
+ghost use Rattle.fc_jobs.specs.Pieces.{piece_of};
 ghost use Rattle.fc_answers.specs.SetAnswer.{Scope, scope_on};
 ghost use Rattle.fc_jobs.specs.Scopes.{AllEnclosingFit, scope_from, scope_over};
 ghost use Rattle.fc_jobs.specs.Walked.{domain_set, scope_along, walked};
@@ -53,10 +54,11 @@ fn entered<'a>(
     requires kind { FitsColumns segment.now.texts (kind_view (kind_of node.now)) }
     requires docs { length docs.now ≡ document_total segment.now.blocks }
     requires key { IsTrue (is_key_of (kind_view (kind_of node.now)) (key_view key.now)) }
-    requires kept { AreBasesAt (request_view request.now) at segment.now.blocks bases.old }
+    requires kept { AreBasesAt (request_view request.now) at (piece_of segment.now) bases.old }
     ensures set { IfOk result (λ set. set ≡ bucket_set (kind_view (kind_of node.now)) (key_view key.now) segment.now.blocks
-        (domain_set (scope_over (request_view request.now) enclosing.now) segment.now.blocks (facet_view node.now) docs.now)) }
-    ensures kept { StayBases (request_view request.now) at segment.now.blocks bases.old bases.new }
+        (domain_set (scope_over (request_view request.now) enclosing.now) (piece_of segment.now) (facet_view node.now) docs.now)) }
+    ensures length { IfOk result (λ set. length set ≡ document_total segment.now.blocks) }
+    ensures kept { StayBases (request_view request.now) at (piece_of segment.now) bases.old bases.new }
 {
     let domain = changed(
         alloc, kinds, request, segment, at, bases, enclosing, node, docs,
@@ -108,11 +110,11 @@ pub fn domain_where<'a>(
     requires docs { length base_docs.now ≡ document_total segment.now.blocks }
     requires keys { IsTrue (names_keys (request_view request.now).nodes (way_view way.now)) }
     requires node { ChangeFits segment.now.texts (facet_view node.now).change }
-    requires kept { AreBasesAt (request_view request.now) at segment.now.blocks bases.old }
+    requires kept { AreBasesAt (request_view request.now) at (piece_of segment.now) bases.old }
     ensures set { IfOk result (λ set. set ≡ domain_set (scope_along (scope_on (request_view request.now) at_root)
-        (request_view request.now).nodes (way_view way.now)) segment.now.blocks (facet_view node.now)
-        (walked (scope_on (request_view request.now) at_root) segment.now.blocks (request_view request.now).nodes base_docs.now (way_view way.now))) }
-    ensures kept { StayBases (request_view request.now) at segment.now.blocks bases.old bases.new }
+        (request_view request.now).nodes (way_view way.now)) (piece_of segment.now) (facet_view node.now)
+        (walked (scope_on (request_view request.now) at_root) (piece_of segment.now) (request_view request.now).nodes base_docs.now (way_view way.now))) }
+    ensures kept { StayBases (request_view request.now) at (piece_of segment.now) bases.old bases.new }
 {
     let mut docs = base_docs.copy(alloc)?;
     let mut nodes = request.root.nodes.as_slice();

@@ -17,8 +17,8 @@ loop-queries-preserved c =
       long = c.in_ok-keep_matching.ensures.length ∙ c.loop-queries.invariant.long;
     }
 
-pub returns : goal.returns
-returns c =
+pub returns-clause-set : goal.returns-clause-set
+returns-clause-set c =
     let blocks = c.args.segment.now.blocks in
     let docs = c.loop-queries.docs in
     sym (passing_of-all blocks docs c.loop-queries.invariant.long)

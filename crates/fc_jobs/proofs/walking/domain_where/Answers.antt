@@ -11,10 +11,10 @@ use Rattle.fc_jobs.specs.FacetFits.{AllFit}
 use Rattle.fc_spec.specs.requests.DomainSets.{bucket_set}
 use Rattle.fc_spec.specs.requests.Paths.{at_root}
 use Rattle.fc_answers.specs.SetAnswer.{inside, scope_on}
+use Rattle.fc_jobs.specs.Pieces.{piece_of}
 use Rattle.fc_jobs.specs.Scopes.{EnclosingFits, scope_over}
 use Rattle.fc_jobs.specs.Walked.{domain_set, scope_along, walked}
 use Rattle.fc_jobs.proofs.RebuiltScopes.{scope_push}
-use Rattle.fc_jobs.proofs.KeptLengths.{bucket_length, domain_length}
 use Rattle.fc_jobs.proofs.SteppedWays.{fits_there, is_facet, is_there, keys_inside, own_key, scope_more, walked_more}
 use Rattle.fc_jobs.proofs.walking.domain_where.Goals as goal
 
@@ -56,7 +56,7 @@ loop-step-preserved g c =
     let step = c.step-item.result in
     let n = c.in-Some.around.now in
     let r = request_view c.args.request.now in
-    let blocks = c.args.segment.now.blocks in
+    let p = piece_of c.args.segment.now in
     let texts = c.args.segment.now.texts in
     let rest = way_view (drop (i + 1) way) in
     let there : step.node < length xs = ltb-true _ _ (sym c.in-Some.ensures.lookup.0) in
@@ -64,13 +64,13 @@ loop-step-preserved g c =
     let old = c.loop-step.enclosing.items in
     let o = scope_over r old in
     let further : scope_over r c.push.new.self.items ≡ inside o (facet_view n) (key_view step.key) = ap (scope_over r) c.in_ok-push.ensures.items ∙ scope_push (scope_on r at_root) old _ in
-    let domain = domain_set o blocks (facet_view n) c.loop-step.docs in
-    let docs_are : c.in_ok-docs-2.docs ≡ bucket_set (kind_view (kind_of n)) (key_view step.key) blocks domain =
-    c.in_ok-docs-2.ensures.set ∙ ap (λ xs. bucket_set (kind_view (kind_of n)) (key_view step.key) blocks (domain_set (scope_over r xs) blocks (facet_view n) c.loop-step.docs)) c.deref.ensures.value in
+    let domain = domain_set o p (facet_view n) c.loop-step.docs in
+    let docs_are : c.in_ok-docs-2.docs ≡ bucket_set (kind_view (kind_of n)) (key_view step.key) p.blocks domain =
+    c.in_ok-docs-2.ensures.set ∙ ap (λ xs. bucket_set (kind_view (kind_of n)) (key_view step.key) p.blocks (domain_set (scope_over r xs) p (facet_view n) c.loop-step.docs)) c.deref.ensures.value in
     let fits = fits_there xs way i step c.loop-step-test.true c.step-item.is c.loop-step.invariant.keys n there c.in-Some.ensures.lookup.1 texts c.loop-step.invariant.fit in
     record {
-      there = ap₂ (λ scope ns. walked scope blocks (nodes_view ns) c.in_ok-docs-2.docs rest) further inside' ∙ ap (λ s. walked (inside o (facet_view n) (key_view step.key)) blocks (inner_view n) s rest) docs_are
-          ∙ walked_more xs way i step c.loop-step-test.true c.step-item.is c.loop-step.invariant.keys n there c.in-Some.ensures.lookup.1 o blocks c.loop-step.docs ∙ c.loop-step.invariant.there;
+      there = ap₂ (λ scope ns. walked scope p (nodes_view ns) c.in_ok-docs-2.docs rest) further inside' ∙ ap (λ s. walked (inside o (facet_view n) (key_view step.key)) p (inner_view n) s rest) docs_are
+          ∙ walked_more xs way i step c.loop-step-test.true c.step-item.is c.loop-step.invariant.keys n there c.in-Some.ensures.lookup.1 o p c.loop-step.docs ∙ c.loop-step.invariant.there;
       scope = ap₂ (λ scope ns. scope_along scope (nodes_view ns) rest) further inside'
           ∙ scope_more xs way i step c.loop-step-test.true c.step-item.is c.loop-step.invariant.keys n there c.in-Some.ensures.lookup.1 o ∙ c.loop-step.invariant.scope;
       enclosing = All-same (EnclosingFits texts) c.push.new.self.items _ c.in_ok-push.ensures.items (All-push (EnclosingFits texts) old _ c.loop-step.invariant.enclosing (record {
@@ -79,10 +79,18 @@ loop-step-preserved g c =
         kind = fits.1;
         key = own_key xs way i step c.loop-step-test.true c.step-item.is c.loop-step.invariant.keys n there c.in-Some.ensures.lookup.1;
       }));
-      long = ap length docs_are
-          ∙ bucket_length (kind_view (kind_of n)) (key_view step.key) blocks domain (domain_length o blocks (facet_view n) c.loop-step.docs c.loop-step.invariant.long);
+      long = c.in_ok-docs-2.ensures.length;
       fit = subst (λ ns. AllFit texts (nodes_view ns)) (sym inside') fits.2;
       kept = λ V there are. c.entered.ensures.kept V there (c.loop-step.invariant.kept V there are);
       keys = ap (λ ns. names_keys (nodes_view ns) rest) inside'
           ∙ keys_inside xs way i step c.loop-step-test.true c.step-item.is c.loop-step.invariant.keys n there c.in-Some.ensures.lookup.1;
     }
+
+pub returns-in_err-docs-2-clause-kept : goal.returns-in_err-docs-2-clause-kept
+returns-in_err-docs-2-clause-kept g c = λ V there are. c.entered.ensures.kept V there (c.loop-step.invariant.kept V there are)
+
+pub returns-in_err-push-clause-kept : goal.returns-in_err-push-clause-kept
+returns-in_err-push-clause-kept g c = λ V there are. c.entered.ensures.kept V there (c.loop-step.invariant.kept V there are)
+
+pub returns-clause-kept : goal.returns-clause-kept
+returns-clause-kept g c = λ V there are. c.changed.ensures.kept V there (c.loop-step.invariant.kept V there are)
