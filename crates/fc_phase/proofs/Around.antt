@@ -1,11 +1,10 @@
 -- The facets around the bucket that is open.
 use Rattle.std.proofs.Common.{◌≡◌, ℕ, suc, ◌+◌, ◌<◌, List, ◌∷◌, All, Bool, true, if◌then◌else◌, drop, drop-cons, length, get_or, sym, ◌∙◌, ap, subst, add-one}
-use Rattle.fc_spec.specs.documents.Document.{Block}
 use Rattle.fc_spec.specs.requests.DomainSets.{filtered_set, moved_set}
 use Rattle.fc_spec.specs.requests.Request.{Facet}
 use Rattle.fc_spec.specs.words.Lists.{is_empty}
 use Rattle.fc_partial.specs.View.{key_view}
-use Rattle.fc_answers.specs.SetAnswer.{Scope, base_in}
+use Rattle.fc_answers.specs.SetAnswer.{Piece, Scope, base_in}
 use Rattle.fc_jobs.specs.Scopes.{KeyFits}
 use Rattle.fc_jobs.specs.Walked.{domain_set}
 use Rattle.fc_levels.specs.Levels.{open_scope, scope_in}
@@ -20,7 +19,7 @@ pub level_fits : (texts : List Bool) (levels : List Level) (i : ℕ) (l : Level)
 level_fits texts levels i l within is all = subst (λ (x : Level). KeyFits texts x.node.now (key_view x.key)) (sym is) (all i l within)
 
 -- the domain of a facet that excludes no tag is the same in each scope
-pub domain_alone : (o other : Scope) (blocks : List Block) (f : Facet) (set : List Bool) → is_empty f.change.exclude ≡ true → domain_set o blocks f set ≡ domain_set other blocks f set
-domain_alone o other blocks f set none =
-    let made : Scope → Bool → List Bool = λ p b. filtered_set f.change.filters blocks (moved_set f.change.block blocks (if b then set else base_in p f.change.exclude blocks)) in
+pub domain_alone : (o other : Scope) (p : Piece) (f : Facet) (set : List Bool) → is_empty f.change.exclude ≡ true → domain_set o p f set ≡ domain_set other p f set
+domain_alone o other p f set none =
+    let made : Scope → Bool → List Bool = λ q b. filtered_set f.change.filters p.blocks (moved_set f.change.block p.blocks (if b then set else base_in q f.change.exclude p)) in
     ap (made o) none ∙ sym (ap (made other) none)

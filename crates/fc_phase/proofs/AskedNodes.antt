@@ -28,8 +28,8 @@ use Rattle.fc_refine.specs.declared.ask.Ask.TheVariants.{More}
 use Rattle.fc_refine.specs.declared.ask.Step.{Step}
 use Rattle.fc_refine.specs.declared.ask.Want.{Want}
 use Rattle.fc_levels.specs.Steps.{AreValid, IsValidNode}
-use Rattle.fc_phase.specs.Asked.{HasSameDomain, asked_count, key_at, node_at, path_at}
 use Rattle.fc_jobs.proofs.NodesThere.{facet_there, has_buckets_there, key_there, named_within}
+use Rattle.fc_phase.specs.Asked.{HasSameDomain, asked_count, key_at, node_at, path_at}
 
 -- ---- wants by their numbers
 split : (a b : Bool) → IsTrue (a && b) → IsTrue a × IsTrue b

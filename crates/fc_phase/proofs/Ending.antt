@@ -4,9 +4,7 @@ use Rattle.std.specs.declared.alloc.Global.{Global}
 use Rattle.std.specs.declared.vec.Vec.{Vec}
 use Rattle.std.proofs.lemmas.List.{append_assoc, map-append}
 use Rattle.fc_spec.specs.documents.Schema.{Schema}
-use Rattle.fc_spec.specs.documents.World.{World}
 use Rattle.fc_spec.specs.messages.Message.{Ask}
-use Rattle.fc_spec.specs.requests.DomainSets.{base_set}
 use Rattle.fc_spec.specs.requests.Request.{stats_of}
 use Rattle.fc_partial.specs.BucketView.{bucket_view, linked, node_view}
 use Rattle.fc_partial.specs.declared.bucket.PartialBucket.{PartialBucket}
@@ -17,7 +15,7 @@ use Rattle.fc_request.specs.RequestView.{request_view}
 use Rattle.fc_request.specs.declared.node.Node.{Node}
 use Rattle.fc_request.specs.declared.request.Request.{Request}
 use Rattle.fc_segment.specs.Segmented.{Segmented}
-use Rattle.fc_answers.specs.SetAnswer.{Scope, Sets, domain_sets}
+use Rattle.fc_answers.specs.SetAnswer.{Pieces, Scope, Sets, base_of, domain_sets}
 use Rattle.fc_levels.specs.Facets.{nested_view}
 use Rattle.fc_levels.specs.Jobs.{openings}
 use Rattle.fc_levels.specs.Levels.{ended_in, open_in, row_in, scope_in}
@@ -26,8 +24,9 @@ use Rattle.fc_levels.specs.declared.level.Level.{Level}
 use Rattle.fc_levels.specs.declared.level.Next.TheVariants.{Job, Whole}
 use Rattle.fc_jobs.specs.Gathered.{AreFirst, IsCountedSoFar}
 use Rattle.fc_jobs.proofs.CountedTallies.{counted_none}
+use Rattle.fc_jobs.specs.Pieces.{pieces_in}
 use Rattle.fc_phase.specs.Asked.{FitsTop, HasSameDomain, asked_count, top_scope}
-use Rattle.fc_phase.specs.Built.{CanAnswer, IsTopJob, IsUnder, blocks_in, zeroed}
+use Rattle.fc_phase.specs.Built.{CanAnswer, IsTopJob, IsUnder, zeroed}
 use Rattle.fc_phase.specs.Going.{AreFront, Begins, Ends, GoesOn}
 use Rattle.fc_phase.specs.declared.going.Gone.{Gone}
 use Rattle.fc_phase.specs.declared.going.Gone.TheVariants as gone
@@ -41,8 +40,8 @@ use Rattle.fc_phase.proofs.Fronts.{all_front, next_front, openings_linked}
 
 -- the next top bucket's job begins
 pub begins_top : (s : Schema) (segments : List Segmented) (request : Request) (ask : Ask) (roots : Vec (List Bool) Global) (buckets : Vec PartialBucket Global) (levels : Vec Level Global) (job : TopJob) → CanAnswer s segments request
-    → AreFirst (map (base_set (request_view request) []) (blocks_in segments)) roots.items → AreFront (request_view request) (blocks_in segments) ask buckets.items → levels.items ≡ [] → job.at ≡ 0
-    → IsTopJob s request (blocks_in segments) ask (length buckets.items) roots.items job
+    → AreFirst (map (base_of (request_view request) []) (pieces_in segments)) roots.items → AreFront (request_view request) (pieces_in segments) ask buckets.items → levels.items ≡ [] → job.at ≡ 0
+    → IsTopJob s request (pieces_in segments) ask (length buckets.items) roots.items job
     → Begins s segments request ask buckets.items (gone.On (record { roots = roots; buckets = buckets; levels = levels; job = Top job }) 0)
 begins_top s segments request ask roots buckets levels job can based front none at is = (
   record { can = can; roots = based; front = front; job = (is, none) },
@@ -52,15 +51,15 @@ begins_top s segments request ask roots buckets levels job can based front none 
 )
 
 -- there is none
-pub begins_none : (s : Schema) (segments : List Segmented) (request : Request) (ask : Ask) (buckets : Vec PartialBucket Global) → AreFront (request_view request) (blocks_in segments) ask buckets.items → asked_count ask ≤ length buckets.items
+pub begins_none : (s : Schema) (segments : List Segmented) (request : Request) (ask : Ask) (buckets : Vec PartialBucket Global) → AreFront (request_view request) (pieces_in segments) ask buckets.items → asked_count ask ≤ length buckets.items
     → Begins s segments request ask buckets.items (gone.Whole (record { buckets = buckets }))
 begins_none s segments request ask buckets front h =
-    let whole = all_front (request_view request) (blocks_in segments) ask buckets.items front h in
+    let whole = all_front (request_view request) (pieces_in segments) ask buckets.items front h in
     (whole, ap openings (sym whole))
 
 -- ---- the job of a facet begins
 pub goes_on : (s : Schema) (segments : List Segmented) (request : Request) (ask : Ask) (before : List ℕ) (k : ℕ) (n : Bor Node) (roots : Vec (List Bool) Global) (buckets : Vec PartialBucket Global) (levels : Vec Level Global) (job : FacetJob)
-    → CanAnswer s segments request → AreFirst (map (base_set (request_view request) []) (blocks_in segments)) roots.items → AreFront (request_view request) (blocks_in segments) ask buckets.items
+    → CanAnswer s segments request → AreFirst (map (base_of (request_view request) []) (pieces_in segments)) roots.items → AreFront (request_view request) (pieces_in segments) ask buckets.items
     → job.node.now ≡ n.now → job.domain.items ≡ [] → job.tally ≡ record { stats = stats_of (inner_view n.now); entries = [] } → Ends s segments request ask (length buckets.items) before levels.items (Job n k)
     → GoesOn s segments request ask (openings (linked (map bucket_view buckets.items)) ++ before) k (gone.On (record { roots = roots; buckets = buckets; levels = levels; job = Facet job }) k)
 goes_on s segments request ask before k n roots buckets levels job can based front node domain tally e = (
@@ -87,8 +86,8 @@ goes_on s segments request ask before k n roots buckets levels job can based fro
     o : Scope
     o = top_scope (request_view request) ask (length buckets.items)
 
-    V : World
-    V = blocks_in segments
+    V : Pieces
+    V = pieces_in segments
 
     D : Node → Sets
     D m = domain_sets (scope_in o levels.items) V (facet_view m) (open_in V [] levels.items)
@@ -100,15 +99,15 @@ goes_on s segments request ask before k n roots buckets levels job can based fro
 
 -- ---- a top bucket is whole
 module _ (s : Schema) (segments : List Segmented) (request : Request) (ask : Ask) (before : List ℕ) (p : PartialNode) (domain : Vec (List Bool) Global) (buckets : List PartialBucket) (levels : List Level) (more : List PartialBucket)
-    (is : node_view p ≡ linked (map bucket_view more)) (front : AreFront (request_view request) (blocks_in segments) ask buckets) (e : Ends s segments request ask (length buckets) before levels (Whole p domain)) where
-  pub whole_front : AreFront (request_view request) (blocks_in segments) ask (buckets ++ more) × (length (buckets ++ more) ≡ length buckets + 1)
-  whole_front = next_front (request_view request) (blocks_in segments) ask e.0 e.1 buckets more front e.3 (sym is ∙ e.4)
+    (is : node_view p ≡ linked (map bucket_view more)) (front : AreFront (request_view request) (pieces_in segments) ask buckets) (e : Ends s segments request ask (length buckets) before levels (Whole p domain)) where
+  pub whole_front : AreFront (request_view request) (pieces_in segments) ask (buckets ++ more) × (length (buckets ++ more) ≡ length buckets + 1)
+  whole_front = next_front (request_view request) (pieces_in segments) ask e.0 e.1 buckets more front e.3 (sym is ∙ e.4)
 
-  pub whole_fits : HasSameDomain ask (length (buckets ++ more)) → FitsTop (nested_view request.root) (request_view request) (blocks_in segments) ask (length (buckets ++ more)) domain.items
+  pub whole_fits : HasSameDomain ask (length (buckets ++ more)) → FitsTop (nested_view request.root) (request_view request) (pieces_in segments) ask (length (buckets ++ more)) domain.items
   whole_fits same =
       let count = whole_front.1 in
-      subst (λ i. FitsTop (nested_view request.root) (request_view request) (blocks_in segments) ask i domain.items) (sym count)
-      (same_fits (nested_view request.root) (request_view request) (blocks_in segments) ask (length buckets) e.0 domain.items e.2 e.5 (subst (HasSameDomain ask) count same))
+      subst (λ i. FitsTop (nested_view request.root) (request_view request) (pieces_in segments) ask i domain.items) (sym count)
+      (same_fits (nested_view request.root) (request_view request) (pieces_in segments) ask (length buckets) e.0 domain.items e.2 e.5 (subst (HasSameDomain ask) count same))
 
   ended : openings (linked (map bucket_view (buckets ++ more))) ≡ (openings (linked (map bucket_view buckets)) ++ before) ++ 0 ∷ []
   ended =

@@ -1,12 +1,10 @@
 -- One segment more of a facet's job.
-use Rattle.std.proofs.Common.{◌≡◌, ℕ, suc, ◌+◌, ◌-◌, ◌<◌, ◌≤◌, List, [], ◌∷◌, ◌++◌, length, map, drop, take, get_or, All, Bool, IsTrue, refl, sym, ◌∙◌, ap, subst, arith, length-append}
+use Rattle.std.proofs.Common.{◌≡◌, ℕ, suc, ◌+◌, ◌-◌, ◌<◌, ◌≤◌, List, [], ◌∷◌, ◌++◌, length, drop, take, get_or, All, Bool, IsTrue, refl, sym, ◌∙◌, ap, subst, arith, length-append}
 use Rattle.std.proofs.lemmas.List.{length-map, take-append-drop}
 use Rattle.std.proofs.lemmas.List.Elements.{All-cons, All-drop, All-head, All-nil, All-tail}
-use Rattle.fc_spec.specs.documents.Document.{Block}
 use Rattle.fc_spec.specs.documents.Schema.{Schema}
-use Rattle.fc_spec.specs.documents.Sets.{AreSets, places_on}
+use Rattle.fc_spec.specs.documents.Sets.{places_on}
 use Rattle.fc_spec.specs.documents.Totals.{document_total}
-use Rattle.fc_spec.specs.documents.World.{World}
 use Rattle.fc_spec.specs.messages.Message.{Ask}
 use Rattle.fc_spec.specs.requests.Buckets.{is_key_of}
 use Rattle.fc_spec.specs.requests.DomainSets.{bucket_set}
@@ -22,32 +20,24 @@ use Rattle.fc_request.specs.RequestView.{request_view}
 use Rattle.fc_request.specs.declared.node.Node.{Node}
 use Rattle.fc_request.specs.declared.request.Request.{Request}
 use Rattle.fc_segment.specs.Segmented.{Segmented}
-use Rattle.fc_answers.specs.SetAnswer.{Scope, Sets, domain_sets}
+use Rattle.fc_answers.specs.SetAnswer.{Pieces, Scope, Sets, domain_sets}
+use Rattle.fc_answers.proofs.LiveSets.{live_at}
 use Rattle.fc_levels.specs.Levels.{open_in, scope_in}
 use Rattle.fc_levels.specs.Steps.{IsLevel, IsValidNode}
 use Rattle.fc_levels.specs.declared.level.Level.{Level}
 use Rattle.fc_jobs.specs.FacetFits.{AllFit, FacetFits}
 use Rattle.fc_jobs.specs.Gathered.{IsCountedSoFar}
+use Rattle.fc_jobs.specs.Pieces.{piece_of, pieces_in}
 use Rattle.fc_jobs.specs.Scopes.{KeyFits}
 use Rattle.fc_jobs.specs.Walked.{domain_set}
 use Rattle.fc_jobs.proofs.CountedTallies.{counted_more}
 use Rattle.fc_phase.specs.Asked.{top_scope}
-use Rattle.fc_phase.specs.Built.{blocks_in}
 use Rattle.fc_phase.specs.Stepping.{IsFacetStep, IsOneFurther, StandsAtFacet}
 use Rattle.fc_phase.specs.declared.jobs.FacetJob.{FacetJob}
 use Rattle.fc_phase.proofs.JobEnds.{sets_count}
-use Rattle.fc_phase.proofs.Segments.{all_here, base_here, blocks_here, facet_adds_up, facet_here, facet_stands, limits_here, map_stands, no_further, one_further, stands_at, within_list}
+use Rattle.fc_phase.proofs.Segments.{all_here, base_here, facet_adds_up, facet_here, facet_stands, limits_here, no_further, one_further, piece_here, stands_at, within_list}
 
 -- ---- sets
-same_first : (x y : ℕ) (xs ys : List ℕ) → x ∷ xs ≡ y ∷ ys → x ≡ y
-same_first x y xs ys e = cc
-
--- the set at a place is as long as the blocks there
-long_at : (V rest : World) (sets more : Sets) (n : ℕ) (blocks : List Block) (set : List Bool) → AreSets V sets → drop n V ≡ blocks ∷ rest → drop n sets ≡ set ∷ more → length set ≡ document_total blocks
-long_at V rest sets more n blocks set are there next =
-    same_first (length set) (document_total blocks) (map length more) (map document_total rest)
-    (sym (map_stands length n set sets more next) ∙ ap (drop n) are ∙ map_stands document_total n blocks V rest there)
-
 bound_at : (n long many segments : ℕ) → n < segments → long ≡ many → many ≡ segments → n < long
 bound_at n long many segments h e k = omega (arith, h, e, k)
 
@@ -67,8 +57,8 @@ module _ (s : Schema) (gs : List Segmented) (request : Request) (ask : Ask) (num
   abbrev r : definition.Request
   r = request_view request
 
-  abbrev V : World
-  V = blocks_in gs
+  abbrev V : Pieces
+  V = pieces_in gs
 
   abbrev f : Facet
   f = facet_view job.node.now
@@ -129,7 +119,7 @@ module _ (s : Schema) (gs : List Segmented) (request : Request) (ask : Ask) (num
     facet_key = level.key
 
     pub facet_bound : at < length l.domain.items
-    facet_bound = bound_at at (length l.domain.items) (length V) (length gs) (within_list at g gs rest here) (sets_count V l.domain.items level.sets) (length-map gs (λ x. x.blocks))
+    facet_bound = bound_at at (length l.domain.items) (length V) (length gs) (within_list at g gs rest here) (sets_count V l.domain.items level.sets) (length-map gs piece_of)
 
     module _ (set : List Bool) (is : set ≡ get_or l.domain.items at set) where
       abbrev behind : Sets
@@ -139,10 +129,10 @@ module _ (s : Schema) (gs : List Segmented) (request : Request) (ask : Ask) (num
       next = stands_at l.domain.items at set facet_bound is
 
       pub facet_long : length set ≡ document_total g.blocks
-      facet_long = long_at V (blocks_in rest) l.domain.items behind at g.blocks set level.sets (blocks_here s gs request at g rest here st.can) next
+      facet_long = (live_at at V (pieces_in rest) (piece_of g) l.domain.items behind set (piece_here s gs request at g rest here st.can) next level.sets).count
 
       abbrev docs : List Bool
-      docs = domain_set o g.blocks f (bucket_set (kind_view (kind_of l.node.now)) (key_view l.key) g.blocks set)
+      docs = domain_set o (piece_of g) f (bucket_set (kind_view (kind_of l.node.now)) (key_view l.key) g.blocks set)
 
       pub facet_add_up : BucketsAddUp kind job.tally.stats (places_on 0 g.blocks docs) job.tally.entries
       facet_add_up =
@@ -154,7 +144,7 @@ module _ (s : Schema) (gs : List Segmented) (request : Request) (ask : Ask) (num
           (collects : Collects kind job.tally.stats (places_on 0 g.blocks found) job.tally after.tally) where
         counted : IsCountedSoFar V E kind ss (job.domain.items ++ docs ∷ []) after.tally
         counted =
-            counted_more V (blocks_in rest) E job.domain.items _ kind ss g.blocks docs job.tally after.tally (ap (λ n. drop n V) (sym count) ∙ blocks_here s gs request at g rest here st.can)
+            counted_more V (pieces_in rest) E job.domain.items _ kind ss (piece_of g) docs job.tally after.tally (ap (λ n. drop n V) (sym count) ∙ piece_here s gs request at g rest here st.can)
             (ap (λ n. drop n E) (sym count) ∙ facet_stands s gs request at g rest here st.can o f levels before l (last_is levels l last) level set behind next) st.is_job.counted
             (subst (λ ts. Collects kind ts (places_on 0 g.blocks docs) job.tally after.tally) facet_stats (subst (λ (x : List Bool). Collects kind job.tally.stats (places_on 0 g.blocks x) job.tally after.tally) found_is collects))
 

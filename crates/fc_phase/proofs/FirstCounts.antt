@@ -2,18 +2,17 @@
 use Rattle.std.proofs.Common.{◌≡◌, ℕ, zero, suc, ◌+◌, ◌≤◌, length, sum, take, refl, sym, ◌∙◌, ap, subst, arith}
 use Rattle.std.proofs.Math.Seq.{take-length}
 use Rattle.std.proofs.lemmas.List.{drop_all}
-use Rattle.fc_spec.specs.documents.World.{World}
 use Rattle.fc_spec.specs.messages.Message.{Ask, first, more, Partials, no_partials, partial}
 use Rattle.fc_spec.specs.requests.Buckets.{Key}
 use Rattle.fc_spec.specs.requests.Request.{Nodes, no_nodes, statistic, facet, Request}
-use Rattle.fc_answers.specs.SetAnswer.{Scope, Sets, inside, bucket_sets, set_answer, set_rows}
+use Rattle.fc_answers.specs.SetAnswer.{Pieces, Scope, Sets, bucket_sets, inside, set_answer, set_rows}
 use Rattle.fc_levels.specs.Facets.{Nested, facet_count}
 use Rattle.fc_levels.specs.Jobs.{AreCounted, job_count, opened, openings, row_count, top_buckets}
 use Rattle.fc_phase.specs.Asked.{IsTop, answer_from, asked_count, followed, top_bucket, top_domain, top_scope}
 use Rattle.fc_phase.proofs.Turning.{AreKnown}
 
 -- a list for each facet
-pub rows_count : (o : Scope) (V : World) (nodes : Nodes) (sets : Sets) → row_count (set_rows o V nodes sets) ≡ facet_count nodes
+pub rows_count : (o : Scope) (V : Pieces) (nodes : Nodes) (sets : Sets) → row_count (set_rows o V nodes sets) ≡ facet_count nodes
 rows_count o V no_nodes sets = refl
 rows_count o V (statistic name s rest) sets = rows_count o V rest sets
 rows_count o V (facet f inner rest) sets = ap suc (rows_count o V rest sets)
@@ -30,7 +29,7 @@ opened-followed no_partials qs = omega arith
 opened-followed (partial k stats rows rest) qs = omega (arith, opened-followed rest qs)
 
 -- one bucket more
-pub one_bucket : (r : Request) (V : World) (ask : Ask) (i : ℕ) (n : Nested) (k : Key) → IsTop r V ask i n k
+pub one_bucket : (r : Request) (V : Pieces) (ask : Ask) (i : ℕ) (n : Nested) (k : Key) → IsTop r V ask i n k
     → top_buckets (answer_from r V ask i) + opened (answer_from r V ask i) ≡ facet_count n.1 + 1 + (top_buckets (answer_from r V ask (i + 1)) + opened (answer_from r V ask (i + 1)))
 one_bucket r V ask i n k top =
     let b = top_bucket (top_scope r ask i) V n k (top_domain r V ask i n.0) in
@@ -45,11 +44,11 @@ one_bucket r V ask i n k top =
     )
 
 -- from the first one on it is the whole answer, and behind the last one there is nothing
-pub from_first : (r : Request) (V : World) (ask : Ask) → answer_from r V ask 0 ≡ set_answer r V ask
+pub from_first : (r : Request) (V : Pieces) (ask : Ask) → answer_from r V ask 0 ≡ set_answer r V ask
 from_first r V first = refl
 from_first r V (more wants) = refl
 
-pub past_last : (r : Request) (V : World) (ask : Ask) (i : ℕ) → asked_count ask ≤ i → answer_from r V ask i ≡ no_partials
+pub past_last : (r : Request) (V : Pieces) (ask : Ask) (i : ℕ) → asked_count ask ≤ i → answer_from r V ask i ≡ no_partials
 past_last r V first zero h = absurd (omega (arith, h))
 past_last r V first (suc i) h = refl
 past_last r V (more wants) i h = ap (λ ws. answer_from r V (more ws) 0) (drop_all i wants h)

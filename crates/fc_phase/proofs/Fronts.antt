@@ -1,14 +1,13 @@
 -- Whole top buckets, and what follows them.
 use Rattle.std.proofs.Common.{◌≡◌, ◌+◌, ◌≤◌, List, [], ◌∷◌, ◌++◌, length, map, refl, sym, ◌∙◌, ap, arith, length-append}
 use Rattle.std.proofs.lemmas.List.{length-map, map-append}
-use Rattle.fc_spec.specs.documents.World.{World}
 use Rattle.fc_spec.specs.messages.Message.{Ask, Partials, no_partials, partial, Rows}
 use Rattle.fc_spec.specs.requests.Buckets.{Key}
 use Rattle.fc_spec.specs.requests.Request as definition
 use Rattle.fc_spec.specs.requests.Statistics.{Stats}
 use Rattle.fc_partial.specs.BucketView.{Part, bucket_view, linked}
 use Rattle.fc_partial.specs.declared.bucket.PartialBucket.{PartialBucket}
-use Rattle.fc_answers.specs.SetAnswer.{set_answer}
+use Rattle.fc_answers.specs.SetAnswer.{Pieces, set_answer}
 use Rattle.fc_levels.specs.Jobs.{openings}
 use Rattle.fc_levels.specs.Levels.{put}
 use Rattle.fc_phase.specs.Asked.{IsTop, answer_from, asked_count, followed, top_bucket, top_domain, top_scope}
@@ -41,7 +40,7 @@ pub one_bucket_there : (bs : List PartialBucket) (k : Key) (s : Stats) (rows : R
 one_bucket_there bs k s rows e = sym (length-map bs bucket_view) ∙ one_part (map bucket_view bs) k s rows e
 
 -- the next top bucket is whole
-pub next_front : (r : definition.Request) (V : World) (ask : Ask) (n : _) (k : Key) (buckets more : List PartialBucket) → AreFront r V ask buckets → IsTop r V ask (length buckets) n k
+pub next_front : (r : definition.Request) (V : Pieces) (ask : Ask) (n : _) (k : Key) (buckets more : List PartialBucket) → AreFront r V ask buckets → IsTop r V ask (length buckets) n k
     → linked (map bucket_view more) ≡ top_bucket (top_scope r ask (length buckets)) V n k (top_domain r V ask (length buckets) n.0) → AreFront r V ask (buckets ++ more) × (length (buckets ++ more) ≡ length buckets + 1)
 next_front r V ask n k buckets more front top whole = (fronts, count)
   where
@@ -59,5 +58,5 @@ next_front r V ask n k buckets more front top whole = (fronts, count)
         ∙ front
 
 -- all of them are
-pub all_front : (r : definition.Request) (V : World) (ask : Ask) (buckets : List PartialBucket) → AreFront r V ask buckets → asked_count ask ≤ length buckets → linked (map bucket_view buckets) ≡ set_answer r V ask
+pub all_front : (r : definition.Request) (V : Pieces) (ask : Ask) (buckets : List PartialBucket) → AreFront r V ask buckets → asked_count ask ≤ length buckets → linked (map bucket_view buckets) ≡ set_answer r V ask
 all_front r V ask buckets front h = sym (put_none (map bucket_view buckets)) ∙ ap (put (map bucket_view buckets)) (sym (past_last r V ask (length buckets) h)) ∙ front

@@ -15,4 +15,5 @@ pub mod FacetSteps
 pub mod WantedWays
 pub mod Underway
 pub mod Turns
+pub mod Sharing
 pub mod CountedTops

@@ -4,17 +4,16 @@ use Rattle.std.proofs.Math.ListN.{get_or-append}
 use Rattle.std.specs.declared.alloc.Global.{Global}
 use Rattle.std.specs.declared.vec.Vec.{Vec}
 use Rattle.std.proofs.lemmas.List.{drop-map}
+use Rattle.fc_spec.specs.documents.Live.{HasWholeBlocks}
 use Rattle.fc_spec.specs.documents.Schema.{Schema, texts_held}
-use Rattle.fc_spec.specs.documents.Sets.{AreSets, each_set, places_on}
-use Rattle.fc_spec.specs.documents.World.{World}
+use Rattle.fc_spec.specs.documents.Sets.{places_on}
 use Rattle.fc_spec.specs.messages.Message.{Ask}
 use Rattle.fc_spec.specs.requests.Buckets.{Key}
-use Rattle.fc_spec.specs.requests.DomainSets.{base_set, bucket_set}
+use Rattle.fc_spec.specs.requests.DomainSets.{bucket_set}
 use Rattle.fc_spec.specs.requests.Request as definition
 use Rattle.fc_spec.specs.requests.Request.{Facet, Kind, Stat}
 use Rattle.fc_spec.specs.requests.Statistics.{Stats, stats_over}
 use Rattle.fc_spec.specs.scripts.WorldLimits.{IsWithinLimits}
-use Rattle.fc_spec.proofs.requests.SetChanges.{are_sets_again}
 use Rattle.fc_domain.specs.FieldsFit.{BaseFits}
 use Rattle.fc_domain.proofs.SchemaFits.{base_fits}
 use Rattle.fc_kind.specs.Collecting.{BucketsAddUp}
@@ -26,24 +25,28 @@ use Rattle.fc_request.specs.RequestView.{request_view}
 use Rattle.fc_request.specs.declared.node.Node.{Node}
 use Rattle.fc_request.specs.declared.request.Request.{Request}
 use Rattle.fc_segment.specs.Segmented.{Segmented}
-use Rattle.fc_answers.specs.SetAnswer.{Scope, Sets, bucket_sets, domain_sets}
+use Rattle.fc_answers.specs.LiveSets.{AreLive}
+use Rattle.fc_answers.specs.SetAnswer.{Piece, Pieces, Scope, Sets, base_of, bucket_sets, domain_sets, whole_world}
+use Rattle.fc_answers.proofs.LiveFits.{live_fit}
+use Rattle.fc_answers.proofs.LiveSets.{buckets_live, domains_live, live_are_sets, whole_at}
 use Rattle.fc_levels.specs.Levels.{open_in, open_sets}
 use Rattle.fc_levels.specs.Steps.{IsLevel, IsValidNode}
 use Rattle.fc_levels.specs.declared.level.Level.{Level}
 use Rattle.fc_levels.proofs.Stacked.{open_top}
 use Rattle.fc_jobs.specs.FacetFits.{AllFit, FacetFits}
 use Rattle.fc_jobs.specs.Gathered.{AreFirst, AreSoFar, IsCountedSoFar}
+use Rattle.fc_jobs.specs.Pieces.{each_piece, no_piece, piece_of, pieces_in}
 use Rattle.fc_jobs.specs.Walked.{domain_set}
 use Rattle.fc_jobs.proofs.CountedTallies.{counted_add_up}
 use Rattle.fc_jobs.proofs.GatheredPlaces.{first_more}
-use Rattle.fc_jobs.proofs.SegmentLimits.{segment_within, sets_fit}
-use Rattle.fc_jobs.proofs.TopBuckets.{bucket_add_up, drop-each_set}
+use Rattle.fc_jobs.proofs.SegmentLimits.{segment_within}
+use Rattle.fc_jobs.proofs.TopBuckets.{bucket_add_up, drop-each_piece, drop-each_set}
 use Rattle.fc_jobs.proofs.ValidFacets.{all_fit, facet_fits}
-use Rattle.fc_jobs.proofs.WalkedSets.{domains_are_sets, domains_by_segment}
+use Rattle.fc_jobs.proofs.WalkedSets.{domains_by_segment}
 use Rattle.fc_phase.specs.Asked.{top_domain, top_set}
-use Rattle.fc_phase.specs.Built.{CanAnswer, blocks_in}
+use Rattle.fc_phase.specs.Built.{CanAnswer}
 use Rattle.fc_phase.specs.Stepping.{IsOneFurther}
-use Rattle.fc_phase.proofs.JobEnds.{top_are_sets}
+use Rattle.fc_phase.proofs.JobEnds.{top_are_live}
 
 -- ---- lists
 
@@ -63,9 +66,9 @@ standing zero x d xs rest e = ap (λ l. get_or l 0 d) e
 standing (suc n) x d [] rest e = absurd (cc)
 standing (suc n) x d (y ∷ xs) rest e = standing n x d xs rest e
 
--- the blocks of a segment are those at its number
-pub blocks_at : (gs : List Segmented) (at : ℕ) (g : Segmented) (rest : List Segmented) → drop at gs ≡ g ∷ rest → get_or (blocks_in gs) at [] ≡ g.blocks
-blocks_at gs at g rest here = standing at g.blocks [] (blocks_in gs) (blocks_in rest) (map_stands (λ (x : Segmented). x.blocks) at g gs rest here)
+-- a segment is the one at its number
+pub piece_at : (gs : List Segmented) (at : ℕ) (g : Segmented) (rest : List Segmented) → drop at gs ≡ g ∷ rest → get_or (pieces_in gs) at no_piece ≡ piece_of g
+piece_at gs at g rest here = standing at (piece_of g) no_piece (pieces_in gs) (pieces_in rest) (map_stands piece_of at g gs rest here)
 
 pub within_list : {X : Type 0} (n : ℕ) (x : X) (xs rest : List X) → drop n xs ≡ x ∷ rest → n < length xs
 within_list zero x [] rest e = absurd (cc)
@@ -102,17 +105,24 @@ module _ (s : Schema) (gs : List Segmented) (request : Request) (at : ℕ) (g : 
   abbrev r : definition.Request
   r = request_view request
 
-  abbrev V : World
-  V = blocks_in gs
+  abbrev V : Pieces
+  V = pieces_in gs
 
-  pub blocks_here : drop at V ≡ g.blocks ∷ blocks_in rest
-  blocks_here = map_stands (λ (x : Segmented). x.blocks) at g gs rest here
+  pub piece_here : drop at V ≡ piece_of g ∷ pieces_in rest
+  piece_here = map_stands piece_of at g gs rest here
+
+  blocks_here : drop at (whole_world V) ≡ g.blocks ∷ whole_world (pieces_in rest)
+  blocks_here = map_stands (λ (p : Piece). p.blocks) at (piece_of g) V (pieces_in rest) piece_here
 
   texts_here : g.texts ≡ texts_held s.fields
   texts_here = sym (ap (λ (x : Segmented). x.texts) (standing at g g gs rest here)) ∙ can.columns at g (within_list at g gs rest here)
 
   pub limits_here : IsWithinLimits (g.blocks ∷ [])
-  limits_here = segment_within at V (blocks_in rest) g.blocks blocks_here can.limits
+  limits_here = segment_within at gs rest g here can.each
+
+  -- each of its blocks is live whole or not at all
+  pub whole_here : HasWholeBlocks g.blocks g.live
+  whole_here = whole_at at V (pieces_in rest) (piece_of g) piece_here can.whole
 
   pub base_here : BaseFits g.texts r
   base_here = subst (λ ts. BaseFits ts r) (sym texts_here) (base_fits s r can.valid)
@@ -124,34 +134,37 @@ module _ (s : Schema) (gs : List Segmented) (request : Request) (at : ℕ) (g : 
   facet_here n v = facet_fits s v.valid.0 v.inner.0 g.texts n texts_here v.facet v.valid.1 v.inner.1
 
   abbrev bases : Sets
-  bases = map (base_set r []) V
+  bases = map (base_of r []) V
 
-  base_stands : drop at bases ≡ base_set r [] g.blocks ∷ map (base_set r []) (blocks_in rest)
-  base_stands = map_stands (base_set r []) at g.blocks V (blocks_in rest) blocks_here
+  base_stands : drop at bases ≡ base_of r [] (piece_of g) ∷ map (base_of r []) (pieces_in rest)
+  base_stands = map_stands (base_of r []) at (piece_of g) V (pieces_in rest) piece_here
 
   -- what is there of the bases, and what is put behind them
-  pub base_there : (roots : Sets) (d : List Bool) → AreFirst bases roots → at < length roots → get_or roots at d ≡ base_set r [] g.blocks
-  base_there roots d front h = first_at bases roots (map (base_set r []) (blocks_in rest)) at (base_set r [] g.blocks) (get_or roots at d) d front h base_stands refl
+  pub base_there : (roots : Sets) (d : List Bool) → AreFirst bases roots → at < length roots → get_or roots at d ≡ base_of r [] (piece_of g)
+  base_there roots d front h = first_at bases roots (map (base_of r []) (pieces_in rest)) at (base_of r [] (piece_of g)) (get_or roots at d) d front h base_stands refl
 
-  pub base_more : (roots : Sets) → AreFirst bases roots → length roots ≡ at → AreFirst bases (roots ++ base_set r [] g.blocks ∷ [])
+  pub base_more : (roots : Sets) → AreFirst bases roots → length roots ≡ at → AreFirst bases (roots ++ base_of r [] (piece_of g) ∷ [])
   base_more roots front same =
-      first_more bases roots (map (base_set r []) (blocks_in rest)) (base_set r [] g.blocks) front (subst (λ n. drop n bases ≡ base_set r [] g.blocks ∷ map (base_set r []) (blocks_in rest)) (sym same) base_stands)
+      first_more bases roots (map (base_of r []) (pieces_in rest)) (base_of r [] (piece_of g)) front (subst (λ n. drop n bases ≡ base_of r [] (piece_of g) ∷ map (base_of r []) (pieces_in rest)) (sym same) base_stands)
 
   -- a top bucket's domain
   module _ (ask : Ask) (number : ℕ) (f : Facet) where
-    pub top_stands : drop at (top_domain r V ask number f) ≡ top_set r ask number f g.blocks ∷ top_domain r (blocks_in rest) ask number f
-    top_stands = map_stands (top_set r ask number f) at g.blocks V (blocks_in rest) blocks_here
+    pub top_stands : drop at (top_domain r V ask number f) ≡ top_set r ask number f (piece_of g) ∷ top_domain r (pieces_in rest) ask number f
+    top_stands = map_stands (top_set r ask number f) at (piece_of g) V (pieces_in rest) piece_here
 
-    pub top_more : (domain : Sets) → AreFirst (top_domain r V ask number f) domain → length domain ≡ at → AreFirst (top_domain r V ask number f) (domain ++ top_set r ask number f g.blocks ∷ [])
+    pub top_more : (domain : Sets) → AreFirst (top_domain r V ask number f) domain → length domain ≡ at → AreFirst (top_domain r V ask number f) (domain ++ top_set r ask number f (piece_of g) ∷ [])
     top_more domain front same =
-        first_more (top_domain r V ask number f) domain (top_domain r (blocks_in rest) ask number f) (top_set r ask number f g.blocks) front
-        (subst (λ n. drop n (top_domain r V ask number f) ≡ top_set r ask number f g.blocks ∷ top_domain r (blocks_in rest) ask number f) (sym same) top_stands)
+        first_more (top_domain r V ask number f) domain (top_domain r (pieces_in rest) ask number f) (top_set r ask number f (piece_of g)) front
+        (subst (λ n. drop n (top_domain r V ask number f) ≡ top_set r ask number f (piece_of g) ∷ top_domain r (pieces_in rest) ask number f) (sym same) top_stands)
 
     pub top_adds_up : (kind : Kind) (ss : List Stat) (key : Key) (stats : Stats) → AreSoFar V (top_domain r V ask number f) kind ss key at stats
-        → AddUp stats (stats_over ss (places_on 0 g.blocks (bucket_set kind key g.blocks (top_set r ask number f g.blocks))))
+        → AddUp stats (stats_over ss (places_on 0 g.blocks (bucket_set kind key g.blocks (top_set r ask number f (piece_of g)))))
     top_adds_up kind ss key stats so_far =
-        bucket_add_up V (blocks_in rest) (top_domain r V ask number f) (top_domain r (blocks_in rest) ask number f) kind ss key at g.blocks (top_set r ask number f g.blocks) blocks_here top_stands stats
-        (top_are_sets r V ask number f) (sets_fit V (bucket_sets V kind key (top_domain r V ask number f)) can.limits) so_far
+        bucket_add_up V (pieces_in rest) (top_domain r V ask number f) (top_domain r (pieces_in rest) ask number f) kind ss key at (piece_of g) (top_set r ask number f (piece_of g)) piece_here top_stands stats
+        (live_are_sets V (top_domain r V ask number f) live) (live_fit V (bucket_sets V kind key (top_domain r V ask number f)) can.whole (buckets_live V kind key (top_domain r V ask number f) live) can.limits) so_far
+      where
+        live : AreLive V (top_domain r V ask number f)
+        live = top_are_live r V ask number f can.whole
 
   -- a facet's domain in the bucket that is open, in a scope
   module _ (o : Scope) (f : Facet) (levels before : List Level) (l : Level) (is : levels ≡ before ++ l ∷ []) (valid : IsLevel s V l) (set : List Bool) (more : Sets) (next : drop at l.domain.items ≡ set ∷ more) where
@@ -161,25 +174,25 @@ module _ (s : Schema) (gs : List Segmented) (request : Request) (at : ℕ) (g : 
     open_is : open_in V [] levels ≡ open_sets V l
     open_is = ap (open_in V []) is ∙ open_top V [] before l
 
-    open_are_sets : AreSets V (open_sets V l)
-    open_are_sets = are_sets_again.buckets (facet_view l.node.now).kind (key_view l.key) V l.domain.items valid.sets
+    open_are_live : AreLive V (open_sets V l)
+    open_are_live = buckets_live V (facet_view l.node.now).kind (key_view l.key) l.domain.items valid.sets
 
     abbrev own : List Bool
     own = bucket_set (facet_view l.node.now).kind (key_view l.key) g.blocks set
 
     abbrev behind : Sets
-    behind = each_set (λ blocks x. domain_set o blocks f x) (blocks_in rest) (bucket_sets (blocks_in rest) (facet_view l.node.now).kind (key_view l.key) more)
+    behind = each_piece (λ p x. domain_set o p f x) (pieces_in rest) (bucket_sets (pieces_in rest) (facet_view l.node.now).kind (key_view l.key) more)
 
-    pub facet_stands : drop at E ≡ domain_set o g.blocks f own ∷ behind
+    pub facet_stands : drop at E ≡ domain_set o (piece_of g) f own ∷ behind
     facet_stands =
-        ap (λ D. drop at (domain_sets o V f D)) open_is ∙ ap (drop at) (domains_by_segment o V f (open_sets V l) open_are_sets)
-        ∙ drop-each_set (λ blocks x. domain_set o blocks f x) at V (blocks_in rest) (open_sets V l) (bucket_sets (blocks_in rest) (facet_view l.node.now).kind (key_view l.key) more) g.blocks own blocks_here
-        (drop-each_set (bucket_set (facet_view l.node.now).kind (key_view l.key)) at V (blocks_in rest) l.domain.items more g.blocks set blocks_here next)
+        ap (λ D. drop at (domain_sets o V f D)) open_is ∙ ap (drop at) (domains_by_segment o V f (open_sets V l))
+        ∙ drop-each_piece (λ p x. domain_set o p f x) at V (pieces_in rest) (open_sets V l) (bucket_sets (pieces_in rest) (facet_view l.node.now).kind (key_view l.key) more) (piece_of g) own piece_here
+        (drop-each_set (bucket_set (facet_view l.node.now).kind (key_view l.key)) at (whole_world V) (whole_world (pieces_in rest)) l.domain.items more g.blocks set blocks_here next)
 
-    facet_are_sets : AreSets V E
-    facet_are_sets = domains_are_sets o V f (open_in V [] levels) (subst (AreSets V) (sym open_is) open_are_sets)
+    facet_are_live : AreLive V E
+    facet_are_live = domains_live o V f (open_in V [] levels) can.whole (subst (AreLive V) (sym open_is) open_are_live)
 
-    pub facet_adds_up : (kind : Kind) (ss : List Stat) (domain : Sets) (t : Tallied) → length domain ≡ at → IsCountedSoFar V E kind ss domain t → BucketsAddUp kind ss (places_on 0 g.blocks (domain_set o g.blocks f own)) t.entries
+    pub facet_adds_up : (kind : Kind) (ss : List Stat) (domain : Sets) (t : Tallied) → length domain ≡ at → IsCountedSoFar V E kind ss domain t → BucketsAddUp kind ss (places_on 0 g.blocks (domain_set o (piece_of g) f own)) t.entries
     facet_adds_up kind ss domain t same so_far =
-        counted_add_up V (blocks_in rest) E domain behind kind ss g.blocks (domain_set o g.blocks f own) t (ap (λ n. drop n V) same ∙ blocks_here) (ap (λ n. drop n E) same ∙ facet_stands) facet_are_sets
-        (sets_fit V E can.limits) so_far
+        counted_add_up V (pieces_in rest) E domain behind kind ss (piece_of g) (domain_set o (piece_of g) f own) t (ap (λ n. drop n V) same ∙ piece_here) (ap (λ n. drop n E) same ∙ facet_stands)
+        (live_are_sets V E facet_are_live) (live_fit V E can.whole facet_are_live can.limits) so_far

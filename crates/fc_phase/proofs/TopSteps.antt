@@ -1,14 +1,14 @@
 -- One segment more of a top bucket's job.
 use Rattle.std.proofs.Common.{◌≡◌, ◌≢◌, ◌⊎◌, inl, inr, ℕ, ◌+◌, ◌<◌, ◌≤◌, List, [], ◌∷◌, ◌++◌, length, map, drop, get_or, Bool, IsTrue, sym, ◌∙◌, ap, subst, arith, length-append}
 use Rattle.std.proofs.lemmas.Bool.Decides.{eqb_tells}
+use Rattle.fc_spec.specs.documents.Live.{HasWholeBlocks}
 use Rattle.fc_spec.specs.documents.Schema.{Schema}
 use Rattle.fc_spec.specs.documents.Sets.{places_on}
 use Rattle.fc_spec.specs.documents.Totals.{document_total}
-use Rattle.fc_spec.specs.documents.World.{World}
 use Rattle.fc_spec.specs.messages.Message.{Ask}
 use Rattle.fc_spec.specs.requests.Buckets.{is_key_of}
 use Rattle.fc_spec.specs.requests.Combining.{combined}
-use Rattle.fc_spec.specs.requests.DomainSets.{base_set, bucket_set}
+use Rattle.fc_spec.specs.requests.DomainSets.{bucket_set}
 use Rattle.fc_spec.specs.requests.Request as definition
 use Rattle.fc_spec.specs.requests.Request.{Facet, Kind, Stat, stats_of}
 use Rattle.fc_spec.specs.requests.Statistics.{stats_over}
@@ -24,18 +24,19 @@ use Rattle.fc_request.specs.RequestView.{request_view}
 use Rattle.fc_request.specs.declared.node.Node.{Node}
 use Rattle.fc_request.specs.declared.request.Request.{Request}
 use Rattle.fc_segment.specs.Segmented.{Segmented}
-use Rattle.fc_answers.specs.SetAnswer.{Sets}
+use Rattle.fc_answers.specs.SetAnswer.{Pieces, Sets, base_of}
 use Rattle.fc_levels.specs.Facets.{nested_view}
 use Rattle.fc_levels.specs.Steps.{IsValidNode}
 use Rattle.fc_jobs.specs.FacetFits.{AllFit, FacetFits}
 use Rattle.fc_jobs.specs.Gathered.{AreFirst, AreSoFar}
+use Rattle.fc_jobs.specs.Pieces.{piece_of, pieces_in}
 use Rattle.fc_jobs.proofs.TopBuckets.{bucket_more, bucket_shape}
 use Rattle.fc_phase.specs.Asked.{IsAskedFacet, IsTop, top_domain, top_set}
-use Rattle.fc_phase.specs.Built.{IsTopJob, blocks_in}
+use Rattle.fc_phase.specs.Built.{IsTopJob}
 use Rattle.fc_phase.specs.Stepping.{IsOneFurther, IsTopStep, StandsAtTop}
 use Rattle.fc_phase.specs.declared.jobs.TopJob.{TopJob}
-use Rattle.fc_phase.proofs.JobEnds.{top_length}
-use Rattle.fc_phase.proofs.Segments.{all_here, base_here, base_more, base_there, blocks_here, facet_here, first_at, limits_here, no_further, one_further, top_adds_up, top_more, top_stands, within_list}
+use Rattle.fc_phase.proofs.JobEnds.{top_live}
+use Rattle.fc_phase.proofs.Segments.{all_here, base_here, base_more, base_there, facet_here, first_at, limits_here, no_further, one_further, piece_here, top_adds_up, top_more, top_stands, whole_here, within_list}
 
 -- ---- lists that have one more
 
@@ -68,8 +69,8 @@ module _ (s : Schema) (gs : List Segmented) (request : Request) (ask : Ask) (num
   abbrev r : definition.Request
   r = request_view request
 
-  abbrev V : World
-  V = blocks_in gs
+  abbrev V : Pieces
+  V = pieces_in gs
 
   abbrev f : Facet
   f = facet_view job.node.now
@@ -84,7 +85,7 @@ module _ (s : Schema) (gs : List Segmented) (request : Request) (ask : Ask) (num
   D = top_domain r V ask number f
 
   abbrev own : List Bool
-  own = top_set r ask number f g.blocks
+  own = top_set r ask number f (piece_of g)
 
   pub top_base : BaseFits g.texts r
   top_base = base_here s gs request job.at g rest here st.can
@@ -101,7 +102,10 @@ module _ (s : Schema) (gs : List Segmented) (request : Request) (ask : Ask) (num
   pub top_limits : IsWithinLimits (g.blocks ∷ [])
   top_limits = limits_here s gs request job.at g rest here st.can
 
-  pub top_there : job.at < length roots → get_or roots job.at [] ≡ base_set r [] g.blocks
+  pub top_whole : HasWholeBlocks g.blocks g.live
+  top_whole = whole_here s gs request job.at g rest here st.can
+
+  pub top_there : job.at < length roots → get_or roots job.at [] ≡ base_of r [] (piece_of g)
   top_there h = base_there s gs request job.at g rest here st.can roots [] st.based h
 
   pub top_key : IsTrue (is_key_of kind (key_view job.key))
@@ -125,10 +129,10 @@ module _ (s : Schema) (gs : List Segmented) (request : Request) (ask : Ask) (num
 
     module _ (set : List Bool) (is : set ≡ get_or domain job.at set) where
       set_is : set ≡ own
-      set_is = first_at D domain (top_domain r (blocks_in rest) ask number f) job.at own set set both.0 both.1 (top_stands s gs request job.at g rest here st.can ask number f) is
+      set_is = first_at D domain (top_domain r (pieces_in rest) ask number f) job.at own set set both.0 both.1 (top_stands s gs request job.at g rest here st.can ask number f) is
 
       pub top_long : length set ≡ document_total g.blocks
-      top_long = ap length set_is ∙ top_length r g.blocks ask number f
+      top_long = ap length set_is ∙ (top_live (piece_of g) top_whole r ask number f).count
 
       module _ (ts : List Stat) (same : ts ≡ map stat_view job.stats.items) where
         stats_are : ts ≡ ss
@@ -144,17 +148,17 @@ module _ (s : Schema) (gs : List Segmented) (request : Request) (ask : Ask) (num
             (top_adds_up s gs request job.at g rest here st.can ask number f kind ss (key_view job.key) (stats_view job.over) st.is_job.over))
 
         -- one segment more
-        module _ (roots' : Sets) (are : IsGrown job.at (base_set r [] g.blocks) roots roots') (after : TopJob) (node : after.node.now ≡ job.node.now) (key : after.key ≡ job.key) (at : after.at ≡ job.at + 1) (stats : after.stats ≡ job.stats) (domain_is : after.domain.items ≡ domain)
+        module _ (roots' : Sets) (are : IsGrown job.at (base_of r [] (piece_of g)) roots roots') (after : TopJob) (node : after.node.now ≡ job.node.now) (key : after.key ≡ job.key) (at : after.at ≡ job.at + 1) (stats : after.stats ≡ job.stats) (domain_is : after.domain.items ≡ domain)
             (over : stats_view after.over ≡ combined ts (stats_view job.over) (stats_over ts (places_on 0 g.blocks (bucket_set kind (key_view job.key) g.blocks set)))) where
-          based : AreFirst (map (base_set r []) V) roots'
+          based : AreFirst (map (base_of r []) V) roots'
           based = elim are [
-            | inl e ↦ subst (AreFirst (map (base_set r []) V)) (sym e) st.based
-            | inr e ↦ subst (AreFirst (map (base_set r []) V)) (sym e.1) (base_more s gs request job.at g rest here st.can roots st.based e.0)
+            | inl e ↦ subst (AreFirst (map (base_of r []) V)) (sym e) st.based
+            | inr e ↦ subst (AreFirst (map (base_of r []) V)) (sym e.1) (base_more s gs request job.at g rest here st.can roots st.based e.0)
           ]
 
           so_far : AreSoFar V D kind ss (key_view job.key) (job.at + 1) (stats_view after.over)
           so_far =
-              bucket_more V (blocks_in rest) D (top_domain r (blocks_in rest) ask number f) kind ss (key_view job.key) job.at g.blocks own (blocks_here s gs request job.at g rest here st.can)
+              bucket_more V (pieces_in rest) D (top_domain r (pieces_in rest) ask number f) kind ss (key_view job.key) job.at (piece_of g) own (piece_here s gs request job.at g rest here st.can)
               (top_stands s gs request job.at g rest here st.can ask number f) (stats_view job.over) (stats_view after.over) st.is_job.over
               (over ∙ (λ i. combined (stats_are i) (stats_view job.over) (stats_over (stats_are i) (places_on 0 g.blocks (bucket_set kind (key_view job.key) g.blocks (set_is i))))))
 

@@ -5,16 +5,14 @@ use Rattle.std.specs.Arc.{arc_value}
 use Rattle.std.proofs.lemmas.List.{length-map}
 use Rattle.std.proofs.lemmas.List.Elements.{All-nil, All-same}
 use Rattle.fc_spec.specs.documents.Schema.{Schema}
-use Rattle.fc_spec.specs.documents.World.{World}
 use Rattle.fc_spec.specs.messages.Message.{Partials}
-use Rattle.fc_spec.specs.requests.DomainSets.{base_set}
 use Rattle.fc_spec.specs.requests.Request as definition
 use Rattle.fc_partial.specs.BucketView.{bucket_view}
 use Rattle.fc_partial.specs.declared.bucket.Message.{Message}
 use Rattle.fc_request.specs.RequestView.{request_view}
 use Rattle.fc_refine.specs.AskView.{ask_view}
 use Rattle.fc_segment.specs.Segmented.{Segmented}
-use Rattle.fc_answers.specs.SetAnswer.{Sets, set_answer}
+use Rattle.fc_answers.specs.SetAnswer.{AreWhole, Pieces, Sets, base_of, set_answer}
 use Rattle.fc_jobs.specs.BasesKept.{AreBases, HasNone, IsBase}
 use Rattle.fc_jobs.specs.Gathered.{AreFirst}
 use Rattle.fc_jobs.specs.declared.bases.Bases.{Bases}
@@ -23,8 +21,9 @@ use Rattle.fc_levels.specs.Jobs.{AreCounted, left_after, opened, top_buckets, un
 use Rattle.fc_levels.specs.Levels.{put}
 use Rattle.fc_levels.proofs.CountedJobs.{jobs_are_counted}
 use Rattle.fc_refine.specs.Named.{NamesKeys}
+use Rattle.fc_jobs.specs.Pieces.{pieces_in}
 use Rattle.fc_phase.specs.Asked.{FitsTop, answer_from, top_scope}
-use Rattle.fc_phase.specs.Built.{CanAnswer, IsBuilt, IsCountedUp, IsJob, IsTopJob, blocks_in, done_in, ended}
+use Rattle.fc_phase.specs.Built.{CanAnswer, IsBuilt, IsCountedUp, IsJob, IsTopJob, done_in, ended}
 use Rattle.fc_phase.specs.FirstJobs.{FirstJobs}
 use Rattle.fc_phase.specs.Going.{UnitDone, ended_by}
 use Rattle.fc_phase.specs.Inside.{IsSound, IsUnderWay, IsUnderWayIn, phase_in, segments_in}
@@ -45,14 +44,14 @@ mul_none : (M : ℕ) → 0 ≡ M * 0 + 0
 mul_none M = grind arith
 
 module _ (p : Inside) where
-  abbrev pub V : World
-  V = blocks_in (segments_in p)
+  abbrev pub V : Pieces
+  V = pieces_in (segments_in p)
 
   abbrev pub r : definition.Request
   r = request_view p.request.now
 
-  pub answer_in : answer_of (phase_in p) ≡ set_answer r V (ask_view p.ask)
-  answer_in = answer_is r V (ask_view p.ask)
+  pub answer_in : AreWhole V → answer_of (phase_in p) ≡ set_answer r V (ask_view p.ask)
+  answer_in are_whole = answer_is r V (ask_view p.ask) are_whole
 
   count_in : length (segments_in p) ≡ length p.segments.items
   count_in = length-map p.segments.items arc_value
@@ -60,7 +59,7 @@ module _ (p : Inside) where
   pub shows_in : (b : Building) → IsUnderWay p b → Shows (length p.segments.items) (answer_of (phase_in p)) (ended_by r V (ask_view p.ask) b) p.done
   shows_in b u =
       subst (λ m. Shows m (answer_of (phase_in p)) (ended_by r V (ask_view p.ask) b) p.done) count_in
-      (subst (λ a. Shows (length (segments_in p)) a (ended_by r V (ask_view p.ask) b) p.done) (sym answer_in) (shows u.schema (segments_in p) p.request.now (ask_view p.ask) b p.done u.built u.counted))
+      (subst (λ a. Shows (length (segments_in p)) a (ended_by r V (ask_view p.ask) b) p.done) (sym (answer_in u.built.can.whole)) (shows u.schema (segments_in p) p.request.now (ask_view p.ask) b p.done u.built u.counted))
 
   -- within a job, or with a job that begins
   module _ (b after : Building) (now l : ℕ) (u : IsUnderWay p b) (is : p.building ≡ Some b) (kept : p.left ≡ left_of (phase_in p)) (based : AreBases r V p.bases)
@@ -80,7 +79,7 @@ module _ (p : Inside) where
     shows_on : Shows (length p.segments.items) (answer_of (phase_in p)) (ended_by r V (ask_view p.ask) after) (p.done + 1)
     shows_on =
         subst (λ m. Shows m (answer_of (phase_in p)) (ended_by r V (ask_view p.ask) after) (p.done + 1)) count_in
-        (subst (λ a. Shows (length (segments_in p)) a (ended_by r V (ask_view p.ask) after) (p.done + 1)) (sym answer_in) (shows u.schema (segments_in p) p.request.now (ask_view p.ask) after (p.done + 1) unit.0 under_on.counted))
+        (subst (λ a. Shows (length (segments_in p)) a (ended_by r V (ask_view p.ask) after) (p.done + 1)) (sym (answer_in u.built.can.whole)) (shows u.schema (segments_in p) p.request.now (ask_view p.ask) after (p.done + 1) unit.0 under_on.counted))
 
     left_on : l ≡ left_after (length p.segments.items) (answer_of (phase_in p)) (p.done + 1)
     left_on = less ∙ left_less (length p.segments.items) (answer_of (phase_in p)) (ended_by r V (ask_view p.ask) b) (ended_by r V (ask_view p.ask) after) p.done p.left now (shows_in b u) shows_on kept (opens_on u.schema (segments_in p) p.request.now (ask_view p.ask) b after (done_in b.job) now unit.1)
@@ -103,14 +102,14 @@ module _ (p : Inside) where
     last : (p.done + 1 ≡ units (length p.segments.items) (answer_of (phase_in p))) × (left_after (length p.segments.items) (answer_of (phase_in p)) (p.done + 1) ≡ 0)
     last =
         subst (λ k. (p.done + 1 ≡ units k (answer_of (phase_in p))) × (left_after k (answer_of (phase_in p)) (p.done + 1) ≡ 0)) count_in
-        (subst (λ a. (p.done + 1 ≡ units (length (segments_in p)) a) × (left_after (length (segments_in p)) a (p.done + 1) ≡ 0)) (sym answer_in)
+        (subst (λ a. (p.done + 1 ≡ units (length (segments_in p)) a) × (left_after (length (segments_in p)) a (p.done + 1) ≡ 0)) (sym (answer_in u.built.can.whole))
         (ends (length (segments_in p)) (set_answer r V (ask_view p.ask)) (ended_by r V (ask_view p.ask) b) (done_in b.job) p.done (known_from (set_answer r V (ask_view p.ask)) law) law.all (u.counted).count unit.1 unit.2))
 
     abbrev Whole : ℕ → Type 0
     Whole d = IsSound (record p { done = d; left = 0; building = None }) × TurnsTo (phase_in p) (phase_in (record p { done = d; left = 0; building = None })) (Done m)
 
     one_whole : Whole (p.done + 1)
-    one_whole = (record { under_way = tt; left = sym last.1; bases = based }, (unit.0 ∙ sym answer_in, last.0, refl, last.1))
+    one_whole = (record { under_way = tt; left = sym last.1; bases = based }, (unit.0 ∙ sym (answer_in u.built.can.whole), last.0, refl, last.1))
 
     pub goes_whole : (d : ℕ) → d ≡ p.done + 1 → IsSound (record p { done = d; left = 0; building = None }) × TurnsTo (phase_in p) (phase_in (record p { done = d; left = 0; building = None })) (Done m)
     goes_whole d e = subst Whole (sym e) one_whole
@@ -118,23 +117,23 @@ module _ (p : Inside) where
 -- ---- what a turn does
 
 -- no more is built, and bases are kept
-pub stopped : (p : Inside) (gs : List Segmented) (bases : Bases) (rest : Option Building) → IsSound p → gs ≡ segments_in p → AreBases (request_view p.request.now) (blocks_in gs) bases → rest ≡ None → IsSound (record p { bases = bases; building = rest })
+pub stopped : (p : Inside) (gs : List Segmented) (bases : Bases) (rest : Option Building) → IsSound p → gs ≡ segments_in p → AreBases (request_view p.request.now) (pieces_in gs) bases → rest ≡ None → IsSound (record p { bases = bases; building = rest })
 stopped p gs bases rest sound same kept none =
-    subst (λ o. IsSound (record p { bases = bases; building = o })) (sym none) (record { under_way = tt; left = sound.left; bases = subst (λ g. AreBases (r p) (blocks_in g) bases) same kept })
+    subst (λ o. IsSound (record p { bases = bases; building = o })) (sym none) (record { under_way = tt; left = sound.left; bases = subst (λ g. AreBases (r p) (pieces_in g) bases) same kept })
 
 -- what is told of a unit, over the segments
 abbrev pub IsTold : Inside → List Segmented → Building → Gone → Type 0
 IsTold p gs b unit =
-    (s : Schema) → IsBuilt s gs p.request.now (ask_view p.ask) b → UnitDone s gs p.request.now (ask_view p.ask) (ended_by (request_view p.request.now) (blocks_in gs) (ask_view p.ask) b) (done_in b.job) unit
+    (s : Schema) → IsBuilt s gs p.request.now (ask_view p.ask) b → UnitDone s gs p.request.now (ask_view p.ask) (ended_by (request_view p.request.now) (pieces_in gs) (ask_view p.ask) b) (done_in b.job) unit
 
 module _ (p : Inside) (before : Phase) (view : phase_in p ≡ before) (gs : List Segmented) (b : Building) (unit : Gone) (sound : IsSound p) (is : p.building ≡ Some b) (same : gs ≡ segments_in p) (told : IsTold p gs b unit)
-    (bases : Bases) (kept : AreBases (request_view p.request.now) (blocks_in gs) bases) where
+    (bases : Bases) (kept : AreBases (request_view p.request.now) (pieces_in gs) bases) where
   -- with the bases that are kept now
   abbrev with_bases : Inside
   with_bases = record p { bases = bases }
 
   based : AreBases (r p) (V p) bases
-  based = subst (λ g. AreBases (r p) (blocks_in g) bases) same kept
+  based = subst (λ g. AreBases (r p) (pieces_in g) bases) same kept
 
   under_way : IsUnderWay p b
   under_way = subst (IsUnderWayIn p) is sound.under_way
@@ -167,8 +166,8 @@ module _ (p : Inside) (before : Phase) (view : phase_in p ≡ before) (gs : List
 -- what is told of the first top bucket's job, over its domain so far
 abbrev pub IsJobToldOf : Inside → TopJob → Sets → Type 0
 IsJobToldOf p job domain =
-    (s : Schema) (segments : List Segmented) (roots : Sets) → CanAnswer s segments p.request.now → FitsTop (nested_view p.request.now.root) (request_view p.request.now) (blocks_in segments) (ask_view p.ask) 0 domain
-    → IsTopJob s p.request.now (blocks_in segments) (ask_view p.ask) 0 roots job
+    (s : Schema) (segments : List Segmented) (roots : Sets) → CanAnswer s segments p.request.now → FitsTop (nested_view p.request.now.root) (request_view p.request.now) (pieces_in segments) (ask_view p.ask) 0 domain
+    → IsTopJob s p.request.now (pieces_in segments) (ask_view p.ask) 0 roots job
 
 module _ (s : Schema) (p : Inside) (b : Building) (job : TopJob) (jobs : ℕ) (domain : Sets) (can : CanAnswer s (segments_in p) p.request.now) (names : NamesKeys (request_view p.request.now).nodes (ask_view p.ask))
     (empty : domain ≡ []) (told : IsJobToldOf p job domain) (at : job.at ≡ 0) (roots : b.roots.items ≡ []) (buckets : b.buckets.items ≡ []) (levels : b.levels.items ≡ []) (top : b.job ≡ Top job)
@@ -179,7 +178,7 @@ module _ (s : Schema) (p : Inside) (b : Building) (job : TopJob) (jobs : ℕ) (d
   built : IsBuilt s (segments_in p) p.request.now (ask_view p.ask) b
   built = record {
     can = can;
-    roots = subst (AreFirst (map (base_set (r p) []) (V p))) (sym roots) refl;
+    roots = subst (AreFirst (map (base_of (r p) []) (V p))) (sym roots) refl;
     front = subst (λ bs. put (map bucket_view bs) (answer_from (r p) (V p) (ask_view p.ask) (length bs)) ≡ set_answer (r p) (V p) (ask_view p.ask)) (sym buckets) (from_first (r p) (V p) (ask_view p.ask));
     job = subst (IsJob s p.request.now (V p) (ask_view p.ask) (length b.buckets.items) b.roots.items b.levels.items) (sym top)
         (subst (λ bs. IsTopJob s p.request.now (V p) (ask_view p.ask) (length bs) b.roots.items job) (sym buckets) is_job, levels);
@@ -203,7 +202,7 @@ module _ (s : Schema) (p : Inside) (b : Building) (job : TopJob) (jobs : ℕ) (d
   under = record { schema = s; built = built; counted = counted; names = names }
 
   known_in : jobs ≡ top_buckets (answer_of (phase_in p)) + opened (answer_of (phase_in p))
-  known_in = known (V p) can.root ∙ ap (λ (a : Partials). top_buckets a + opened a) (sym (answer_in p))
+  known_in = known (V p) can.whole can.root ∙ ap (λ (a : Partials). top_buckets a + opened a) (sym (answer_in p can.whole))
 
   left_in : p.left ≡ left_of (phase_in p)
   left_in =

@@ -2,7 +2,6 @@
 use Rattle.std.proofs.Common.{◌≡◌, ◌⊎◌, ℕ, ◌+◌, ◌*◌, ◌<◌, List, [], ◌∷◌, ◌++◌, length, map, refl, sym, ◌∙◌, ap, subst, arith, inl, inr, length-append}
 use Rattle.std.proofs.lemmas.List.{append_assoc}
 use Rattle.fc_spec.specs.documents.Schema.{Schema}
-use Rattle.fc_spec.specs.documents.World.{World}
 use Rattle.fc_spec.specs.messages.Answer.{answer}
 use Rattle.fc_spec.specs.messages.Message.{Ask, Partials}
 use Rattle.fc_spec.specs.requests.Buckets.{Key}
@@ -14,7 +13,7 @@ use Rattle.fc_partial.specs.View.{key_view}
 use Rattle.fc_request.specs.RequestView.{request_view}
 use Rattle.fc_request.specs.declared.request.Request.{Request}
 use Rattle.fc_segment.specs.Segmented.{Segmented}
-use Rattle.fc_answers.specs.SetAnswer.{Scope, Sets, bucket_sets, inside, set_answer, set_rows}
+use Rattle.fc_answers.specs.SetAnswer.{AreWhole, Pieces, Scope, Sets, bucket_sets, inside, live_world, set_answer, set_rows}
 use Rattle.fc_answers.proofs.SetAnswers.{answers_from_sets}
 use Rattle.fc_levels.specs.Facets.{Nested, nested_view}
 use Rattle.fc_levels.specs.Jobs.{opened, opened_in_rows, opened_inside, openings, openings_of, units_each}
@@ -22,8 +21,9 @@ use Rattle.fc_levels.specs.Levels.{ended_in, plug, put}
 use Rattle.fc_levels.specs.declared.level.Level.{Level}
 use Rattle.fc_levels.proofs.CountedJobs.{jobs_are_counted}
 use Rattle.fc_levels.proofs.EndedFronts.{ended_is_front}
+use Rattle.fc_jobs.specs.Pieces.{pieces_in}
 use Rattle.fc_phase.specs.Asked.{answer_from, top_bucket, top_domain, top_scope}
-use Rattle.fc_phase.specs.Built.{IsBuilt, IsCountedUp, IsJob, blocks_in, done_in, ended, row_under_way, zeroed}
+use Rattle.fc_phase.specs.Built.{IsBuilt, IsCountedUp, IsJob, done_in, ended, row_under_way, zeroed}
 use Rattle.fc_phase.specs.Going.{IsFurther, IsPast, ended_by}
 use Rattle.fc_phase.specs.declared.building.Building.{Building}
 use Rattle.fc_phase.specs.declared.jobs.Job.{Job}
@@ -33,9 +33,9 @@ use Rattle.fc_phase.proofs.JobEnds.{some_ended}
 use Rattle.fc_phase.proofs.Opening.{openings-followed, openings-put, zeroed-append}
 use Rattle.fc_phase.proofs.Turning.{Shows, each_some, shown}
 
--- the answer of the blocks, however they are cut into segments
-pub answer_is : (r : definition.Request) (V : World) (ask : Ask) → answer r (joined V ∷ []) 0 ask ≡ set_answer r V ask
-answer_is r V ask = answers_from_sets r (joined V ∷ []) 0 V refl ask
+-- the answer of the live blocks, however they are cut into segments
+pub answer_is : (r : definition.Request) (V : Pieces) (ask : Ask) → AreWhole V → answer r (joined (live_world V) ∷ []) 0 ask ≡ set_answer r V ask
+answer_is r V ask are_whole = answers_from_sets r (joined (live_world V) ∷ []) 0 V are_whole refl ask
 
 -- ---- the jobs that have ended are the first of the answer's, and there is a next one
 abbrev HasNext : List ℕ → List ℕ → Type 0
@@ -45,10 +45,10 @@ apart : (L Z R T : List ℕ) (o : ℕ) → L ++ ((Z ++ o ∷ R) ++ T) ≡ (L ++ 
 apart L Z R T o = ap (λ l. L ++ l) (append_assoc Z (o ∷ R) T) ∙ sym (append_assoc L Z (o ∷ (R ++ T)))
 
 -- of one top bucket
-bucket_openings : (o : Scope) (V : World) (n : Nested) (k : Key) (D : Sets) → openings (top_bucket o V n k D) ≡ zeroed (openings_of (top_bucket o V n k D))
+bucket_openings : (o : Scope) (V : Pieces) (n : Nested) (k : Key) (D : Sets) → openings (top_bucket o V n k D) ≡ zeroed (openings_of (top_bucket o V n k D))
 bucket_openings o V n k D = refl
 
-in_bucket : (o : Scope) (V : World) (levels : List Level) (ps : Partials) (n : Nested) (k : Key) (D : Sets) → 0 < length levels → plug o V levels ps ≡ top_bucket o V n k D
+in_bucket : (o : Scope) (V : Pieces) (levels : List Level) (ps : Partials) (n : Nested) (k : Key) (D : Sets) → 0 < length levels → plug o V levels ps ≡ top_bucket o V n k D
     → HasNext (openings (top_bucket o V n k D)) (zeroed (ended_in o V levels ps))
 in_bucket o V levels ps n k D some e =
     let front = ended_is_front o V levels ps in (
@@ -57,7 +57,7 @@ in_bucket o V levels ps n k D some e =
       bucket_openings o V n k D ∙ ap (λ (qs : Partials). zeroed (openings_of qs)) (sym e) ∙ ap zeroed front.1 ∙ zeroed-append (ended_in o V levels ps) (openings_of ps ++ front.0) (some_ended o V levels ps some),
     )
 
-next_in : (s : Schema) (request : Request) (V : World) (ask : Ask) (buckets : List PartialBucket) (roots : Sets) (levels : List Level) (job : Job) → IsJob s request V ask (length buckets) roots levels job
+next_in : (s : Schema) (request : Request) (V : Pieces) (ask : Ask) (buckets : List PartialBucket) (roots : Sets) (levels : List Level) (job : Job) → IsJob s request V ask (length buckets) roots levels job
     → put (map bucket_view buckets) (answer_from (request_view request) V ask (length buckets)) ≡ set_answer (request_view request) V ask
     → HasNext (openings (set_answer (request_view request) V ask)) (ended (top_scope (request_view request) ask (length buckets)) V buckets levels job)
 next_in s request V ask buckets roots levels (Top job) is front =
@@ -90,8 +90,8 @@ module _ (s : Schema) (segments : List Segmented) (request : Request) (ask : Ask
   abbrev r : definition.Request
   r = request_view request
 
-  abbrev V : World
-  V = blocks_in segments
+  abbrev V : Pieces
+  V = pieces_in segments
 
   abbrev a : Partials
   a = set_answer r V ask

@@ -1,16 +1,13 @@
--- The top buckets of an answer, by their numbers, over the segments' lists of blocks V.
+-- The top buckets of an answer, by their numbers, over the segments V.
 use Rattle.std.specs.Prelude.{◌≡◌, ℕ, zero, suc, ◌+◌, List, [], ◌∷◌, length, map, drop, Bool, Some}
-use Rattle.fc_spec.specs.documents.Document.{Block}
 use Rattle.fc_spec.specs.documents.Sets.{places_at}
-use Rattle.fc_spec.specs.documents.World.{World}
 use Rattle.fc_spec.specs.messages.Message.{Ask, first, more, Partials, no_partials, partial, Want, Way}
 use Rattle.fc_spec.specs.messages.Target.{facet_at}
 use Rattle.fc_spec.specs.requests.Buckets.{Key, whole}
-use Rattle.fc_spec.specs.requests.DomainSets.{base_set}
 use Rattle.fc_spec.specs.requests.Paths.{at_root}
 use Rattle.fc_spec.specs.requests.Request.{Facet, Request, stats_of}
 use Rattle.fc_spec.specs.requests.Statistics.{stats_over}
-use Rattle.fc_answers.specs.SetAnswer.{Scope, Sets, bucket_sets, inside, scope_on, set_answer, set_rows, set_wants}
+use Rattle.fc_answers.specs.SetAnswer.{Piece, Pieces, Scope, Sets, base_of, bucket_sets, inside, scope_on, set_answer, set_rows, set_wants, whole_world}
 use Rattle.fc_levels.specs.Facets.{Nested}
 use Rattle.fc_jobs.specs.Gathered.{AreFirst}
 use Rattle.fc_jobs.specs.Walked.{domain_set, nodes_from, scope_along, walked}
@@ -56,21 +53,21 @@ top_scope r first i = scope_on r at_root
 top_scope r (more wants) i = scope_along (scope_on r at_root) r.nodes (path_at wants i)
 
 -- its domain in a segment, and in each of them
-abbrev pub top_set : Request → Ask → ℕ → Facet → List Block → List Bool
-top_set r first i f blocks = base_set r [] blocks
-top_set r (more wants) i f blocks = domain_set (top_scope r (more wants) i) blocks f (walked (scope_on r at_root) blocks r.nodes (base_set r [] blocks) (path_at wants i))
+abbrev pub top_set : Request → Ask → ℕ → Facet → Piece → List Bool
+top_set r first i f p = base_of r [] p
+top_set r (more wants) i f p = domain_set (top_scope r (more wants) i) p f (walked (scope_on r at_root) p r.nodes (base_of r [] p) (path_at wants i))
 
-abbrev pub top_domain : Request → World → Ask → ℕ → Facet → Sets
+abbrev pub top_domain : Request → Pieces → Ask → ℕ → Facet → Sets
 top_domain r V ask i f = map (top_set r ask i f) V
 
 -- sets that are there before the job begins are the first of the domain
-abbrev pub FitsTop : (root : Nested) → Request → World → Ask → ℕ → Sets → Type 0
+abbrev pub FitsTop : (root : Nested) → Request → Pieces → Ask → ℕ → Sets → Type 0
 FitsTop root r V ask i domain = (n : Nested) → IsAskedFacet root r ask i n → AreFirst (top_domain r V ask i n.0) domain
 
 -- a bucket of a facet by itself, from the facet's domain, in the scope around the facet
-abbrev pub top_bucket : Scope → World → Nested → Key → Sets → Partials
+abbrev pub top_bucket : Scope → Pieces → Nested → Key → Sets → Partials
 top_bucket o V n k D =
-    partial k (stats_over (stats_of n.1) (places_at V (bucket_sets V n.0.kind k D))) (set_rows (inside o n.0 k) V n.1 (bucket_sets V n.0.kind k D)) no_partials
+    partial k (stats_over (stats_of n.1) (places_at (whole_world V) (bucket_sets V n.0.kind k D))) (set_rows (inside o n.0 k) V n.1 (bucket_sets V n.0.kind k D)) no_partials
 
 -- buckets, then others
 abbrev pub followed : Partials → Partials → Partials
@@ -78,11 +75,11 @@ followed no_partials others = others
 followed (partial k stats rows rest) others = partial k stats rows (followed rest others)
 
 -- the answer from a top bucket on
-abbrev pub answer_from : Request → World → Ask → ℕ → Partials
+abbrev pub answer_from : Request → Pieces → Ask → ℕ → Partials
 answer_from r V first zero = set_answer r V first
 answer_from r V first (suc i) = no_partials
 answer_from r V (more wants) i = set_wants r V (drop i wants)
 
 -- the top bucket with this number is that of the key of the facet
-abbrev pub IsTop : Request → World → Ask → ℕ → Nested → Key → Type 0
+abbrev pub IsTop : Request → Pieces → Ask → ℕ → Nested → Key → Type 0
 IsTop r V ask i n k = answer_from r V ask i ≡ followed (top_bucket (top_scope r ask i) V n k (top_domain r V ask i n.0)) (answer_from r V ask (i + 1))

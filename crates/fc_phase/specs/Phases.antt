@@ -16,7 +16,7 @@ use Rattle.futures.specs.declared.task.Poll.TheVariants.{Ready, Pending as Waiti
 use Rattle.fc_phase.specs.declared.turn.Turn.{Turn}
 use Rattle.fc_phase.specs.declared.turn.Turn.TheVariants.{Done, Pending}
 
--- the request and the ask, the shard's blocks and how many segments they are cut into; how many units are done, and whether it is over
+-- the request and the ask, the shard's blocks and how many segments they stand in; how many units are done, and whether it is over
 pub record Phase : Type 0 where
   pub request : Request
   pub ask : Ask

@@ -1,9 +1,9 @@
 // The facets around the bucket that is open.
 ghost use Rattle.std.specs.Prelude.{◌≡◌, ◌<◌, All, Bool, IfOk, List};
-ghost use Rattle.fc_spec.specs.documents.Document.{Block};
 ghost use Rattle.fc_request.specs.FacetNode.{facet_view};
 ghost use Rattle.fc_request.specs.RequestView.{request_view};
 ghost use Rattle.fc_refine.specs.AskView.{ask_view};
+ghost use Rattle.fc_answers.specs.SetAnswer.{Piece};
 ghost use Rattle.fc_jobs.specs.FacetFits.{AllFit};
 ghost use Rattle.fc_jobs.specs.Scopes.{AllEnclosingFit, KeyFits, scope_over};
 ghost use Rattle.fc_jobs.specs.Walked.{domain_set};
@@ -80,9 +80,9 @@ pub(crate) fn enclosing_for<'a, 'b>(
 ) -> Result<Vec<Enclosing<'a, 'b>>, WantMemory>
     requires number { number < asked_count (ask_view ask.now) }
     requires names { NamesKeys (request_view request.now).nodes (ask_view ask.now) }
-    ensures domain { IfOk result (λ enclosing. (blocks : List Block) (set : List Bool)
-        → domain_set (scope_over (request_view request.now) enclosing.items) blocks (facet_view node.now) set
-        ≡ domain_set (scope_in (top_scope (request_view request.now) (ask_view ask.now) number) levels.now) blocks (facet_view node.now) set) }
+    ensures domain { IfOk result (λ enclosing. (p : Piece) (set : List Bool)
+        → domain_set (scope_over (request_view request.now) enclosing.items) p (facet_view node.now) set
+        ≡ domain_set (scope_in (top_scope (request_view request.now) (ask_view ask.now) number) levels.now) p (facet_view node.now) set) }
     ensures fit { IfOk result (λ enclosing. (texts : List Bool) → AllFit texts (request_view request.now).nodes
         → All (λ l. KeyFits texts l.node.now (key_view l.key)) levels.now → AllEnclosingFit texts enclosing.items) }
 {

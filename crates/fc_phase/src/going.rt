@@ -2,7 +2,6 @@
 ghost use Rattle.std.specs.Prelude.{◌≡◌, ◌⊎◌, ◌<◌, ◌≤◌, ◌++◌, [], IfOk, IsTrue, List, ℕ, length, map};
 ghost use Rattle.std.specs.Arc.{arc_value};
 ghost use Rattle.fc_spec.specs.documents.Schema.{Schema};
-ghost use Rattle.fc_spec.specs.requests.DomainSets.{base_set};
 ghost use Rattle.fc_spec.specs.requests.Request.{stats_of};
 ghost use Rattle.fc_partial.specs.BucketView.{bucket_view, linked};
 ghost use Rattle.fc_request.specs.FacetNode.{has_buckets, kind_of};
@@ -10,17 +9,18 @@ ghost use Rattle.fc_request.specs.NodeView.{inner_view};
 ghost use Rattle.fc_request.specs.RequestView.{request_view};
 ghost use Rattle.fc_refine.specs.AskView.{ask_view};
 ghost use Rattle.fc_kind.specs.Names.{Covers};
-ghost use Rattle.fc_answers.specs.SetAnswer.{Sets};
+ghost use Rattle.fc_answers.specs.SetAnswer.{Sets, base_of};
 ghost use Rattle.fc_segment.specs.Segmented.{Segmented};
 ghost use Rattle.fc_jobs.specs.BasesKept.{AreBases};
 ghost use Rattle.fc_jobs.specs.Gathered.{AreFirst};
 ghost use Rattle.fc_levels.specs.Facets.{nested_view};
 ghost use Rattle.fc_levels.specs.Jobs.{openings, units_each};
 ghost use Rattle.fc_levels.specs.Levels.{ended_in};
+ghost use Rattle.fc_jobs.specs.Pieces.{pieces_in};
 ghost use Rattle.fc_phase.specs.Asked as asked;
 ghost use Rattle.fc_refine.specs.Named.{NamesKeys};
 ghost use Rattle.fc_phase.specs.Asked.{FitsTop, HasSameDomain, top_scope};
-ghost use Rattle.fc_phase.specs.Built.{CanAnswer, IsBuilt, IsTopJob, IsUnder, blocks_in, done_in, row_under_way, zeroed};
+ghost use Rattle.fc_phase.specs.Built.{CanAnswer, IsBuilt, IsTopJob, IsUnder, done_in, row_under_way, zeroed};
 ghost use Rattle.fc_phase.specs.Going.{AreFront, Begins, Ends, GoesOn, UnitDone, ended_by, known_already, opened_by};
 ghost use Rattle.fc_phase.specs.Stepping.{IsOneFurther, StandsAtFacet, StandsAtTop};
 
@@ -60,8 +60,8 @@ pub(crate) fn top_job<'a>(
     requires names { NamesKeys (request_view request.now).nodes (ask_view ask.now) }
     ensures begun { IfOk result (λ job. (s : Schema) (segments : List Segmented) (roots : Sets)
         → CanAnswer s segments request.now
-        → FitsTop (nested_view request.now.root) (request_view request.now) (blocks_in segments) (ask_view ask.now) number domain.items
-        → IsTopJob s request.now (blocks_in segments) (ask_view ask.now) number roots job) }
+        → FitsTop (nested_view request.now.root) (request_view request.now) (pieces_in segments) (ask_view ask.now) number domain.items
+        → IsTopJob s request.now (pieces_in segments) (ask_view ask.now) number roots job) }
     ensures at { IfOk result (λ job. job.at ≡ 0) }
 {
     let node = asked_node(request, ask, number);
@@ -115,10 +115,10 @@ fn next_top<'a>(
 ) -> Result<Gone<'a>, WantMemory>
     requires names { NamesKeys (request_view request.now).nodes (ask_view ask.now) }
     ensures { IfOk result (λ gone. (s : Schema) (segments : List Segmented) → CanAnswer s segments request.now
-        → AreFirst (map (base_set (request_view request.now) []) (blocks_in segments)) roots.items
-        → AreFront (request_view request.now) (blocks_in segments) (ask_view ask.now) buckets.items
+        → AreFirst (map (base_of (request_view request.now) []) (pieces_in segments)) roots.items
+        → AreFront (request_view request.now) (pieces_in segments) (ask_view ask.now) buckets.items
         → (HasSameDomain (ask_view ask.now) (length buckets.items)
-        → FitsTop (nested_view request.now.root) (request_view request.now) (blocks_in segments) (ask_view ask.now) (length buckets.items) domain.items)
+        → FitsTop (nested_view request.now.root) (request_view request.now) (pieces_in segments) (ask_view ask.now) (length buckets.items) domain.items)
         → Begins s segments request.now (ask_view ask.now) buckets.items gone) }
 {
     let number = buckets.len();
@@ -149,8 +149,8 @@ fn after_job<'a>(
 ) -> Result<Gone<'a>, WantMemory>
     requires names { NamesKeys (request_view request.now).nodes (ask_view ask.now) }
     ensures { IfOk result (λ gone. (s : Schema) (segments : List Segmented) (before : List ℕ) → CanAnswer s segments request.now
-        → AreFirst (map (base_set (request_view request.now) []) (blocks_in segments)) roots.items
-        → AreFront (request_view request.now) (blocks_in segments) (ask_view ask.now) buckets.items
+        → AreFirst (map (base_of (request_view request.now) []) (pieces_in segments)) roots.items
+        → AreFront (request_view request.now) (pieces_in segments) (ask_view ask.now) buckets.items
         → Ends s segments request.now (ask_view ask.now) (length buckets.items) before levels.entry.items next.entry
         → GoesOn s segments request.now (ask_view ask.now) (openings (linked (map bucket_view buckets.items)) ++ before) (opened_by next.entry) gone) }
 {
@@ -197,7 +197,7 @@ fn top_done<'a>(
     ensures { IfOk result (λ gone. (s : Schema) (cut : List Segmented)
         → StandsAtTop s cut request.now (ask_view ask.now) (length buckets.items) roots.items job.entry
         → length cut ≤ job.entry.at
-        → AreFront (request_view request.now) (blocks_in cut) (ask_view ask.now) buckets.items
+        → AreFront (request_view request.now) (pieces_in cut) (ask_view ask.now) buckets.items
         → (k : ℕ) × GoesOn s cut request.now (ask_view ask.now) (openings (linked (map bucket_view buckets.items))) k gone) }
 {
     let TopJob {
@@ -229,7 +229,7 @@ fn top_followed<'a>(
     ensures { IfOk result (λ gone. (s : Schema) (cut : List Segmented) (done : ℕ) → length cut ≡ segments
         → done < units_each (length cut) → IsOneFurther (length cut) done job.entry.at
         → StandsAtTop s cut request.now (ask_view ask.now) (length buckets.items) roots.items job.entry
-        → AreFront (request_view request.now) (blocks_in cut) (ask_view ask.now) buckets.items
+        → AreFront (request_view request.now) (pieces_in cut) (ask_view ask.now) buckets.items
         → UnitDone s cut request.now (ask_view ask.now) (openings (linked (map bucket_view buckets.items))) done gone) }
 {
     if job.at < segments {
@@ -262,12 +262,12 @@ fn top_unit<'a>(
     requires names { NamesKeys (request_view request.now).nodes (ask_view ask.now) }
     requires stands { (s : Schema) × StandsAtTop s (map arc_value segments.now) request.now (ask_view ask.now) (length buckets.items) roots.items job }
     requires within { job.at < units_each (length segments.now) }
-    requires bases { AreBases (request_view request.now) (blocks_in (map arc_value segments.now)) bases.old }
+    requires bases { AreBases (request_view request.now) (pieces_in (map arc_value segments.now)) bases.old }
     ensures gone { IfOk result (λ gone. (s : Schema)
         → StandsAtTop s (map arc_value segments.now) request.now (ask_view ask.now) (length buckets.items) roots.items job.entry
-        → AreFront (request_view request.now) (blocks_in (map arc_value segments.now)) (ask_view ask.now) buckets.items
+        → AreFront (request_view request.now) (pieces_in (map arc_value segments.now)) (ask_view ask.now) buckets.items
         → UnitDone s (map arc_value segments.now) request.now (ask_view ask.now) (openings (linked (map bucket_view buckets.items))) job.entry.at gone) }
-    ensures bases { AreBases (request_view request.now) (blocks_in (map arc_value segments.now)) bases.new }
+    ensures bases { AreBases (request_view request.now) (pieces_in (map arc_value segments.now)) bases.new }
 {
     let number = buckets.len();
     top_segment(
@@ -291,13 +291,13 @@ fn facet_done<'a>(
     ensures { IfOk result (λ gone. (s : Schema) (cut : List Segmented)
         → StandsAtFacet s cut request.now (ask_view ask.now) (length buckets.items) levels.entry.items job.entry
         → length cut ≤ length job.entry.domain.items
-        → AreFirst (map (base_set (request_view request.now) []) (blocks_in cut)) roots.items
-        → AreFront (request_view request.now) (blocks_in cut) (ask_view ask.now) buckets.items
-        → IsUnder request.now (blocks_in cut) (ask_view ask.now) (length buckets.items) levels.entry.items
-        (row_under_way (top_scope (request_view request.now) (ask_view ask.now) (length buckets.items)) (blocks_in cut) levels.entry.items job.entry)
+        → AreFirst (map (base_of (request_view request.now) []) (pieces_in cut)) roots.items
+        → AreFront (request_view request.now) (pieces_in cut) (ask_view ask.now) buckets.items
+        → IsUnder request.now (pieces_in cut) (ask_view ask.now) (length buckets.items) levels.entry.items
+        (row_under_way (top_scope (request_view request.now) (ask_view ask.now) (length buckets.items)) (pieces_in cut) levels.entry.items job.entry)
         → (k : ℕ) × GoesOn s cut request.now (ask_view ask.now)
-        (openings (linked (map bucket_view buckets.items)) ++ zeroed (ended_in (top_scope (request_view request.now) (ask_view ask.now) (length buckets.items)) (blocks_in cut) levels.entry.items
-        (row_under_way (top_scope (request_view request.now) (ask_view ask.now) (length buckets.items)) (blocks_in cut) levels.entry.items job.entry))) k gone) }
+        (openings (linked (map bucket_view buckets.items)) ++ zeroed (ended_in (top_scope (request_view request.now) (ask_view ask.now) (length buckets.items)) (pieces_in cut) levels.entry.items
+        (row_under_way (top_scope (request_view request.now) (ask_view ask.now) (length buckets.items)) (pieces_in cut) levels.entry.items job.entry))) k gone) }
 {
     let FacetJob {
         node,
@@ -325,13 +325,13 @@ fn facet_followed<'a>(
     ensures { IfOk result (λ gone. (s : Schema) (cut : List Segmented) (done : ℕ) → length cut ≡ segments
         → done < units_each (length cut) → IsOneFurther (length cut) done (length job.entry.domain.items)
         → StandsAtFacet s cut request.now (ask_view ask.now) (length buckets.items) levels.entry.items job.entry
-        → AreFirst (map (base_set (request_view request.now) []) (blocks_in cut)) roots.items
-        → AreFront (request_view request.now) (blocks_in cut) (ask_view ask.now) buckets.items
-        → IsUnder request.now (blocks_in cut) (ask_view ask.now) (length buckets.items) levels.entry.items
-        (row_under_way (top_scope (request_view request.now) (ask_view ask.now) (length buckets.items)) (blocks_in cut) levels.entry.items job.entry)
+        → AreFirst (map (base_of (request_view request.now) []) (pieces_in cut)) roots.items
+        → AreFront (request_view request.now) (pieces_in cut) (ask_view ask.now) buckets.items
+        → IsUnder request.now (pieces_in cut) (ask_view ask.now) (length buckets.items) levels.entry.items
+        (row_under_way (top_scope (request_view request.now) (ask_view ask.now) (length buckets.items)) (pieces_in cut) levels.entry.items job.entry)
         → UnitDone s cut request.now (ask_view ask.now)
-        (openings (linked (map bucket_view buckets.items)) ++ zeroed (ended_in (top_scope (request_view request.now) (ask_view ask.now) (length buckets.items)) (blocks_in cut) levels.entry.items
-        (row_under_way (top_scope (request_view request.now) (ask_view ask.now) (length buckets.items)) (blocks_in cut) levels.entry.items job.entry))) done gone) }
+        (openings (linked (map bucket_view buckets.items)) ++ zeroed (ended_in (top_scope (request_view request.now) (ask_view ask.now) (length buckets.items)) (pieces_in cut) levels.entry.items
+        (row_under_way (top_scope (request_view request.now) (ask_view ask.now) (length buckets.items)) (pieces_in cut) levels.entry.items job.entry))) done gone) }
 {
     if job.domain.len() < segments {
         let building = Building {
@@ -363,18 +363,18 @@ fn facet_unit_done<'a>(
     requires names { NamesKeys (request_view request.now).nodes (ask_view ask.now) }
     requires stands { (s : Schema) × StandsAtFacet s (map arc_value segments.now) request.now (ask_view ask.now) (length buckets.items) levels.items job }
     requires within { length job.domain.items < units_each (length segments.now) }
-    requires bases { AreBases (request_view request.now) (blocks_in (map arc_value segments.now)) bases.old }
+    requires bases { AreBases (request_view request.now) (pieces_in (map arc_value segments.now)) bases.old }
     ensures gone { IfOk result (λ gone. (s : Schema)
         → StandsAtFacet s (map arc_value segments.now) request.now (ask_view ask.now) (length buckets.items) levels.entry.items job.entry
-        → AreFirst (map (base_set (request_view request.now) []) (blocks_in (map arc_value segments.now))) roots.items
-        → AreFront (request_view request.now) (blocks_in (map arc_value segments.now)) (ask_view ask.now) buckets.items
-        → IsUnder request.now (blocks_in (map arc_value segments.now)) (ask_view ask.now) (length buckets.items) levels.entry.items
-        (row_under_way (top_scope (request_view request.now) (ask_view ask.now) (length buckets.items)) (blocks_in (map arc_value segments.now)) levels.entry.items job.entry)
+        → AreFirst (map (base_of (request_view request.now) []) (pieces_in (map arc_value segments.now))) roots.items
+        → AreFront (request_view request.now) (pieces_in (map arc_value segments.now)) (ask_view ask.now) buckets.items
+        → IsUnder request.now (pieces_in (map arc_value segments.now)) (ask_view ask.now) (length buckets.items) levels.entry.items
+        (row_under_way (top_scope (request_view request.now) (ask_view ask.now) (length buckets.items)) (pieces_in (map arc_value segments.now)) levels.entry.items job.entry)
         → UnitDone s (map arc_value segments.now) request.now (ask_view ask.now)
-        (openings (linked (map bucket_view buckets.items)) ++ zeroed (ended_in (top_scope (request_view request.now) (ask_view ask.now) (length buckets.items)) (blocks_in (map arc_value segments.now)) levels.entry.items
-        (row_under_way (top_scope (request_view request.now) (ask_view ask.now) (length buckets.items)) (blocks_in (map arc_value segments.now)) levels.entry.items job.entry)))
+        (openings (linked (map bucket_view buckets.items)) ++ zeroed (ended_in (top_scope (request_view request.now) (ask_view ask.now) (length buckets.items)) (pieces_in (map arc_value segments.now)) levels.entry.items
+        (row_under_way (top_scope (request_view request.now) (ask_view ask.now) (length buckets.items)) (pieces_in (map arc_value segments.now)) levels.entry.items job.entry)))
         (length job.entry.domain.items) gone) }
-    ensures bases { AreBases (request_view request.now) (blocks_in (map arc_value segments.now)) bases.new }
+    ensures bases { AreBases (request_view request.now) (pieces_in (map arc_value segments.now)) bases.new }
 {
     let number = buckets.len();
     facet_segment(
@@ -406,11 +406,11 @@ pub(crate) fn unit_done<'a>(
     requires names { NamesKeys (request_view request.now).nodes (ask_view ask.now) }
     requires built { (s : Schema) × IsBuilt s (map arc_value segments.now) request.now (ask_view ask.now) building }
     requires within { done_in building.job < units_each (length segments.now) }
-    requires bases { AreBases (request_view request.now) (blocks_in (map arc_value segments.now)) bases.old }
+    requires bases { AreBases (request_view request.now) (pieces_in (map arc_value segments.now)) bases.old }
     ensures gone { IfOk result (λ gone. (s : Schema) → IsBuilt s (map arc_value segments.now) request.now (ask_view ask.now) building.entry
         → UnitDone s (map arc_value segments.now) request.now (ask_view ask.now)
-        (ended_by (request_view request.now) (blocks_in (map arc_value segments.now)) (ask_view ask.now) building.entry) (done_in building.entry.job) gone) }
-    ensures bases { AreBases (request_view request.now) (blocks_in (map arc_value segments.now)) bases.new }
+        (ended_by (request_view request.now) (pieces_in (map arc_value segments.now)) (ask_view ask.now) building.entry) (done_in building.entry.job) gone) }
+    ensures bases { AreBases (request_view request.now) (pieces_in (map arc_value segments.now)) bases.new }
 {
     let Building {
         roots,

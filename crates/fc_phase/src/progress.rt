@@ -6,10 +6,12 @@ ghost use Rattle.fc_spec.specs.words.Lists.{joined};
 ghost use Rattle.fc_request.specs.RequestView.{request_view};
 ghost use Rattle.fc_refine.specs.AskView.{ask_view};
 ghost use Rattle.fc_kind.specs.Names.{Covers};
+ghost use Rattle.fc_answers.specs.SetAnswer.{live_world};
 ghost use Rattle.fc_levels.specs.Jobs.{units_each};
+ghost use Rattle.fc_jobs.specs.Pieces.{pieces_in};
 ghost use Rattle.fc_phase.specs.Asked as asked;
 ghost use Rattle.fc_refine.specs.Named.{NamesKeys};
-ghost use Rattle.fc_phase.specs.Built.{CanAnswer, blocks_in};
+ghost use Rattle.fc_phase.specs.Built.{CanAnswer};
 ghost use Rattle.fc_phase.specs.FirstJobs.{FirstJobs};
 ghost use Rattle.fc_phase.specs.Phases.{Turned};
 
@@ -118,7 +120,7 @@ impl<'a> Progress<'a> {
         ensures { IfOk result (λ progress. progress ≡ record {
           request = request.now;
           ask = ask;
-          blocks = joined (blocks_in (map arc_value segments.items));
+          blocks = joined (live_world (pieces_in (map arc_value segments.items)));
           segments = length segments.items;
           done = 0;
           spent = false;

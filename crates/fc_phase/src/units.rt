@@ -1,18 +1,19 @@
 // One segment of a job.
 ghost use Rattle.std.specs.Prelude.{◌≡◌, ◌≢◌, ◌⊎◌, ◌<◌, ◌≤◌, ◌+◌, ◌-◌, ◌++◌, ◌∷◌, [], IfOk, OnOk, MatchOption, drop, length, map, slice_index_or};
 ghost use Rattle.std.specs.Arc.{arc_value};
+ghost use Rattle.fc_spec.specs.documents.Live.{HasWholeBlocks};
 ghost use Rattle.fc_spec.specs.documents.Schema.{Schema};
-ghost use Rattle.fc_spec.specs.requests.DomainSets.{base_set};
 ghost use Rattle.fc_request.specs.FacetNode.{facet_view};
 ghost use Rattle.fc_request.specs.RequestView.{request_view};
 ghost use Rattle.fc_domain.specs.FieldsFit.{BaseFits, ChangeFits};
 ghost use Rattle.fc_kind.specs.Names.{Covers};
 ghost use Rattle.fc_refine.specs.AskView.{ask_view};
+ghost use Rattle.fc_answers.specs.SetAnswer.{base_of};
 ghost use Rattle.fc_jobs.specs.BasesKept.{AreBases, AreBasesAt, StayBases};
 ghost use Rattle.fc_jobs.specs.FacetFits.{AllFit};
 ghost use Rattle.fc_refine.specs.Named.{NamesKeys};
+ghost use Rattle.fc_jobs.specs.Pieces.{piece_of, pieces_in};
 ghost use Rattle.fc_phase.specs.Asked.{asked_count, top_set};
-ghost use Rattle.fc_phase.specs.Built.{blocks_in};
 ghost use Rattle.fc_phase.specs.Stepping.{IsFacetStep, IsTopStep, StandsAtFacet, StandsAtTop};
 
 use crate::asked::want_at;
@@ -33,7 +34,7 @@ use std::sync::Arc;
 // The base of the request in a segment.
 fn base_of(alloc: Global, request: &Request, segment: &Segment) -> Result<DocSet, WantMemory>
     requires { BaseFits segment.now.texts (request_view request.now) }
-    ensures { IfOk result (λ docs. docs ≡ base_set (request_view request.now) [] segment.now.blocks) }
+    ensures { IfOk result (λ docs. docs ≡ base_of (request_view request.now) [] (piece_of segment.now)) }
 {
     let mut docs = DocSet::empty(alloc, segment.doc_count())?;
     base(alloc, segment, request, &[], &mut docs)?;
@@ -50,11 +51,11 @@ fn reach(
 ) -> Result<DocSet, WantMemory>
     requires fits { BaseFits segment.now.texts (request_view request.now) }
     requires there { at < length roots.old.items
-        → slice_index_or roots.old.items at [] ≡ base_set (request_view request.now) [] segment.now.blocks }
-    ensures docs { IfOk result (λ docs. docs ≡ base_set (request_view request.now) [] segment.now.blocks) }
+        → slice_index_or roots.old.items at [] ≡ base_of (request_view request.now) [] (piece_of segment.now) }
+    ensures docs { IfOk result (λ docs. docs ≡ base_of (request_view request.now) [] (piece_of segment.now)) }
     ensures same { length roots.old.items ≢ at → roots.new.items ≡ roots.old.items }
     ensures put { OnOk result (length roots.old.items ≡ at
-        → roots.new.items ≡ roots.old.items ++ base_set (request_view request.now) [] segment.now.blocks ∷ []) }
+        → roots.new.items ≡ roots.old.items ++ base_of (request_view request.now) [] (piece_of segment.now) ∷ []) }
 {
     if at < roots.len() {
         return Ok(roots[at].copy(alloc)?);
@@ -84,13 +85,14 @@ fn wanted_domain<'a>(
     requires covers { Covers (map name kinds.now) }
     requires base { BaseFits segment.now.texts (request_view request.now) }
     requires fit { AllFit segment.now.texts (request_view request.now).nodes }
-    requires docs { base_docs.now ≡ base_set (request_view request.now) [] segment.now.blocks }
+    requires whole { HasWholeBlocks segment.now.blocks segment.now.live }
+    requires docs { base_docs.now ≡ base_of (request_view request.now) [] (piece_of segment.now) }
     requires number { number < asked_count (ask_view ask.now) }
     requires names { NamesKeys (request_view request.now).nodes (ask_view ask.now) }
     requires change { ChangeFits segment.now.texts (facet_view node.now).change }
-    requires kept { AreBasesAt (request_view request.now) at segment.now.blocks bases.old }
-    ensures set { IfOk result (λ set. set ≡ top_set (request_view request.now) (ask_view ask.now) number (facet_view node.now) segment.now.blocks) }
-    ensures kept { StayBases (request_view request.now) at segment.now.blocks bases.old bases.new }
+    requires kept { AreBasesAt (request_view request.now) at (piece_of segment.now) bases.old }
+    ensures set { IfOk result (λ set. set ≡ top_set (request_view request.now) (ask_view ask.now) number (facet_view node.now) (piece_of segment.now)) }
+    ensures kept { StayBases (request_view request.now) at (piece_of segment.now) bases.old bases.new }
 {
     match ask {
         Ask::First => Ok(base_docs.copy(alloc)?),
@@ -131,15 +133,16 @@ fn look_at<'a>(
     requires number { number < asked_count (ask_view ask.now) }
     requires names { NamesKeys (request_view request.now).nodes (ask_view ask.now) }
     requires change { ChangeFits segment.now.texts (facet_view node.now).change }
+    requires whole { HasWholeBlocks segment.now.blocks segment.now.live }
     requires there { at < length roots.old.items
-        → slice_index_or roots.old.items at [] ≡ base_set (request_view request.now) [] segment.now.blocks }
-    requires kept { AreBasesAt (request_view request.now) at segment.now.blocks bases.old }
+        → slice_index_or roots.old.items at [] ≡ base_of (request_view request.now) [] (piece_of segment.now) }
+    requires kept { AreBasesAt (request_view request.now) at (piece_of segment.now) bases.old }
     ensures roots { OnOk result ((roots.new.items ≡ roots.old.items)
-        ⊎ ((length roots.old.items ≡ at) × (roots.new.items ≡ roots.old.items ++ base_set (request_view request.now) [] segment.now.blocks ∷ []))) }
+        ⊎ ((length roots.old.items ≡ at) × (roots.new.items ≡ roots.old.items ++ base_of (request_view request.now) [] (piece_of segment.now) ∷ []))) }
     ensures domain { OnOk result (((at < length domain.old.items) × (domain.new.items ≡ domain.old.items))
         ⊎ ((length domain.old.items ≤ at) × (domain.new.items ≡ domain.old.items
-        ++ top_set (request_view request.now) (ask_view ask.now) number (facet_view node.now) segment.now.blocks ∷ []))) }
-    ensures kept { StayBases (request_view request.now) at segment.now.blocks bases.old bases.new }
+        ++ top_set (request_view request.now) (ask_view ask.now) number (facet_view node.now) (piece_of segment.now) ∷ []))) }
+    ensures kept { StayBases (request_view request.now) at (piece_of segment.now) bases.old bases.new }
 {
     if at < domain.len() {
         return Ok(());
@@ -187,10 +190,10 @@ pub(crate) fn top_segment<'a>(
     requires number { number < asked_count (ask_view ask.now) }
     requires names { NamesKeys (request_view request.now).nodes (ask_view ask.now) }
     requires stands { (s : Schema) × StandsAtTop s (map arc_value segments.now) request.now (ask_view ask.now) number roots.old.items job.old }
-    requires bases { AreBases (request_view request.now) (blocks_in (map arc_value segments.now)) bases.old }
+    requires bases { AreBases (request_view request.now) (pieces_in (map arc_value segments.now)) bases.old }
     ensures stepped { OnOk result ((s : Schema) → StandsAtTop s (map arc_value segments.now) request.now (ask_view ask.now) number roots.old.items job.old
         → IsTopStep s (map arc_value segments.now) request.now (ask_view ask.now) number roots.new.items job.old job.new) }
-    ensures bases { AreBases (request_view request.now) (blocks_in (map arc_value segments.now)) bases.new }
+    ensures bases { AreBases (request_view request.now) (pieces_in (map arc_value segments.now)) bases.new }
 {
     let at = job.at;
     let Some(segment) = segment_at(segments, at) else {
@@ -239,10 +242,10 @@ pub(crate) fn facet_segment<'a>(
     requires number { number < asked_count (ask_view ask.now) }
     requires names { NamesKeys (request_view request.now).nodes (ask_view ask.now) }
     requires stands { (s : Schema) × StandsAtFacet s (map arc_value segments.now) request.now (ask_view ask.now) number levels.now job.old }
-    requires bases { AreBases (request_view request.now) (blocks_in (map arc_value segments.now)) bases.old }
+    requires bases { AreBases (request_view request.now) (pieces_in (map arc_value segments.now)) bases.old }
     ensures stepped { OnOk result ((s : Schema) → StandsAtFacet s (map arc_value segments.now) request.now (ask_view ask.now) number levels.now job.old
         → IsFacetStep s (map arc_value segments.now) request.now (ask_view ask.now) number levels.now job.old job.new) }
-    ensures bases { AreBases (request_view request.now) (blocks_in (map arc_value segments.now)) bases.new }
+    ensures bases { AreBases (request_view request.now) (pieces_in (map arc_value segments.now)) bases.new }
 {
     let at = job.domain.len();
     let Some(segment) = segment_at(segments, at) else {

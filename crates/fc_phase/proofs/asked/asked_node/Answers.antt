@@ -9,11 +9,11 @@ use Rattle.fc_request.specs.NodeView.{nodes_view}
 use Rattle.fc_request.specs.RequestView.{request_view}
 use Rattle.fc_refine.specs.AskView.{ask_view, want_view, way_view}
 use Rattle.fc_levels.specs.Facets.{nested_view}
+use Rattle.fc_jobs.specs.Walked.{nodes_from}
 use Rattle.fc_phase.specs.Asked as asked
 use Rattle.fc_refine.specs.Named.{NamesKeys}
 use Rattle.fc_phase.specs.Asked.{IsAskedFacet}
 use Rattle.fc_levels.specs.Steps.{AreValid}
-use Rattle.fc_jobs.specs.Walked.{nodes_from}
 use Rattle.fc_phase.proofs.AskedNodes.{key_is, named_at, node_is_at, path_is, within_more}
 use Rattle.fc_phase.proofs.asked.asked_node.Goals as goal
 

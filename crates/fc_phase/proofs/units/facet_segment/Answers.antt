@@ -8,10 +8,10 @@ use Rattle.fc_request.specs.FacetNode.{facet_view, kind_of, kind_view}
 use Rattle.fc_request.specs.RequestView.{request_view}
 use Rattle.fc_jobs.specs.Scopes.{AllEnclosingFit, scope_over}
 use Rattle.fc_jobs.specs.Walked.{domain_set}
-use Rattle.fc_phase.specs.Built.{blocks_in}
+use Rattle.fc_jobs.specs.Pieces.{piece_of, pieces_in}
 use Rattle.fc_phase.specs.declared.jobs.FacetJob.{FacetJob}
 use Rattle.fc_phase.proofs.FacetSteps.{facet_add_up, facet_around, facet_base, facet_bound, facet_kept, facet_key, facet_levels, facet_limits, facet_long, facet_node, facet_nodes, facet_stats, facet_stepped}
-use Rattle.fc_phase.proofs.Segments.{blocks_at, vec_count, vec_within}
+use Rattle.fc_phase.proofs.Segments.{piece_at, vec_count, vec_within}
 use Rattle.fc_phase.proofs.units.facet_segment.Goals as goal
 
 pub returns-in_default-clause-stepped : goal.returns-in_default-clause-stepped
@@ -56,28 +56,30 @@ facet_unit-requires-clause-enclosing g c =
 pub facet_unit-requires-clause-add_up : goal.facet_unit-requires-clause-add_up
 facet_unit-requires-clause-add_up g c =
     let blocks = c.in-Some.segment.now.blocks in
+    let p = piece_of c.in-Some.segment.now in
     let bucket = bucket_set (kind_view (kind_of c.innermost-level.result.now.node.now)) (key_view c.innermost-level.result.now.key) blocks c.index.result.now in
-    let same = ap (λ xs. domain_set (scope_over (request_view c.args.request.now) xs) blocks (facet_view c.args.job.now.node.now) bucket) c.deref.ensures.value ∙ c.in_ok-enclosing.ensures.domain blocks bucket in
+    let same = ap (λ xs. domain_set (scope_over (request_view c.args.request.now) xs) p (facet_view c.args.job.now.node.now) bucket) c.deref.ensures.value ∙ c.in_ok-enclosing.ensures.domain p bucket in
     subst (λ set. BucketsAddUp (kind_view (kind_of c.args.job.now.node.now)) c.args.job.now.tally.stats (places_on 0 blocks set) c.args.job.now.tally.entries) (sym same)
     (facet_add_up _ _ _ _ _ _ _ _ (vec_count c.args.job.now.domain _ c.len-at.ensures) _ _ c.in-Some.ensures c.requires.stands.1 _ c.innermost-level.ensures _ c.index.ensures)
 
 pub facet_unit-requires-clause-kept : goal.facet_unit-requires-clause-kept
-facet_unit-requires-clause-kept g c = (blocks_in (map arc_value c.args.segments.now), blocks_at (map arc_value c.args.segments.now) c.len-at.result c.in-Some.segment.now _ c.in-Some.ensures, c.requires.bases)
+facet_unit-requires-clause-kept g c = (pieces_in (map arc_value c.args.segments.now), piece_at (map arc_value c.args.segments.now) c.len-at.result c.in-Some.segment.now _ c.in-Some.ensures, c.requires.bases)
 
 pub returns-in_err-docs-clause-bases : goal.returns-in_err-docs-clause-bases
-returns-in_err-docs-clause-bases g c = c.facet_unit.ensures.kept _ (blocks_at (map arc_value c.args.segments.now) c.len-at.result c.in-Some.segment.now _ c.in-Some.ensures) c.requires.bases
+returns-in_err-docs-clause-bases g c = c.facet_unit.ensures.kept _ (piece_at (map arc_value c.args.segments.now) c.len-at.result c.in-Some.segment.now _ c.in-Some.ensures) c.requires.bases
 
 pub returns-in_err-push-clause-bases : goal.returns-in_err-push-clause-bases
-returns-in_err-push-clause-bases g c = c.facet_unit.ensures.kept _ (blocks_at (map arc_value c.args.segments.now) c.len-at.result c.in-Some.segment.now _ c.in-Some.ensures) c.requires.bases
+returns-in_err-push-clause-bases g c = c.facet_unit.ensures.kept _ (piece_at (map arc_value c.args.segments.now) c.len-at.result c.in-Some.segment.now _ c.in-Some.ensures) c.requires.bases
 
 pub returns-clause-bases : goal.returns-clause-bases
-returns-clause-bases g c = c.facet_unit.ensures.kept _ (blocks_at (map arc_value c.args.segments.now) c.len-at.result c.in-Some.segment.now _ c.in-Some.ensures) c.requires.bases
+returns-clause-bases g c = c.facet_unit.ensures.kept _ (piece_at (map arc_value c.args.segments.now) c.len-at.result c.in-Some.segment.now _ c.in-Some.ensures) c.requires.bases
 
 pub returns-clause-stepped : goal.returns-clause-stepped
 returns-clause-stepped g c =
     let after : FacetJob = record c.args.job.now { domain = c.push.new.self; tally = c.facet_unit.new.tally } in
     let blocks = c.in-Some.segment.now.blocks in
+    let p = piece_of c.in-Some.segment.now in
     let bucket = bucket_set (kind_view (kind_of c.innermost-level.result.now.node.now)) (key_view c.innermost-level.result.now.key) blocks c.index.result.now in
-    let same = ap (λ xs. domain_set (scope_over (request_view c.args.request.now) xs) blocks (facet_view c.args.job.now.node.now) bucket) c.deref.ensures.value ∙ c.in_ok-enclosing.ensures.domain blocks bucket in
+    let same = ap (λ xs. domain_set (scope_over (request_view c.args.request.now) xs) p (facet_view c.args.job.now.node.now) bucket) c.deref.ensures.value ∙ c.in_ok-enclosing.ensures.domain p bucket in
     let found = c.in_ok-docs.ensures.set ∙ same in
     λ s st. facet_stepped s _ _ _ _ _ _ _ (vec_count c.args.job.now.domain _ c.len-at.ensures) _ _ c.in-Some.ensures st _ c.innermost-level.ensures _ c.index.ensures after _ found refl c.in_ok-push.ensures.items c.in_ok-docs.ensures.collected

@@ -1,6 +1,7 @@
 use Rattle.std.proofs.Common.{◌++◌, ◌∷◌, [], inl, inr, refl, ◌∙◌, ap}
-use Rattle.fc_spec.specs.requests.DomainSets.{base_set}
 use Rattle.fc_request.specs.RequestView.{request_view}
+use Rattle.fc_answers.specs.SetAnswer.{base_of}
+use Rattle.fc_jobs.specs.Pieces.{piece_of}
 use Rattle.fc_phase.proofs.Segments.{vec_past, vec_there}
 use Rattle.fc_phase.proofs.TopSteps.{grown}
 use Rattle.fc_phase.proofs.units.look_at.Goals as goal
@@ -26,6 +27,9 @@ wanted_domain-requires-clause-base g c = c.requires.base
 pub wanted_domain-requires-clause-fit : goal.wanted_domain-requires-clause-fit
 wanted_domain-requires-clause-fit g c = c.requires.fit
 
+pub wanted_domain-requires-clause-whole : goal.wanted_domain-requires-clause-whole
+wanted_domain-requires-clause-whole g c = c.requires.whole
+
 pub wanted_domain-requires-clause-docs : goal.wanted_domain-requires-clause-docs
 wanted_domain-requires-clause-docs g c = c.in_ok-base_docs.ensures.docs
 
@@ -39,7 +43,7 @@ pub wanted_domain-requires-clause-change : goal.wanted_domain-requires-clause-ch
 wanted_domain-requires-clause-change g c = c.requires.change
 
 pub returns-clause-roots : goal.returns-clause-roots
-returns-clause-roots g c = grown c.args.at (base_set (request_view c.args.request.now) [] c.args.segment.now.blocks) c.args.roots.now.items c.reach.new.roots.items c.in_ok-base_docs.ensures.same c.in_ok-base_docs.ensures.put
+returns-clause-roots g c = grown c.args.at (base_of (request_view c.args.request.now) [] (piece_of c.args.segment.now)) c.args.roots.now.items c.reach.new.roots.items c.in_ok-base_docs.ensures.same c.in_ok-base_docs.ensures.put
 
 pub returns-clause-domain : goal.returns-clause-domain
 returns-clause-domain g c = inr (vec_past c.args.domain.now c.args.at c.len.result c.if-at-len.false c.len.ensures, c.in_ok-push.ensures.items ∙ ap (λ d. c.args.domain.now.items ++ d ∷ []) c.in_ok-docs.ensures.set)

@@ -1,10 +1,10 @@
 use Rattle.std.proofs.Common.{◌+◌, map, refl, ◌∙◌, ap}
 use Rattle.std.specs.Arc.{arc_value}
 use Rattle.fc_base.specs.StatisticView.{stat_view}
-use Rattle.fc_phase.specs.Built.{blocks_in}
+use Rattle.fc_jobs.specs.Pieces.{pieces_in}
 use Rattle.fc_phase.specs.declared.jobs.TopJob.{TopJob}
-use Rattle.fc_phase.proofs.Segments.{blocks_at, vec_within}
-use Rattle.fc_phase.proofs.TopSteps.{top_add_up, top_base, top_bound, top_change, top_facet, top_fit, top_kept, top_key, top_limits, top_long, top_shaped, top_stepped, top_there}
+use Rattle.fc_phase.proofs.Segments.{piece_at, vec_within}
+use Rattle.fc_phase.proofs.TopSteps.{top_add_up, top_base, top_bound, top_change, top_facet, top_fit, top_kept, top_key, top_limits, top_long, top_shaped, top_stepped, top_there, top_whole}
 use Rattle.fc_phase.proofs.units.top_segment.Goals as goal
 
 pub returns-in_default-clause-stepped : goal.returns-in_default-clause-stepped
@@ -27,6 +27,9 @@ look_at-requires-clause-names g c = c.requires.names
 
 pub look_at-requires-clause-change : goal.look_at-requires-clause-change
 look_at-requires-clause-change g c = top_change _ _ _ _ _ _ _ _ _ c.in-Some.ensures c.requires.stands.1
+
+pub look_at-requires-clause-whole : goal.look_at-requires-clause-whole
+look_at-requires-clause-whole g c = top_whole _ _ _ _ _ _ _ _ _ c.in-Some.ensures c.requires.stands.1
 
 pub look_at-requires-clause-there : goal.look_at-requires-clause-there
 look_at-requires-clause-there g c = top_there _ _ _ _ _ _ _ _ _ c.in-Some.ensures c.requires.stands.1
@@ -59,16 +62,16 @@ pub bucket_unit-requires-clause-add_up : goal.bucket_unit-requires-clause-add_up
 bucket_unit-requires-clause-add_up g c = top_add_up _ _ _ _ _ _ _ _ _ c.in-Some.ensures c.requires.stands.1 _ c.in_ok-look_at.ensures.domain _ c.index.ensures _ (ap (map stat_view) c.deref.ensures.value)
 
 pub look_at-requires-clause-kept : goal.look_at-requires-clause-kept
-look_at-requires-clause-kept g c = (blocks_in (map arc_value c.args.segments.now), blocks_at (map arc_value c.args.segments.now) c.args.job.now.at c.in-Some.segment.now _ c.in-Some.ensures, c.requires.bases)
+look_at-requires-clause-kept g c = (pieces_in (map arc_value c.args.segments.now), piece_at (map arc_value c.args.segments.now) c.args.job.now.at c.in-Some.segment.now _ c.in-Some.ensures, c.requires.bases)
 
 pub returns-in_err-look_at-clause-bases : goal.returns-in_err-look_at-clause-bases
-returns-in_err-look_at-clause-bases g c = c.look_at.ensures.kept _ (blocks_at (map arc_value c.args.segments.now) c.args.job.now.at c.in-Some.segment.now _ c.in-Some.ensures) c.requires.bases
+returns-in_err-look_at-clause-bases g c = c.look_at.ensures.kept _ (piece_at (map arc_value c.args.segments.now) c.args.job.now.at c.in-Some.segment.now _ c.in-Some.ensures) c.requires.bases
 
 pub returns-in_err-bucket_unit-clause-bases : goal.returns-in_err-bucket_unit-clause-bases
-returns-in_err-bucket_unit-clause-bases g c = c.look_at.ensures.kept _ (blocks_at (map arc_value c.args.segments.now) c.args.job.now.at c.in-Some.segment.now _ c.in-Some.ensures) c.requires.bases
+returns-in_err-bucket_unit-clause-bases g c = c.look_at.ensures.kept _ (piece_at (map arc_value c.args.segments.now) c.args.job.now.at c.in-Some.segment.now _ c.in-Some.ensures) c.requires.bases
 
 pub returns-clause-bases : goal.returns-clause-bases
-returns-clause-bases g c = c.look_at.ensures.kept _ (blocks_at (map arc_value c.args.segments.now) c.args.job.now.at c.in-Some.segment.now _ c.in-Some.ensures) c.requires.bases
+returns-clause-bases g c = c.look_at.ensures.kept _ (piece_at (map arc_value c.args.segments.now) c.args.job.now.at c.in-Some.segment.now _ c.in-Some.ensures) c.requires.bases
 
 pub returns-clause-stepped : goal.returns-clause-stepped
 returns-clause-stepped g c =
