@@ -1,7 +1,8 @@
 -- The generations that the searches of a phase use.
-use Rattle.std.specs.Prelude.{ℕ, ◌≤◌, List, length, map, take, All}
+use Rattle.std.specs.Prelude.{ℕ, ◌≤◌, List, [], length, map, take, All}
 use Rattle.std.specs.List.{zip}
 use Rattle.fc_spec.specs.documents.Document.{Batch}
+use Rattle.fc_spec.specs.documents.Operations.{after_ops}
 use Rattle.fc_spec.specs.documents.Schema.{Schema}
 use Rattle.fc_spec.specs.words.Lists.{joined}
 use Rattle.fc_store.specs.Charters.{IsBatchOf}
@@ -9,7 +10,7 @@ use Rattle.fc_store.specs.Generated.{Generated}
 
 -- the generation of a number, of a shard with these batches
 abbrev pub generation_at : Schema → List Batch → ℕ → Generated
-generation_at s batches n = record { schema = s; number = n; blocks = joined (take n batches) }
+generation_at s batches n = record { schema = s; number = n; blocks = after_ops [] (joined (take n batches)) }
 
 -- for each shard that of its number
 abbrev pub generations_at : Schema → List (List Batch) → List ℕ → List Generated

@@ -1,8 +1,8 @@
 -- A phase of a script.
 use Rattle.std.specs.Prelude.{◌≡◌, ℕ, ◌≤◌, List, length, map, All}
 use Rattle.fc_spec.specs.documents.Document as documents
+use Rattle.fc_spec.specs.scripts.PinnedWorlds.{world_added}
 use Rattle.fc_spec.specs.scripts.WorldLimits.{IsWithinLimits}
-use Rattle.fc_spec.specs.words.Lists.{joined}
 use Rattle.fc_script.specs.declared.script.Phase.{Phase}
 use Rattle.fc_work.specs.Pinned.{batches_of}
 use Rattle.fc_run.specs.Progress.{CanCarryAll, Progress, charters_to}
@@ -21,5 +21,5 @@ pub record CanRun (shards : List Progress) (sessions : ℕ) (p : Phase) : Type 0
   pub few : length shards ≤ 64
   pub count : length p.commits.items ≡ length shards
   pub carry : CanCarryAll shards p.commits.items
-  pub within : IsWithinLimits (map joined (chartered_batches shards p.commits.items))
+  pub within : IsWithinLimits (world_added (chartered_batches shards p.commits.items))
   pub searches : All (IsSearchOf (map (λ q. q.generation) shards) sessions) p.searches.items

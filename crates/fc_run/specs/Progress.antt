@@ -1,12 +1,14 @@
 -- Commits of a shard's batches, and what is left of them.
-use Rattle.std.specs.Prelude.{ℕ, ◌+◌, ◌-◌, ◌≤◌, List, ◌++◌, length, map, take, drop, All}
+use Rattle.std.specs.Prelude.{◌≡◌, ℕ, ◌+◌, ◌-◌, ◌≤◌, List, [], ◌∷◌, ◌++◌, length, map, take, drop, All}
 use Rattle.std.specs.Arc.{arc_value}
 use Rattle.std.specs.List.{zip}
+use Rattle.fc_spec.specs.documents.Operations.{after_ops, blocks_added}
 use Rattle.fc_spec.specs.documents.Schema.{Schema}
+use Rattle.fc_spec.specs.scripts.WorldLimits.{IsWithinLimits}
 use Rattle.fc_spec.specs.words.Lists.{joined}
 use Rattle.fc_docs.specs.declared.block.Batch.{Batch}
 use Rattle.fc_script.specs.PartsView.{batches_view}
-use Rattle.fc_store.specs.Charters.{Chartered, IsBatchOf, IsBegun}
+use Rattle.fc_store.specs.Charters.{Chartered, IsBatchOf}
 use Rattle.fc_store.specs.Generated.{Generated}
 use Rattle.fc_store.specs.declared.generation.Generation.{Generation}
 use Rattle.fc_run.specs.Generations.{generation_at}
@@ -14,7 +16,7 @@ use Rattle.fc_run.specs.declared.commits.Committed.{Committed}
 
 -- the generation after a commit of each of the batches
 abbrev pub generation_after : Generated → List Batch → Generated
-generation_after g batches = record { schema = g.schema; number = g.number + length batches; blocks = g.blocks ++ joined (batches_view batches) }
+generation_after g batches = record { schema = g.schema; number = g.number + length batches; blocks = after_ops g.blocks (joined (batches_view batches)) }
 
 -- a shard between two commits: its generation, and the batches that are left
 pub record Progress : Type 0 where
@@ -32,14 +34,15 @@ missing_to p commits = commits - p.generation.number
 abbrev pub carried : Progress → ℕ → Progress
 carried p commits = record { generation = generation_after p.generation (take (missing_to p commits) p.left); left = drop (missing_to p commits) p.left }
 
--- so many can be made: the shard has no more yet, there are as many batches, each and together of the schema and few, and they are 4,096 commits at most; without a commit it has no block
+-- so many can be made: the shard has no more yet, there are as many batches, each and together of the schema and few, the blocks that it has and those that they add are within the limits, and they are 4,096 commits at most; without a commit it has no block
 pub record CanCarry (p : Progress) (commits : ℕ) : Type 0 where
   pub below : p.generation.number ≤ commits
   pub there : missing_to p commits ≤ length p.left
   pub number : p.generation.number + missing_to p commits ≤ 4096
   pub each : All (IsBatchOf p.generation.schema) (batches_view (take (missing_to p commits) p.left))
   pub all : IsBatchOf p.generation.schema (joined (batches_view (take (missing_to p commits) p.left)))
-  pub begun : IsBegun p.generation
+  pub limits : IsWithinLimits ((p.generation.blocks ++ blocks_added (joined (batches_view (take (missing_to p commits) p.left)))) ∷ [])
+  pub begun : p.generation.number ≡ 0 → p.generation.blocks ≡ []
 
 -- shards, each once it has its number of commits
 abbrev pub all_carried : List Progress → List ℕ → List Progress

@@ -1,6 +1,6 @@
 -- The laws that the promises of a run stand on.
 use Rattle.fc_spec.specs.laws.PhaseLaws.{BookedAreOutputs, PhasesAddUp}
-use Rattle.fc_spec.specs.laws.ScriptLaws.{SearchesAreFew, IsOnlyOutput, StandByPhase, WorldsAreWithin}
+use Rattle.fc_spec.specs.laws.ScriptLaws.{AddedAreWithin, SearchesAreFew, IsOnlyOutput, StandByPhase}
 use Rattle.fc_spec.specs.laws.RefinedPaths.{AreRefinedPathsExact}
 use Rattle.fc_spec.specs.laws.WithoutLimits.{IsSingleWithoutLimits}
 
@@ -10,6 +10,6 @@ pub record AreRunLaws : Type 0 where
   pub by_phase : StandByPhase
   pub few : SearchesAreFew
   pub only : IsOnlyOutput
-  pub worlds : WorldsAreWithin
+  pub added : AddedAreWithin
   pub single : IsSingleWithoutLimits
   pub refined : AreRefinedPathsExact

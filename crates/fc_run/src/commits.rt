@@ -1,6 +1,8 @@
 // The commits of a shard between two phases: they make one generation, and leave the other batches.
-ghost use Rattle.std.specs.Prelude.{◌≡◌, ◌+◌, ◌≤◌, IfOk, drop, length, take};
+ghost use Rattle.std.specs.Prelude.{◌≡◌, ◌+◌, ◌++◌, ◌∷◌, ◌≤◌, [], IfOk, drop, length, take};
 ghost use Rattle.std.specs.Arc.{arc_value};
+ghost use Rattle.fc_spec.specs.documents.Operations.{blocks_added};
+ghost use Rattle.fc_spec.specs.scripts.WorldLimits.{IsWithinLimits};
 ghost use Rattle.fc_spec.specs.words.Lists.{joined};
 ghost use Rattle.fc_script.specs.PartsView.{batches_view};
 ghost use Rattle.fc_store.specs.Charters.{IsBatchOf};
@@ -42,6 +44,7 @@ fn commit(
     requires there { more ≤ length uncommitted.items }
     requires number { (arc_value earlier.now).number + more ≤ 4096 }
     requires all { IsBatchOf (arc_value earlier.now).schema (joined (batches_view (take more uncommitted.items))) }
+    requires limits { IsWithinLimits (((arc_value earlier.now).blocks ++ blocks_added (joined (batches_view (take more uncommitted.items)))) ∷ []) }
     ensures generation { IfOk result (λ committed. arc_value committed.generation
         ≡ generation_after (arc_value earlier.now) (take more uncommitted.items)) }
     ensures left { IfOk result (λ committed. committed.uncommitted.items ≡ drop more uncommitted.items) }

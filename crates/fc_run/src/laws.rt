@@ -2,8 +2,8 @@
 ghost use Rattle.fc_run.specs.RunLaws.{AreRunLaws};
 
 use fc_spec::{
-    phase_ends_are_outputs, phases_write_outputs, refined_paths_are_exact, scripts_have_one_output,
-    searches_are_few, without_limits, worlds_are_within_limits,
+    added_are_within_limits, phase_ends_are_outputs, phases_write_outputs, refined_paths_are_exact,
+    scripts_have_one_output, searches_are_few, without_limits,
 };
 
 /// All of them.
@@ -14,7 +14,7 @@ pub(crate) fn run_laws()
     phase_ends_are_outputs();
     searches_are_few();
     scripts_have_one_output();
-    worlds_are_within_limits();
+    added_are_within_limits();
     without_limits();
     refined_paths_are_exact();
 }

@@ -5,8 +5,8 @@ use Rattle.std.proofs.lemmas.List.{get_or-map, length-map}
 use Rattle.std.proofs.lemmas.List.Elements.{All-nil, All-cons, All-head, All-map, All-tail, All-weaker}
 use Rattle.fc_spec.specs.documents.Val.{Text, same_text}
 use Rattle.fc_spec.specs.replies.Distributed.{distributed}
+use Rattle.fc_spec.specs.scripts.PinnedWorlds.{world_added}
 use Rattle.fc_spec.specs.scripts.WorldLimits.{IsWithinLimits}
-use Rattle.fc_spec.specs.words.Lists.{joined}
 use Rattle.fc_spec.specs.laws.PhaseLaws.{SessionsWeave}
 use Rattle.fc_spec.specs.scripts.SearchLines.{ArePhaseLines}
 use Rattle.fc_request.specs.declared.fault.RequestFault.{RequestFault}
@@ -96,7 +96,7 @@ as_many qs order asked is are = ap (λ ns. length ns) is ∙ length-map qs (λ q
 pub some_order : (qs : List Search) (order : List ℕ) → order ≡ orders qs → 1 ≤ length qs → 1 ≤ length order
 some_order qs order is some = let long = ap (λ ns. length ns) is ∙ length-map qs (λ q. q.session) in omega (arith, long, some)
 
-pub readers_ready : (os : List Opening) → 1 ≤ length os → IsWithinLimits (map joined (charters_of (readers_in os))) → AreReady (readers_in os)
+pub readers_ready : (os : List Opening) → 1 ≤ length os → IsWithinLimits (world_added (charters_of (readers_in os))) → AreReady (readers_in os)
 readers_ready os some within = record { some = (let long = length-map os pinning_in in omega (arith, long, some)); limits = within }
 
 -- there is a place for the lines of each session

@@ -1,8 +1,9 @@
 -- The generations of all shards once all workers have ended.
-use Rattle.std.proofs.Common.{◌≡◌, ℕ, suc, ◌+◌, ◌-◌, ◌<◌, List, [], ◌∷◌, ◌++◌, ◌==◌, Bool, true, false, cond, not, length, map, set, get_or, take, refl, sym, ◌∙◌, ap, append_assoc, append-nil, arith}
+use Rattle.std.proofs.Common.{◌≡◌, ℕ, suc, ◌+◌, ◌-◌, ◌<◌, List, [], ◌∷◌, ◌++◌, ◌==◌, Bool, true, false, cond, not, length, map, set, get_or, take, refl, sym, ◌∙◌, ap, append_assoc, arith}
 use Rattle.std.specs.List.{filter}
 use Rattle.std.proofs.lemmas.Bool.{eqb-true}
 use Rattle.std.proofs.lemmas.List.{length-append}
+use Rattle.fc_spec.specs.documents.Operations.{after_ops}
 use Rattle.fc_spec.specs.words.Lists.{joined}
 use Rattle.fc_store.specs.Charters.{last_number}
 use Rattle.fc_store.specs.Generated.{Generated}
@@ -27,7 +28,7 @@ whole_already o e =
     λ i. record {
       schema = (start_in o).schema;
       number = all i;
-      blocks = sym (ap (λ n. o.charter.start.blocks ++ joined (take n o.charter.later)) none ∙ append-nil o.charter.start.blocks) i;
+      blocks = sym (ap (λ n. after_ops o.charter.start.blocks (joined (take n o.charter.later))) none) i;
     }
 
 -- numbered from a number on

@@ -1,7 +1,7 @@
 -- The stores of a phase once they are opened.
 use Rattle.std.specs.Prelude.{◌≡◌, ℕ, ◌<◌, ◌-◌, Bool, not, ◌==◌, List, length, All, Option, None, Some, slice_index_or}
 use Rattle.std.specs.List.{filter_map}
-use Rattle.fc_store.specs.Charters.{IsBatchOf, last_number}
+use Rattle.fc_store.specs.Charters.{IsBatchOf, KeepsLimits, last_number}
 use Rattle.fc_store.specs.Ends.{Pinning, Writing}
 use Rattle.fc_store.specs.Generated.{Generated}
 use Rattle.fc_work.specs.declared.index_worker.IndexWorker.{IndexWorker}
@@ -14,9 +14,10 @@ use Rattle.fc_work.specs.declared.worker.Worker.TheVariants.{Index, Session}
 abbrev pub start_in : Opening → Generated
 start_in o = o.charter.start
 
--- segments can be built of the charter's batches
-abbrev pub CanOpen : Opening → Type 0
-CanOpen o = All (IsBatchOf (start_in o).schema) o.charter.later
+-- segments can be built of the charter's batches; the blocks that it starts with and those that they add are within the limits
+pub record CanOpen (o : Opening) : Type 0 where
+  pub batches : All (IsBatchOf (start_in o).schema) o.charter.later
+  pub limits : KeepsLimits o.charter
 
 -- each is of the shard at its place
 abbrev pub AreNumbered : List Opening → Type 0

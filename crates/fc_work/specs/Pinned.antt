@@ -1,15 +1,15 @@
 -- What the readers of a session pin, one for each shard.
 use Rattle.std.specs.Prelude.{◌≡◌, ℕ, zero, suc, ◌<◌, List, [], ◌∷◌, ◌++◌, length, map, replicate, slice_index_or}
 use Rattle.std.specs.List.{zip}
-use Rattle.fc_spec.specs.documents.Document.{Batch, Block}
+use Rattle.fc_spec.specs.documents.Document.{Batch, Block, adding}
 use Rattle.fc_store.specs.Charters.{Chartered, last_number}
 use Rattle.fc_store.specs.Ends.{IsNoLower, Pinning, PinsGeneration}
 use Rattle.fc_store.specs.Generated.{Generated}
 
--- so many batches with these blocks, which all stand in the first
+-- so many batches with these blocks, which are all added in the first
 abbrev pub held : ℕ → List Block → List Batch
 held zero blocks = []
-held (suc n) blocks = blocks ∷ replicate n []
+held (suc n) blocks = map adding blocks ∷ replicate n []
 
 -- the batches of a charter: for those that its start has, whose blocks alone are known, so many; then those behind it
 abbrev pub batches_of : Chartered → List Batch

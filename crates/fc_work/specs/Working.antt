@@ -2,8 +2,8 @@
 use Rattle.std.specs.Prelude.{◌≡◌, ℕ, ◌<◌, ◌≤◌, ◌==◌, List, [], ◌∷◌, length, map, All, IfOk, false, Result, slice_index_or, if◌then◌else◌}
 use Rattle.fc_spec.specs.replies.Distributed.{distributed}
 use Rattle.fc_spec.specs.requests.ValidRequests.{IsValidRequest}
+use Rattle.fc_spec.specs.scripts.PinnedWorlds.{world_added}
 use Rattle.fc_spec.specs.scripts.WorldLimits.{IsWithinLimits}
-use Rattle.fc_spec.specs.words.Lists.{joined}
 use Rattle.fc_spec.specs.scripts.SearchLines.{AreSessionLines}
 use Rattle.fc_request.specs.RequestView.{IsRoot, request_view}
 use Rattle.fc_request.specs.declared.fault.RequestFault.{RequestFault}
@@ -29,10 +29,10 @@ pub record IsCommitted (old new : IndexWorker) : Type 0 where
 
 -- ---- of a session
 
--- there is a reader, and their charters are within the limits together
+-- there is a reader, and all that their charters add is within the limits together
 pub record AreReady (readers : List Pinning) : Type 0 where
   pub some : 1 ≤ length readers
-  pub limits : IsWithinLimits (map joined (charters_of readers))
+  pub limits : IsWithinLimits (world_added (charters_of readers))
 
 -- what is asked, where it has no fault, is valid for the schema of each reader and stands in a root as requests do
 pub record CanAsk (readers : List Pinning) (asked : Result Request RequestFault) : Type 0 where

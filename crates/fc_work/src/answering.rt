@@ -5,9 +5,8 @@ ghost use Rattle.fc_spec.specs.messages.Trace.{trace};
 ghost use Rattle.fc_spec.specs.replies.Distributed.{distributed};
 ghost use Rattle.fc_spec.specs.requests.ValidRequests.{IsValidRequest};
 ghost use Rattle.fc_spec.specs.scripts.Lines.{reply_line as line_of_reply};
-ghost use Rattle.fc_spec.specs.scripts.PinnedWorlds.{AreBetween, world_at};
+ghost use Rattle.fc_spec.specs.scripts.PinnedWorlds.{AreBetween, world_added, world_at};
 ghost use Rattle.fc_spec.specs.scripts.WorldLimits.{IsWithinLimits};
-ghost use Rattle.fc_spec.specs.words.Lists.{joined};
 ghost use Rattle.fc_request.specs.RequestView.{IsRoot, request_view};
 ghost use Rattle.fc_kind.specs.Names.{Covers};
 ghost use Rattle.fc_hooks.specs.SentLists.{sent_view};
@@ -72,7 +71,7 @@ pub fn answer<R: Threads + Sync>(
     requires workers { (1 ≤ workers) × (workers ≤ 64) }
     requires root { IsRoot request.now.root }
     requires valid { All (λ reader. IsValidRequest reader.schema (request_view request.now)) readers.old }
-    requires limits { IsWithinLimits (map joined (charters_of readers.old)) }
+    requires limits { IsWithinLimits (world_added (charters_of readers.old)) }
     ensures line { IfOk result (λ answered. answered.line.items
         ≡ line_of_reply (distributed (request_view request.now) (world_at (charters_of readers.old) answered.generations.items))
         answered.generations.items session.now) }

@@ -3,9 +3,9 @@ ghost use Rattle.std.specs.Prelude.{◌≡◌, ◌<◌, ◌≤◌, [], ℕ, All,
 ghost use Rattle.std.specs.Arc.{arc_value};
 ghost use Rattle.fc_spec.specs.documents.Val.{same_text};
 ghost use Rattle.fc_spec.specs.replies.Distributed.{distributed};
+ghost use Rattle.fc_spec.specs.scripts.PinnedWorlds.{world_added};
 ghost use Rattle.fc_spec.specs.scripts.SearchLines.{ArePhaseLines};
 ghost use Rattle.fc_spec.specs.scripts.WorldLimits.{IsWithinLimits};
-ghost use Rattle.fc_spec.specs.words.Lists.{joined};
 ghost use Rattle.fc_kind.specs.Names.{Covers};
 ghost use Rattle.fc_script.specs.PartsView.{search_view};
 ghost use Rattle.fc_work.specs.Opened.{AreNumbered, CanOpen};
@@ -100,7 +100,7 @@ pub fn run_searches<R: Threads + Wait + Sync, G: Gate>(
     requires open { All CanOpen openings.items }
     requires numbered { AreNumbered openings.items }
     requires some { 1 ≤ length openings.items }
-    requires limits { IsWithinLimits (map joined (charters_of (readers_in openings.items))) }
+    requires limits { IsWithinLimits (world_added (charters_of (readers_in openings.items))) }
     requires few { length names.now ≤ 16 }
     requires different { AllPairs (λ a b. same_text a b ≡ false) names.now }
     requires some_search { 1 ≤ length searches.items }

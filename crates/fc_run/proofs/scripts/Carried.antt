@@ -1,21 +1,24 @@
 -- The shards of a script, carried on from phase to phase.
-use Rattle.std.proofs.Common.{◌≡◌, ℕ, suc, ◌<◌, ◌≤◌, List, [], ◌∷◌, length, map, take, get_or, refl, ap, arith}
-use Rattle.std.specs.Prelude.{All, slice_index}
+use Rattle.std.proofs.Common.{◌≡◌, ℕ, suc, ◌<◌, ◌≤◌, List, [], ◌∷◌, length, map, get_or, refl, ap, arith}
+use Rattle.std.specs.Prelude.{All, slice_index, sum_by}
 use Rattle.std.specs.List.{zip}
 use Rattle.std.proofs.lemmas.List.Elements.{All-cons, All-head, All-nil, All-tail}
+use Rattle.std.proofs.lemmas.List.Sums.{sum_by-append}
+use Rattle.fc_spec.specs.documents.Document as documents
+use Rattle.fc_spec.specs.documents.Operations.{blocks_added}
 use Rattle.fc_spec.specs.documents.Schema.{Schema}
-use Rattle.fc_spec.specs.documents.Totals.{document_total, documents_in}
+use Rattle.fc_spec.specs.documents.World.{World}
 use Rattle.fc_spec.specs.scripts.WorldLimits.{IsWithinLimits}
 use Rattle.fc_spec.specs.words.Lists.{joined}
-use Rattle.fc_spec.proofs.documents.BlockTotals.{document_total-append}
+use Rattle.fc_spec.proofs.scripts.WorldTotals.{fewer_within}
 use Rattle.fc_docs.specs.declared.block.Batch.{Batch}
 use Rattle.fc_script.specs.PartsView.{batches_view}
 use Rattle.fc_script.specs.SoundScripts.{CutLists}
 use Rattle.fc_run.specs.Generations.{AreCommittable, IsCommittable, generations_at}
-use Rattle.fc_spec.specs.scripts.PinnedWorlds.{world_at}
+use Rattle.fc_spec.specs.scripts.PinnedWorlds.{world_added}
 use Rattle.fc_run.specs.Searches.{lists_in, shards_view, Shard}
 use Rattle.fc_run.specs.Progress.{CanCarry, CanCarryAll, Progress, all_carried, all_progress_at, progress_at}
-use Rattle.fc_run.proofs.scripts.Commits.{Fits, can_carry, carried_is, few_documents}
+use Rattle.fc_run.proofs.scripts.Commits.{Fits, can_carry, carried_is}
 
 -- shard by shard
 abbrev pub AllFit : Schema → List (List Batch) → List ℕ → Type 0
@@ -23,21 +26,29 @@ AllFit s [] numbers = Unit {0}
 AllFit s (l ∷ lists) [] = Unit {0}
 AllFit s (l ∷ lists) (n ∷ numbers) = Fits s l n × AllFit s lists numbers
 
-fit_below : (s : Schema) (shards : List Shard) (commits : List ℕ) → All (IsCommittable s) (shards_view shards)
+-- none of them adds more than the shards of some world together have, which is within the limits
+fit_below : (s : Schema) (shards : List Shard) (commits : List ℕ) (W : World) → 1 ≤ length W → IsWithinLimits W → All (IsCommittable s) (shards_view shards)
     → ((i : ℕ) → i < length (lists_in shards) → slice_index commits i ≤ length (get_or (lists_in shards) i []))
-    → document_total (joined (world_at (shards_view shards) commits)) ≤ 1_048_576 → AllFit s (lists_in shards) commits
-fit_below s [] commits valid cut few = tt
-fit_below s (shard ∷ shards) [] valid cut few = tt
-fit_below s (shard ∷ shards) (n ∷ commits) valid cut few =
-    let batches = shard.items in
-    let both = document_total-append (joined (take n (batches_view batches))) (joined (world_at (shards_view shards) commits)) in (
-      record { shard = All-head (IsCommittable s) (batches_view batches) (shards_view shards) valid; there = cut 0 (omega arith); few = omega (arith, both, few) },
-      fit_below s shards commits (All-tail (IsCommittable s) (batches_view batches) (shards_view shards) valid) (λ i below. cut (suc i) (omega (arith, below))) (omega (arith, both, few)),
+    → ((f : documents.Block → ℕ) → sum_by f (joined (world_added (shards_view shards))) ≤ sum_by f (joined W)) → AllFit s (lists_in shards) commits
+fit_below s [] commits W some within valid cut less = tt
+fit_below s (shard ∷ shards) [] W some within valid cut less = tt
+fit_below s (shard ∷ shards) (n ∷ commits) W some within valid cut less =
+    let batches = batches_view shard.items in
+    let own = blocks_added (joined batches) in
+    let both = λ (f : documents.Block → ℕ). sum_by-append f own (joined (world_added (shards_view shards))) in (
+      record {
+        shard = All-head (IsCommittable s) batches (shards_view shards) valid;
+        there = cut 0 (omega arith);
+        limits = fewer_within (own ∷ []) W (omega (arith, some)) (λ f. omega (arith, less f, both f, sum_by-append f own [])) within;
+      },
+      fit_below s shards commits W some within (All-tail (IsCommittable s) batches (shards_view shards) valid) (λ i below. cut (suc i) (omega (arith, below))) (λ f. omega (arith, less f, both f)),
     )
 
-pub all_fit : (s : Schema) (shards : List Shard) (commits : List ℕ) → AreCommittable s (shards_view shards) → CutLists (lists_in shards) commits → IsWithinLimits (world_at (shards_view shards) commits)
+pub all_fit : (s : Schema) (shards : List Shard) (commits : List ℕ) → AreCommittable s (shards_view shards) → CutLists (lists_in shards) commits → IsWithinLimits (world_added (shards_view shards))
     → AllFit s (lists_in shards) commits
-all_fit s shards commits valid cut within = fit_below s shards commits valid cut.each (few_documents (documents_in (joined (world_at (shards_view shards) commits))) within.few)
+all_fit s [] commits valid cut within = tt
+all_fit s (shard ∷ shards) commits valid cut within =
+    fit_below s (shard ∷ shards) commits (world_added (shards_view (shard ∷ shards))) (omega arith) within valid cut.each (λ f. omega arith)
 
 -- none of the numbers is above that of the other list at its place
 abbrev pub Below : List ℕ → List ℕ → Type 0

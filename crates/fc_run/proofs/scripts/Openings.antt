@@ -4,8 +4,10 @@ use Rattle.std.specs.Prelude.{All}
 use Rattle.std.specs.List.{zip}
 use Rattle.std.proofs.lemmas.List.{get_or-map, length-map, length-take-le, take_all}
 use Rattle.std.proofs.lemmas.List.Elements.{All-cons, All-head, All-map, All-nil, All-tail, All-weaker}
+use Rattle.fc_spec.specs.documents.Operations.{after_ops, blocks_added}
 use Rattle.fc_spec.specs.documents.Schema.{Schema}
 use Rattle.fc_spec.specs.requests.ValidRequests.{IsValidRequest}
+use Rattle.fc_spec.specs.scripts.WorldLimits.{IsWithinLimits}
 use Rattle.fc_spec.specs.words.Lists.{joined}
 use Rattle.fc_docs.specs.View.{batch_view}
 use Rattle.fc_docs.specs.declared.block.Batch.{Batch}
@@ -38,8 +40,9 @@ charters_in os = map (λ (o : Opening). o.charter) os
 abbrev whole_from : Chartered → Generated
 whole_from c = record { schema = c.start.schema; number = last_number c; blocks = blocks_at c (last_number c) }
 
-abbrev IsBuildable : Chartered → Type 0
-IsBuildable c = All (IsBatchOf c.start.schema) c.later
+record IsBuildable (c : Chartered) : Type 0 where
+  batches : All (IsBatchOf c.start.schema) c.later
+  limits : IsWithinLimits ((c.start.blocks ++ blocks_added (joined c.later)) ∷ [])
 
 charters_are : (os : List Opening) → charters_of (readers_in os) ≡ map batches_of (charters_in os)
 charters_are [] = refl
@@ -95,11 +98,12 @@ buildable : (ps : List Progress) (ns : List ℕ) → CanCarryAll ps ns → All I
 buildable [] ns can = All-nil IsBuildable
 buildable (p ∷ ps) [] can = All-nil IsBuildable
 buildable (p ∷ ps) (n ∷ ns) can =
-    All-cons IsBuildable (charter_to p n) (charters_to ps ns) (All-head (λ x. CanCarry x.0 x.1) (p, n) (zip ps ns) can).each
+    let here = All-head (λ x. CanCarry x.0 x.1) (p, n) (zip ps ns) can in
+    All-cons IsBuildable (charter_to p n) (charters_to ps ns) (record { batches = here.each; limits = here.limits })
     (buildable ps ns (All-tail (λ x. CanCarry x.0 x.1) (p, n) (zip ps ns) can))
 
 whole_is : (p : Progress) (n : ℕ) → whole_from (charter_to p n) ≡ generation_after p.generation (take (missing_to p n) p.left)
-whole_is p n = λ i. record { schema = p.generation.schema; number = p.generation.number + views i; blocks = p.generation.blocks ++ joined (all i) }
+whole_is p n = λ i. record { schema = p.generation.schema; number = p.generation.number + views i; blocks = after_ops p.generation.blocks (joined (all i)) }
   where
     part : List Batch
     part = take (missing_to p n) p.left
@@ -125,7 +129,9 @@ left_many (p ∷ ps) (n ∷ ns) same = ap (λ k. suc k) (left_many ps ns (omega 
 
 module _ (ps : List Progress) (ns : List ℕ) (os : List Opening) (are : charters_in os ≡ charters_to ps ns) where
   pub can_open : CanCarryAll ps ns → All CanOpen os
-  can_open can = all_back IsBuildable (λ (o : Opening). o.charter) os (subst (All IsBuildable) (sym are) (buildable ps ns can))
+  can_open can =
+      All-weaker (λ (o : Opening). IsBuildable o.charter) CanOpen (λ o is. record { batches = is.batches; limits = is.limits }) os
+      (all_back IsBuildable (λ (o : Opening). o.charter) os (subst (All IsBuildable) (sym are) (buildable ps ns can)))
 
   pub batches_are : charters_of (readers_in os) ≡ chartered_batches ps ns
   batches_are = charters_are os ∙ ap (map batches_of) are

@@ -1,9 +1,11 @@
 -- The lines of a phase, over the batches of its stores and over those of the script.
-use Rattle.std.proofs.Common.{◌≡◌, ℕ, zero, suc, ◌-◌, ◌≤◌, List, [], ◌∷◌, ◌++◌, Bool, true, false, length, map, take, drop, flat_map, Some, Ok, Err, refl, sym, ◌∙◌, ap, arith}
-use Rattle.std.specs.Prelude.{if◌then◌else◌}
-use Rattle.std.proofs.lemmas.List.{length-map, take-map, take-take, take_all}
+use Rattle.std.proofs.Common.{◌≡◌, ℕ, suc, ◌-◌, ◌≤◌, List, [], ◌∷◌, Bool, true, false, length, take, drop, flat_map, Some, Ok, Err, refl, sym, ◌∙◌, ap, arith}
+use Rattle.std.specs.Prelude.{sum_by, if◌then◌else◌}
+use Rattle.std.proofs.lemmas.List.{take-map, take-take}
 use Rattle.std.proofs.lemmas.List.Folds.{flat_map-map}
+use Rattle.std.proofs.lemmas.List.Sums.{fold-append, sum_by-append}
 use Rattle.fc_spec.specs.documents.Document as documents
+use Rattle.fc_spec.specs.documents.Operations.{after_op, after_ops, blocks_added}
 use Rattle.fc_spec.specs.documents.Schema.{Schema}
 use Rattle.fc_spec.specs.documents.Val.{Text, same_text}
 use Rattle.fc_spec.specs.messages.Trace.{trace}
@@ -11,20 +13,22 @@ use Rattle.fc_spec.specs.scripts.AskedScripts.{Asked}
 use Rattle.fc_spec.specs.scripts.Lines.{reply_line}
 use Rattle.fc_spec.specs.scripts.Outputs.{Replies}
 use Rattle.fc_spec.specs.scripts.Phases.{Search}
-use Rattle.fc_spec.specs.scripts.PinnedWorlds.{world_at}
+use Rattle.fc_spec.specs.scripts.PinnedWorlds.{world_added, world_at}
 use Rattle.fc_spec.specs.scripts.SearchLines.{least_after, SearchLine, ArePhaseLines, IsLineOver}
+use Rattle.fc_spec.specs.scripts.WorldLimits.{IsWithinLimits}
 use Rattle.fc_spec.specs.words.Lists.{joined}
+use Rattle.fc_spec.proofs.scripts.WorldTotals.{fewer_within}
 use Rattle.fc_docs.specs.View.{batch_view}
 use Rattle.fc_docs.specs.declared.block.Batch.{Batch}
 use Rattle.fc_script.specs.PartsView.{batches_view}
+use Rattle.fc_store.proofs.OwnIds.{own_ids_after}
 use Rattle.fc_work.specs.Pinned.{batches_of}
-use Rattle.fc_work.proofs.Batches.{batches_count, held_blocks}
+use Rattle.fc_work.proofs.Batches.{held_adds, held_blocks}
 use Rattle.fc_run.specs.Phased.{chartered_batches}
 use Rattle.fc_run.specs.Progress.{all_progress_at, charter_to, progress_at}
 use Rattle.fc_run.specs.Searches.{Shard, lists_in, shards_view}
-use Rattle.fc_run.proofs.scripts.BatchSteps.{blocks_begin}
-use Rattle.fc_run.proofs.scripts.Carried.{AllFit, Below}
-use Rattle.fc_run.proofs.scripts.Commits.{Fits}
+use Rattle.fc_run.proofs.scripts.BatchSteps.{ops_begin, part_sum}
+use Rattle.fc_run.proofs.scripts.Carried.{Below}
 
 -- ---- one shard
 
@@ -34,13 +38,22 @@ joined_part j k batches below =
     ∙ flat_map-map (λ bs. bs) batch_view (take j batches)
 
 pub front_is : (s : Schema) (batches : List Batch) (from commits n : ℕ) → from ≤ n → n ≤ commits
-    → joined (take n (batches_of (charter_to (progress_at s batches from) commits))) ≡ joined (take n (batches_view batches))
+    → after_ops [] (joined (take n (batches_of (charter_to (progress_at s batches from) commits)))) ≡ after_ops [] (joined (take n (batches_view batches)))
 front_is s batches from commits n above below =
-    let blocks = joined (take from (batches_view batches)) in
+    let first = joined (take from (batches_view batches)) in
     let later = batches_view (take (commits - from) (drop from batches)) in
-    sym (held_blocks from n blocks later (λ none. ap (λ k. joined (take k (batches_view batches))) none) above)
-    ∙ ap (λ bs. blocks ++ bs) (joined_part (n - from) (commits - from) (drop from batches) (omega (arith, above, below)))
-    ∙ blocks_begin batches from n blocks above refl
+    sym (held_blocks from n (after_ops [] first) later (λ none. ap (λ k. after_ops [] (joined (take k (batches_view batches)))) none) (own_ids_after [] first refl) above)
+    ∙ ap (after_ops (after_ops [] first)) (joined_part (n - from) (commits - from) (drop from batches) (omega (arith, above, below)))
+    ∙ sym (fold-append after_op [] first (flat_map batch_view (take (n - from) (drop from batches))))
+    ∙ ap (after_ops []) (ops_begin batches from n above)
+
+-- all that a store may publish is added by the shard's batches
+charter_sum : (f : documents.Block → ℕ) (s : Schema) (batches : List Batch) (from commits : ℕ) → from ≤ commits
+    → sum_by f (blocks_added (joined (batches_of (charter_to (progress_at s batches from) commits)))) ≤ sum_by f (blocks_added (joined (batches_view batches)))
+charter_sum f s batches from commits below =
+    let first = joined (take from (batches_view batches)) in
+    let adds = ap (sum_by f) (held_adds from (after_ops [] first) (batches_view (take (commits - from) (drop from batches))) (λ none. ap (λ k. after_ops [] (joined (take k (batches_view batches)))) none)) in
+    omega (arith, adds, part_sum f batches from commits below)
 
 -- ---- all shards
 
@@ -55,32 +68,35 @@ worlds_same s (shard ∷ shards) (m ∷ before) (n ∷ commits) (k ∷ g) same c
     let rest = worlds_same s shards before commits g (omega (arith, same)) (omega (arith, count)) (λ i. above (suc i)) (λ i. below (suc i)) in
     λ i. first i ∷ rest i
 
-take_most : (k : ℕ) (bs : List Batch) → length (take k bs) ≤ k
-take_most zero bs = omega arith
-take_most (suc k) [] = omega arith
-take_most (suc k) (b ∷ bs) = let rest = take_most k bs in omega (arith, rest)
+-- all that the stores of a phase may publish is added by the batches of the script
+no_more_charters : (s : Schema) (shards : List Shard) (before commits : List ℕ)
+    → length (world_added (chartered_batches (all_progress_at s (lists_in shards) before) commits)) ≤ length (world_added (shards_view shards))
+no_more_charters s [] before commits = omega arith
+no_more_charters s (shard ∷ shards) [] commits = omega arith
+no_more_charters s (shard ∷ shards) (m ∷ before) [] = omega arith
+no_more_charters s (shard ∷ shards) (m ∷ before) (n ∷ commits) = let rest = no_more_charters s shards before commits in omega (arith, rest)
 
--- all that the stores of a phase have
-pub world_whole : (s : Schema) (shards : List Shard) (before commits : List ℕ) → length before ≡ length shards → length commits ≡ length shards → AllFit s (lists_in shards) commits
-    → Below before commits → map joined (chartered_batches (all_progress_at s (lists_in shards) before) commits) ≡ world_at (shards_view shards) commits
-world_whole s [] before commits same count fit below = refl
-world_whole s (shard ∷ shards) [] commits same count fit below = absurd (omega (arith, same))
-world_whole s (shard ∷ shards) (m ∷ before) [] same count fit below = absurd (omega (arith, count))
-world_whole s (shard ∷ shards) (m ∷ before) (n ∷ commits) same count fit below =
-    let first = whole fit.0 in
-    let rest = world_whole s shards before commits (omega (arith, same)) (omega (arith, count)) fit.1 (λ i. below (suc i)) in
-    λ i. first i ∷ rest i
-  where
-    whole : Fits s shard.items n → joined (batches_of (charter_to (progress_at s shard.items m) n)) ≡ joined (take n (batches_view shard.items))
-    whole fits = sym (ap joined (take_all n (batches_of (charter_to (progress_at s shard.items m) n)) long)) ∙ front_is s shard.items m n n (below 0) (omega arith)
-      where
-        long : length (batches_of (charter_to (progress_at s shard.items m) n)) ≤ n
-        long =
-            let all = batches_count (charter_to (progress_at s shard.items m) n) in
-            let views = length-map (take (n - m) (drop m shard.items)) batch_view in
-            let most = take_most (n - m) (drop m shard.items) in
-            let here : m ≤ n = below 0 in
-            omega (arith, all, views, most, here)
+charters_sum : (f : documents.Block → ℕ) (s : Schema) (shards : List Shard) (before commits : List ℕ) → Below before commits
+    → sum_by f (joined (world_added (chartered_batches (all_progress_at s (lists_in shards) before) commits))) ≤ sum_by f (joined (world_added (shards_view shards)))
+charters_sum f s [] before commits below = omega arith
+charters_sum f s (shard ∷ shards) [] commits below = omega arith
+charters_sum f s (shard ∷ shards) (m ∷ before) [] below = omega arith
+charters_sum f s (shard ∷ shards) (m ∷ before) (n ∷ commits) below =
+    let first = charter_sum f s shard.items m n (below 0) in
+    let rest = charters_sum f s shards before commits (λ i. below (suc i)) in
+    omega (
+      arith,
+      first,
+      rest,
+      sum_by-append f (blocks_added (joined (batches_of (charter_to (progress_at s shard.items m) n)))) (joined (world_added (chartered_batches (all_progress_at s (lists_in shards) before) commits))),
+      sum_by-append f (blocks_added (joined (batches_view shard.items))) (joined (world_added (shards_view shards))),
+    )
+
+pub charters_within : (s : Schema) (shards : List Shard) (before commits : List ℕ) → Below before commits → IsWithinLimits (world_added (shards_view shards))
+    → IsWithinLimits (world_added (chartered_batches (all_progress_at s (lists_in shards) before) commits))
+charters_within s shards before commits below within =
+    fewer_within (world_added (chartered_batches (all_progress_at s (lists_in shards) before) commits)) (world_added (shards_view shards)) (no_more_charters s shards before commits)
+    (λ f. charters_sum f s shards before commits below) within
 
 -- ---- lines
 

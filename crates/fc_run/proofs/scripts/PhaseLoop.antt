@@ -6,8 +6,8 @@ use Rattle.std.specs.List.{enumerate_from}
 use Rattle.std.proofs.lemmas.List.{length-map}
 use Rattle.std.proofs.lemmas.List.Elements.{All-head, All-tail}
 use Rattle.fc_spec.specs.replies.Distributed.{distributed}
+use Rattle.fc_spec.specs.scripts.PinnedWorlds.{world_added}
 use Rattle.fc_spec.specs.scripts.WorldLimits.{IsWithinLimits}
-use Rattle.fc_spec.specs.words.Lists.{joined}
 use Rattle.fc_spec.specs.scripts.SearchLines.{SearchLine, AreLinesOfParts, AreLinesOfAll, ArePhaseLines}
 use Rattle.fc_script.specs.PartsView.{parts_view, phase_view, search_view}
 use Rattle.fc_script.specs.declared.script.Phase.{Phase}
@@ -17,7 +17,7 @@ use Rattle.fc_run.specs.Progress.{CanCarryAll, Progress, all_carried, all_progre
 use Rattle.fc_run.specs.Runnable.{AreRising, IsRunnable, IsRunnablePhase, commits_in}
 use Rattle.fc_run.specs.Searches.{Shard, lists_in, shards_view}
 use Rattle.fc_run.proofs.scripts.Carried.{AllFit, all_carried_is, all_fit, can_carry_all, progress_count, progress_generations, progress_numbers}
-use Rattle.fc_run.proofs.scripts.PhaseLines.{same_lines, world_whole, worlds_same}
+use Rattle.fc_run.proofs.scripts.PhaseLines.{charters_within, same_lines, worlds_same}
 use Rattle.fc_run.proofs.scripts.PhaseSteps.{lines_done, lines_more, searches_of}
 
 zeros_same : (shards : List Shard) → map {B = ℕ} (λ shard. 0) shards ≡ map {B = ℕ} (λ batches. 0) (shards_view shards)
@@ -58,7 +58,7 @@ module _ (s : Script) (done : ℕ) (before : List ℕ) (p : Phase) (ps : List Ph
   count = here.commits.count ∙ lists
 
   fit : AllFit (arc_value s.schema) (lists_in s.batches.items) p.commits.items
-  fit = all_fit (arc_value s.schema) s.batches.items p.commits.items is.shards here.commits here.within
+  fit = all_fit (arc_value s.schema) s.batches.items p.commits.items is.shards here.commits is.within
 
   many : length shards ≡ length s.batches.items
   many = ap length now.are ∙ progress_count (arc_value s.schema) (lists_in s.batches.items) before (now.count ∙ sym lists) ∙ lists
@@ -69,8 +69,8 @@ module _ (s : Script) (done : ℕ) (before : List ℕ) (p : Phase) (ps : List Ph
     few = (let few = is.few_shards in omega (arith, many, few));
     count = count ∙ sym many;
     carry = subst (λ qs. CanCarryAll qs p.commits.items) (sym now.are) (can_carry_all (arc_value s.schema) (lists_in s.batches.items) before p.commits.items fit now.rising.0);
-    within = subst (λ qs. IsWithinLimits (map joined (chartered_batches qs p.commits.items))) (sym now.are)
-        (subst IsWithinLimits (sym (world_whole (arc_value s.schema) s.batches.items before p.commits.items now.count count fit now.rising.0)) here.within);
+    within = subst (λ qs. IsWithinLimits (world_added (chartered_batches qs p.commits.items))) (sym now.are)
+        (charters_within (arc_value s.schema) s.batches.items before p.commits.items now.rising.0 is.within);
     searches = searches_of (arc_value s.schema) (shards_view s.batches.items) before (map (λ (q : Progress). q.generation) shards) (length s.sessions.items) p.searches.items
         (ap (map (λ (q : Progress). q.generation)) now.are ∙ progress_generations (arc_value s.schema) s.batches.items before) here.searches;
   }

@@ -51,9 +51,9 @@ runnable laws S s is within few sound = record {
   different = sessions_differ S s is;
   shards = committable (arc_value s.schema) s.batches.items sound.batches
       (subst (λ parts. All (λ bs. length bs ≤ 4096) parts.batches) is (few_batches S within));
+  within = read_within laws.added S s is sound.schema.few_shards within;
   phases = λ k d below. record {
     commits = (sound.phases k d below).commits;
-    within = read_within laws.worlds S s is sound.schema.few_shards within k d below;
     searches = (sound.phases k d below).searches;
   };
   rising = phases_rise S s is;

@@ -4,9 +4,9 @@ use Rattle.std.specs.Arc.{arc_value}
 use Rattle.std.specs.declared.alloc.Global.{Global}
 use Rattle.std.proofs.lemmas.List.{length-map}
 use Rattle.fc_spec.specs.replies.Distributed.{distributed}
+use Rattle.fc_spec.specs.scripts.PinnedWorlds.{world_added}
 use Rattle.fc_spec.specs.scripts.SearchLines.{ArePhaseLines}
 use Rattle.fc_spec.specs.scripts.WorldLimits.{IsWithinLimits}
-use Rattle.fc_spec.specs.words.Lists.{joined}
 use Rattle.fc_docs.specs.declared.block.Batch.{Batch}
 use Rattle.fc_script.specs.PartsView.{search_view}
 use Rattle.fc_work.specs.Phased.{readers_in}
@@ -54,7 +54,7 @@ run_searches-requires-clause-limits g c κs within =
     let ns = c.args.phase.commits.items in
     let os = c.in_ok-cut.cut.stores.items in
     let are : charters_in os ≡ charters_to ps ns = c.in_ok-cut.ensures.charters ∙ ap (charters_to ps) c.deref-2.ensures.value in
-    subst IsWithinLimits (sym (ap (map joined) (batches_are ps ns os are))) c.requires.can.within
+    subst IsWithinLimits (sym (ap world_added (batches_are ps ns os are))) c.requires.can.within
 
 pub run_searches-requires-clause-searches : goal.run_searches-requires-clause-searches
 run_searches-requires-clause-searches g c κs within =
