@@ -1,7 +1,6 @@
 // Merging columns of integers.
 ghost use Rattle.std.specs.Prelude.{◌≡◌, ◌+◌, ◌<◌, ◌^◌, [], ◌++◌, length, count_by, IfOk, OnOk};
 ghost use Rattle.std.specs.List.{items_where_true};
-ghost use Rattle.fc_lists.specs.Kept.{AreCounts};
 ghost use Rattle.fc_column.specs.LongMerger.{MovesWith};
 
 use crate::LongColumn;
@@ -57,11 +56,10 @@ impl LongMerger {
             alloc,
         } = self;
         let first = rows.len();
-        let counts = counts_of(alloc, live)?;
-        rows.add_rows(alloc, column.rows(), live, &counts)?;
+        rows.add_rows(alloc, column.rows(), live)?;
         // So it is known that all positions are counted by a `u32`.
         let _end = rows.len();
-        add_kept(&mut ordered, column, live, &counts, first)?;
+        add_kept(alloc, &mut ordered, column, live, first)?;
         Ok(LongMerger {
             rows,
             ordered,
@@ -74,27 +72,30 @@ impl LongMerger {
         ensures { IfOk result (λ column. column ≡ self) }
     {
         let rows = self.rows.rows(self.alloc)?;
-        let (values, positions) = in_order(self.alloc, &self.ordered)?;
+        let (values, positions) = in_order(self.alloc, self.ordered)?;
         Ok(LongColumn::of(rows, values, positions))
     }
 }
 
 // Adds the integers of a column whose positions are in the set, each with the position that it gets.
 fn add_kept(
+    alloc: Global,
     ordered: &mut Vec<Entry<i64>>,
     column: &LongColumn,
     live: &DocSet,
-    counts: &[u32],
     first: u32,
 ) -> Result<(), WantMemory>
     requires length { length live.now ≡ length column.now }
-    requires counts { AreCounts live.now counts.now }
     requires small { first + count_by (λ here. here) live.now < 2 ^ 32 }
     ensures { OnOk result (MovesWith column.now live.now first ordered.old.items ordered.new.items) }
 {
     let (values, positions) = column.in_order();
+    if values.is_empty() {
+        return Ok(());
+    }
+    let counts = counts_of(alloc, live)?;
     for (place, value) in values.iter().enumerate() {
-        if let Some(at) = place_of(live, counts, positions[place]) {
+        if let Some(at) = place_of(live, &counts, positions[place]) {
             ordered.push(Entry {
                 at: first + at,
                 item: *value,

@@ -10,7 +10,7 @@ use crate::merged_terms::{in_order, terms_and_places};
 use crate::term::Term;
 use fc_base::WantMemory;
 use fc_docset::DocSet;
-use fc_lists::{Entries, Lists, counts_of};
+use fc_lists::{Entries, Lists};
 use std::alloc::Global;
 use std::marker::Model;
 
@@ -85,8 +85,7 @@ impl TextMerger {
             alloc,
         } = self;
         let next = count.checked_add(column.terms()).ok_or(WantMemory)?;
-        let counts = counts_of(alloc, live)?;
-        rows.add_rows(alloc, &column.ordinals, live, &counts, count)?;
+        rows.add_rows(alloc, &column.ordinals, live, count)?;
         add_terms(
             alloc,
             &mut texts,

@@ -50,6 +50,13 @@ bits_below-in_word words i j small =
     bits_split (64 * i) j words ∙ ap (λ l. bits_below (64 * i) words + count_by (λ here. here) l) (word_bits words i j small)
 
 -- ---- running counts
+-- those up to the next word are those of one word more
+pub bits_below-word : (words : List ℕ) (k : ℕ) → get_or words k 0 < 2 ^ 64 → bits_below (64 * (k + 1)) words ≡ bits_below (64 * k) words + count_ones (get_or words k 0)
+bits_below-word words k fits =
+    let size : 64 * (k + 1) ≡ 64 * k + 64 = omega arith in
+    ap (λ n. bits_below n words) size ∙ bits_below-in_word words k 64 (omega arith)
+    ∙ ap (λ n. bits_below (64 * k) words + n) (count_by-low_bits 64 (get_or words k 0) fits)
+
 pub bits_below-words : (words : List ℕ) (k : ℕ) → ((i : ℕ) → get_or words i 0 < 2 ^ 64) → k ≤ length words → bits_below (64 * k) words ≡ sum_by count_ones (take k words)
 bits_below-words words zero fit within = refl
 bits_below-words words (suc k) fit within =

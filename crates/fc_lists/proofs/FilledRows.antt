@@ -1,9 +1,10 @@
 -- The rows at the positions of a set, where those that are empty are not looked at.
-use Rattle.std.proofs.Common.{◌≡◌, ℕ, zero, suc, ◌+◌, ◌-◌, ◌<◌, ◌≤◌, ◌⊎◌, inl, inr, Bool, true, false, cond, not, ◌&&◌, List, [], ◌∷◌, ◌++◌, length, get_or, take, map, replicate, count_by, refl, sym, ap, ap₂, subst, ◌∙◌, arith, add-zero, append_assoc, ne_eqb}
+use Rattle.std.proofs.Common.{◌≡◌, ℕ, zero, suc, ◌+◌, ◌-◌, ◌<◌, ◌≤◌, ◌⊎◌, inl, inr, Bool, true, false, cond, not, ◌&&◌, List, [], ◌∷◌, ◌++◌, length, get_or, take, map, replicate, count_by, refl, sym, ap, ap₂, subst, ◌∙◌, arith, add-zero, append_assoc, ne_eqb, All}
 use Rattle.std.specs.List.{items_where_true}
 use Rattle.std.proofs.lemmas.Bool.{cases_lt}
 use Rattle.std.proofs.lemmas.List.{append-nil, take_all, take_more, replicate_more, get_or_past, get_or-map}
 use Rattle.fc_spec.specs.documents.Sets.{zip_with}
+use Rattle.fc_spec.proofs.words.Counting.{count_by-cons}
 use Rattle.fc_spec.specs.words.Lists.{is_empty}
 use Rattle.fc_docset.specs.Positions.{contains}
 use Rattle.fc_docset.specs.Neighbours.{HasNoneFrom, IsNextFrom}
@@ -69,13 +70,13 @@ pub record HasGap {T : Type 0} (set : List Bool) (rows : List (List T)) (from to
 
 -- ---- one filled row after another
 -- behind the first rows stand those of the positions before one
-pub record AreAdded {T : Type 0} (set : List Bool) (rows first : List (List T)) (now : Laid T) (done from : ℕ) : Type 0 where
-  pub count : done ≡ kept_before set from
-  pub made : now ≡ record { rows = first ++ take done (items_where_true set rows); next = [] }
+pub record AreAdded {T : Type 0} (set : List Bool) (rows first : List (List T)) (now : Laid T) (from : ℕ) : Type 0 where
+  pub within : from ≤ length set
+  pub made : now ≡ record { rows = first ++ take (kept_before set from) (items_where_true set rows); next = [] }
 
-pub none_added : {T : Type 0} (set : List Bool) (rows : List (List T)) (now : Laid T) → now.next ≡ [] → AreAdded set rows now.rows now 0 0
+pub none_added : {T : Type 0} (set : List Bool) (rows : List (List T)) (now : Laid T) → now.next ≡ [] → AreAdded set rows now.rows now 0
 none_added set rows now whole = record {
-  count = refl;
+  within = omega arith;
   made = ap (λ next. record { rows = now.rows; next = next }) whole ∙ ap (λ l. record { rows = l; next = [] }) (sym (append-nil now.rows));
 }
 
@@ -140,42 +141,57 @@ module _ {T : Type 0} (set filled : List Bool) (rows : List (List T)) (long : le
       subst (HasGap set rows from) next
       (wider from (from + n) (none (from + n) (omega arith) (omega arith)) (gap_from from n (λ k low below. none k low (omega arith))))
 
-  pub one_added : (first : List (List T)) (now skipped new : Laid T) (done from place at : ℕ) (row : List T) → AreAdded set rows first now done from
-      → IsNextFrom (contains filled) from at → contains set at ≡ true → place ≡ kept_before set at → row ≡ get_or rows at []
-      → skipped ≡ record { rows = now.rows ++ replicate (place - done) []; next = [] } → new ≡ record { rows = skipped.rows ++ row ∷ []; next = [] }
-      → AreAdded set rows first new (place + 1) (at + 1)
-  one_added first now skipped new done from place at row added next here place_is row_is skipped_is new_is =
+  pub one_added : (first : List (List T)) (now skipped new : Laid T) (from at width : ℕ) (row : List T) → AreAdded set rows first now from
+      → IsNextFrom (contains filled) from at → contains set at ≡ true → kept_before set from + width ≡ kept_before set at → row ≡ get_or rows at []
+      → skipped ≡ record { rows = now.rows ++ replicate width []; next = [] } → new ≡ record { rows = skipped.rows ++ row ∷ []; next = [] }
+      → AreAdded set rows first new (at + 1)
+  one_added first now skipped new from at width row added next here counted row_is skipped_is new_is =
       let behind = next.behind in
       let to : from + (at - from) ≡ at = omega arith in
       let gap = subst (HasGap set rows from) to (gap_from from (at - from) (λ k low below. next.none_between k low (omega arith))) in
-      let width : place - done ≡ gap.more = omega (arith, gap.count, added.count) in
+      let width_is : width ≡ gap.more = omega (arith, gap.count, counted) in
       let after : suc at ≡ at + 1 = omega arith in
-      let counted : kept_before set (at + 1) ≡ kept_before set at + 1 =
+      let more : kept_before set (at + 1) ≡ kept_before set at + 1 =
       ap (kept_before set) (sym after) ∙ kept_before-next set at ∙ ap (λ b. kept_before set at + cond b 1 0) here in
-      let reached : take (place + 1) (items_where_true set rows) ≡ (take (kept_before set from) (items_where_true set rows) ++ replicate gap.more []) ++ row ∷ [] =
-      ap (λ n. take (n + 1) (items_where_true set rows)) place_is ∙ with_row at here ∙ ap₂ (λ l r. l ++ r ∷ []) gap.is (sym row_is) in
+      let reached : take (kept_before set (at + 1)) (items_where_true set rows) ≡ (take (kept_before set from) (items_where_true set rows) ++ replicate gap.more []) ++ row ∷ [] =
+      ap (λ n. take n (items_where_true set rows)) more ∙ with_row at here ∙ ap₂ (λ l r. l ++ r ∷ []) gap.is (sym row_is) in
       record {
-        count = omega (arith, counted);
-        made = grown first (take (kept_before set from) (items_where_true set rows)) (take (place + 1) (items_where_true set rows)) now skipped new row (place - done) gap.more
-            (added.made ∙ ap (λ n. record { rows = first ++ take n (items_where_true set rows); next = [] }) added.count) width skipped_is new_is reached;
+        within = omega (arith, contained set at here);
+        made = grown first (take (kept_before set from) (items_where_true set rows)) (take (kept_before set (at + 1)) (items_where_true set rows)) now skipped new row width gap.more
+            added.made width_is skipped_is new_is reached;
       }
 
-  pub all_added : (first : List (List T)) (now new : Laid T) (done from total : ℕ) → AreAdded set rows first now done from
-      → HasNoneFrom (contains filled) from → total ≡ count_by (λ here. here) set → new ≡ record { rows = now.rows ++ replicate (total - done) []; next = [] }
+  pub all_added : (first : List (List T)) (now new : Laid T) (from width end : ℕ) → AreAdded set rows first now from
+      → HasNoneFrom (contains filled) from → end ≡ length set → kept_before set from + width ≡ kept_before set end → new ≡ record { rows = now.rows ++ replicate width []; next = [] }
       → new ≡ record { rows = first ++ items_where_true set rows; next = [] }
-  all_added first now new done from total added none total_is new_is =
-      let gap = gap_from from (length set) (λ k low below. none k low) in
-      let end : kept_before set (from + length set) ≡ count_by (λ here. here) set = kept_before-all set (from + length set) (omega arith) in
-      let width : total - done ≡ gap.more = omega (arith, gap.count, added.count, end) in
-      let all : take (kept_before set (from + length set)) (items_where_true set rows) ≡ items_where_true set rows =
-      take_all (kept_before set (from + length set)) (items_where_true set rows) (omega (arith, end, length-items_where_true set rows long)) in
-      grown_empty first (take (kept_before set from) (items_where_true set rows)) (items_where_true set rows) now new (total - done) gap.more
-      (added.made ∙ ap (λ n. record { rows = first ++ take n (items_where_true set rows); next = [] }) added.count) width new_is (sym all ∙ gap.is)
+  all_added first now new from width end added none end_is counted new_is =
+      let low = added.within in
+      let to : from + (end - from) ≡ end = omega arith in
+      let gap = subst (HasGap set rows from) to (gap_from from (end - from) (λ k low below. none k low)) in
+      let width_is : width ≡ gap.more = omega (arith, gap.count, counted) in
+      let total = kept_before-all set end (omega arith) in
+      let all : take (kept_before set end) (items_where_true set rows) ≡ items_where_true set rows =
+      take_all (kept_before set end) (items_where_true set rows) (omega (arith, total, length-items_where_true set rows long)) in
+      grown_empty first (take (kept_before set from) (items_where_true set rows)) (items_where_true set rows) now new width gap.more
+      added.made width_is new_is (sym all ∙ gap.is)
 
-  -- a filled position comes behind those that were reached
-  pub is_behind : (first : List (List T)) (now : Laid T) (done from at : ℕ) → AreAdded set rows first now done from → IsNextFrom (contains filled) from at → done ≤ kept_before set at
-  is_behind first now done from at added next =
-      let behind = next.behind in
-      let to : from + (at - from) ≡ at = omega arith in
-      let gap = subst (HasGap set rows from) to (gap_from from (at - from) (λ k low below. next.none_between k low (omega arith))) in
-      omega (arith, gap.count, added.count)
+-- where all rows are empty
+pub empty_added : {T : Type 0} (set : List Bool) (rows : List (List T)) (now new : Laid T) (total : ℕ) → length set ≡ length rows → All (λ row. row ≡ []) rows
+    → total ≡ count_by (λ here. here) set → new ≡ record { rows = now.rows ++ replicate total []; next = [] }
+    → new ≡ record { rows = now.rows ++ items_where_true set rows; next = [] }
+empty_added {T} set rows now new total long empty total_is new_is =
+    new_is ∙ ap (λ l. record { rows = now.rows ++ l; next = [] }) (ap (λ n. replicate n []) total_is ∙ sym (all_empty set rows long empty))
+  where
+    nothing : List T
+    nothing = []
+
+    all_empty : (set : List Bool) (rows : List (List T)) → length set ≡ length rows → All (λ row. row ≡ nothing) rows → items_where_true set rows ≡ replicate (count_by (λ here. here) set) nothing
+    all_empty [] rows long empty = refl
+    all_empty (h ∷ set) [] long empty = absurd (omega arith)
+    all_empty (true ∷ set) (row ∷ rows) long empty =
+        let one : suc (count_by (λ here. here) set) ≡ count_by (λ here. here) (true ∷ set) = omega (arith, count_by-cons (λ here. here) true set) in
+        ap₂ (λ r l. r ∷ l) (empty 0 row (omega arith)) (all_empty set rows (omega arith) (λ k d inside. empty (suc k) d (omega arith)))
+        ∙ ap (λ n. replicate n nothing) one
+    all_empty (false ∷ set) (row ∷ rows) long empty =
+        let none : count_by (λ here. here) set ≡ count_by (λ here. here) (false ∷ set) = omega (arith, count_by-cons (λ here. here) false set) in
+        all_empty set rows (omega arith) (λ k d inside. empty (suc k) d (omega arith)) ∙ ap (λ n. replicate n nothing) none

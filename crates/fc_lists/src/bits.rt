@@ -75,3 +75,26 @@ pub fn rank(words: &[u64], before: &[u32], at: u32) -> Option<u32>
     }
     Some(before[index] + (word & (bit - 1)).count_ones())
 }
+
+/// How many bits are 1 from one position up to but not including another.
+pub fn count_between(words: &[u64], from: u32, to: u32) -> u32
+    requires order { from ≤ to }
+    requires within { to ≤ 64 * length words.now }
+    ensures { bits_below from words.now + result ≡ bits_below to words.now }
+{
+    let mut count = low_ones(words, to);
+    for at in from / 64..to / 64 {
+        count += words[at as usize].count_ones();
+    }
+    count - low_ones(words, from)
+}
+
+// How many bits are 1 in the word of a position, below the position.
+fn low_ones(words: &[u64], at: u32) -> u32
+    ensures { bits_below (64 * (at / 64)) words.now + result ≡ bits_below at words.now }
+{
+    match words.get((at / 64) as usize) {
+        Some(word) => (*word & ((1 << (at % 64)) - 1)).count_ones(),
+        None => 0,
+    }
+}

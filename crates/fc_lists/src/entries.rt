@@ -4,11 +4,10 @@ ghost use Rattle.std.specs.List.{items_where_true, range_with_len};
 ghost use Rattle.std.specs.List.Sorted.{IsStrictlyIncreasing};
 ghost use Rattle.fc_docset.specs.Positions.{positions};
 ghost use Rattle.fc_lists.specs.Among.{is_among};
-ghost use Rattle.fc_lists.specs.Kept.{AreCounts};
 ghost use Rattle.fc_lists.specs.Ordered.{AreInOrder};
 
 use crate::lists::Lists;
-use crate::live::{filled, place_of};
+use crate::live::{filled, kept_between};
 use crate::numbered::positions_of_numbers;
 use crate::ordered::in_order;
 use crate::rows::Rows;
@@ -130,11 +129,9 @@ impl Entries<u32> {
         alloc: Global,
         rows: &Rows<u32>,
         live: &DocSet,
-        counts: &[u32],
         more: u32,
     ) -> Result<(), WantMemory>
         requires length { length live.now ≡ length rows.now }
-        requires counts { AreCounts live.now counts.now }
         requires small { All (All (λ number. number + more < 2 ^ 32)) rows.now }
         requires whole { self.old.next ≡ [] }
         ensures { OnOk result (self.new ≡ record {
@@ -143,19 +140,17 @@ impl Entries<u32> {
           next = [];
         }) }
     {
+        if rows.are_empty() {
+            return self.skip(live.count());
+        }
         let filled = filled(alloc, rows, live)?;
-        let mut done = 0;
         let mut from = 0;
         while let Some(at) = filled.next_from(from) {
-            let Some(place) = place_of(live, counts, at) else {
-                unreachable!()
-            };
-            self.skip(place - done)?;
+            self.skip(kept_between(live, from, at))?;
             self.add_row(rows.row(at), more)?;
-            done = place + 1;
             from = at + 1;
         }
-        self.skip(live.count() - done)
+        self.skip(kept_between(live, from, live.len()))
     }
 
     /// Puts the number that stands at its place in the list in place of each item.
@@ -203,35 +198,31 @@ impl Entries<i64> {
         alloc: Global,
         rows: &Rows<i64>,
         live: &DocSet,
-        counts: &[u32],
     ) -> Result<(), WantMemory>
         requires length { length live.now ≡ length rows.now }
-        requires counts { AreCounts live.now counts.now }
         requires whole { self.old.next ≡ [] }
         ensures { OnOk result (self.new ≡ record
             { rows = self.old.rows ++ items_where_true live.now rows.now; next = [] }) }
     {
+        if rows.are_empty() {
+            return self.skip(live.count());
+        }
         let filled = filled(alloc, rows, live)?;
-        let mut done = 0;
         let mut from = 0;
         while let Some(at) = filled.next_from(from) {
-            let Some(place) = place_of(live, counts, at) else {
-                unreachable!()
-            };
-            self.skip(place - done)?;
+            self.skip(kept_between(live, from, at))?;
             self.add_row(rows.row(at))?;
-            done = place + 1;
             from = at + 1;
         }
-        self.skip(live.count() - done)
+        self.skip(kept_between(live, from, live.len()))
     }
 
     /// The integers in ascending order, and beside each its position.
-    pub fn in_order(&self, alloc: Global) -> Result<(Vec<i64>, Vec<u32>), WantMemory>
-        requires { self.now.next ≡ [] }
-        ensures { IfOk result (λ made. AreInOrder made.0.items made.1.items self.now.rows) }
+    pub fn in_order(self, alloc: Global) -> Result<(Vec<i64>, Vec<u32>), WantMemory>
+        requires { self.next ≡ [] }
+        ensures { IfOk result (λ made. AreInOrder made.0.items made.1.items self.rows) }
     {
-        let made = in_order(alloc, &self.entries)?;
+        let made = in_order(alloc, self.entries)?;
         Ok(made)
     }
 }

@@ -1,11 +1,11 @@
 // Where positions go when those of a set alone are left.
-ghost use Rattle.std.specs.Prelude.{◌≡◌, ◌&&◌, length, map, not, IfOk, Some, None, if◌then◌else◌};
+ghost use Rattle.std.specs.Prelude.{◌≡◌, ◌+◌, ◌≤◌, ◌&&◌, length, map, not, IfOk, Some, None, if◌then◌else◌};
 ghost use Rattle.fc_spec.specs.documents.Sets.{zip_with};
 ghost use Rattle.fc_spec.specs.words.Lists.{is_empty};
 ghost use Rattle.fc_docset.specs.Positions.{contains};
 ghost use Rattle.fc_lists.specs.Kept.{AreCounts, kept_before};
 
-use crate::bits::{bits_before, rank};
+use crate::bits::{bits_before, count_between, rank};
 use crate::rows::Rows;
 use fc_base::WantMemory;
 use fc_docset::DocSet;
@@ -27,6 +27,15 @@ pub fn place_of(live: &DocSet, counts: &[u32], at: u32) -> Option<u32>
     ensures { result ≡ (if contains live.now at then Some (kept_before live.now at) else None) }
 {
     rank(live.words(), counts, at)
+}
+
+/// How many positions of the set stand from one up to but not including another.
+pub fn kept_between(live: &DocSet, from: u32, to: u32) -> u32
+    requires order { from ≤ to }
+    requires within { to ≤ length live.now }
+    ensures { kept_before live.now from + result ≡ kept_before live.now to }
+{
+    count_between(live.words(), from, to)
 }
 
 /// The positions of the set that have items.

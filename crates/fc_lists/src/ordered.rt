@@ -8,21 +8,21 @@ use fc_base::WantMemory;
 use std::alloc::Global;
 
 /// The integers of the entries in ascending order, and beside each its position.
-pub fn in_order(alloc: Global, entries: &[Entry<i64>]) -> Result<(Vec<i64>, Vec<u32>), WantMemory>
-    ensures { IfOk result (λ made. AreInOrderOf entries.now made.0.items made.1.items) }
+pub fn in_order(alloc: Global, entries: Vec<Entry<i64>>) -> Result<(Vec<i64>, Vec<u32>), WantMemory>
+    ensures { IfOk result (λ made. AreInOrderOf entries.items made.0.items made.1.items) }
 {
-    let sorted = sorted(alloc, entries)?;
+    let sorted = sorted(entries)?;
     let values = items_of(alloc, &sorted)?;
     let positions = positions_of(alloc, &sorted)?;
     Ok((values, positions))
 }
 
 // The entries in the order of their integers.
-fn sorted(alloc: Global, entries: &[Entry<i64>]) -> Result<Vec<Entry<i64>>, WantMemory>
-    ensures entries { IfOk result (λ sorted. IsPermutation entries.now sorted.items) }
+fn sorted(entries: Vec<Entry<i64>>) -> Result<Vec<Entry<i64>>, WantMemory>
+    ensures entries { IfOk result (λ sorted. IsPermutation entries.items sorted.items) }
     ensures rising { IfOk result (λ sorted. Rise (map (λ entry. entry.item) sorted.items)) }
 {
-    let mut sorted = entries.to_vec(alloc)?;
+    let mut sorted = entries;
     sorted.sort_by_key(|entry| entry.item)?;
     Ok(sorted)
 }

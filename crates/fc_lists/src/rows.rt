@@ -1,5 +1,6 @@
 // The items of each position, where most positions may have none.
 ghost use Rattle.std.specs.Prelude.{◌≡◌, ◌<◌, ◌≤◌, ◌^◌, [], length, map, not, slice_index, slice_index_or, take, true, vec_len, All, IfOk, MatchBool};
+ghost use Rattle.std.specs.Bool.{OnTrue};
 ghost use Rattle.std.specs.List.Sorted.{IsNonDecreasingBy};
 ghost use Rattle.fc_spec.specs.documents.Bits.{words_for, HasBits};
 ghost use Rattle.fc_spec.specs.words.Lists.{is_empty};
@@ -76,6 +77,13 @@ impl<T: Drop> Rows<T> {
             Some(rank) => self.lists.list(rank),
             None => &[],
         }
+    }
+
+    /// Whether there are no bits at all: then no position has an item.
+    pub fn are_empty(&self) -> bool
+        ensures { OnTrue result (All (λ row. row ≡ []) self.now) }
+    {
+        self.words.is_empty()
     }
 
     /// Makes the bits exactly those of the positions with an item.

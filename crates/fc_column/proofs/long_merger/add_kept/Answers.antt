@@ -1,10 +1,21 @@
-use Rattle.std.proofs.Common.{◌≡◌, ◌+◌, ◌∙◌, ◌∷◌, ◌++◌, sym, ap, arith, get_or, drop, pos, cond, append_assoc, ap₂, to_z, of_z, w64, rules}
-use Rattle.std.proofs.lemmas.List.{append-nil}
+use Rattle.std.proofs.Common.{◌≡◌, ◌+◌, ◌∙◌, ◌∷◌, ◌++◌, length, sym, ap, arith, get_or, drop, pos, cond, append_assoc, ap₂, to_z, of_z, w64, rules}
+use Rattle.std.proofs.lemmas.List.{append-nil, nil_from_length}
 use Rattle.fc_docset.specs.Positions.{contains}
 use Rattle.fc_lists.specs.Kept.{kept_before}
 use Rattle.fc_column.proofs.KeptInOrder.{kept_entries, kept_next, kept_end, some_if, none_if, moved}
 use Rattle.fc_column.proofs.long_merger.add_kept.Goals as goal
 use Rattle.fc_column.proofs.long_merger.add_kept.Goals.{in-Some+in_ok-push, in_default}
+
+pub returns-then-is_empty : goal.returns-then-is_empty
+returns-then-is_empty c =
+    let values = c.in_order.result.0.now in
+    let positions = c.in_order.result.1.now in
+    let live = c.args.live.now in
+    let first = c.args.first in
+    let old = c.args.ordered.now.items in
+    let none : length values ≡ 0 = search rules in
+    moved c.args.column.now live first values positions old old c.in_order.ensures c.requires.length
+    (sym (append-nil old) ∙ ap (λ l. old ++ l) (sym (ap (λ l. kept_entries live first l positions) (nil_from_length values none))))
 
 pub loop-place-preserved : goal.loop-place-preserved
 loop-place-preserved c =

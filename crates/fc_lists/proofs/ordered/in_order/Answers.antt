@@ -14,5 +14,5 @@ returns c =
       even = ap length positions ∙ length-map sorted (λ entry. entry.at) ∙ sym (ap length values ∙ length-map sorted (λ entry. entry.item));
       rising = rw values c.in_ok-sorted.ensures.rising;
       same = λ passes at. ap₂ (count_beside passes at) values positions ∙ beside_sorted passes at sorted
-          ∙ sum_by-IsPermutation (λ entry. cond (passes entry.item && (entry.at == at)) 1 0) c.args.entries.now sorted c.in_ok-sorted.ensures.entries;
+          ∙ sum_by-IsPermutation (λ entry. cond (passes entry.item && (entry.at == at)) 1 0) c.args.entries.items sorted c.in_ok-sorted.ensures.entries;
     }

@@ -1,12 +1,7 @@
-use Rattle.std.proofs.Common.{◌≡◌, rules, of_calls}
+use Rattle.std.proofs.Common.{rules, of_calls}
 use Rattle.std.proofs.lemmas.Fn.{always_returns_same}
 use Rattle.fc_lists.proofs.SortedEntries.{rise_of_sorted}
 use Rattle.fc_lists.proofs.ordered.sorted.Goals as goal
-
-pub returns-clause-entries : goal.returns-clause-entries
-returns-clause-entries c =
-    let same : c.in_ok-sorted.sorted.items ≡ c.args.entries.now = search rules in
-    rw same at c.in_ok-sort_by_key.ensures.permutation
 
 pub returns-clause-rising : goal.returns-clause-rising
 returns-clause-rising c =

@@ -21,7 +21,7 @@ few first end rows made column live from to is long small =
 pub add_kept-requires-clause-small : goal.add_kept-requires-clause-small
 add_kept-requires-clause-small c =
     few c.len-first.result c.len-end.result c.self.inside.rows.rows c.add_rows.new.self.rows c.args.column.now c.args.live.now c.len-first.ensures c.len-end.ensures
-    (ap (λ l. l.rows) c.in_ok-add_rows.ensures ∙ ap (λ l. c.self.inside.rows.rows ++ items_where_true c.args.live.now l) c.rows-2.ensures.rows)
+    (ap (λ l. l.rows) c.in_ok-add_rows.ensures ∙ ap (λ l. c.self.inside.rows.rows ++ items_where_true c.args.live.now l) c.rows.ensures.rows)
     c.requires (omega arith)
 
 -- the entries are those of all rows
@@ -47,12 +47,12 @@ invariant_of-result c =
     let live = c.args.live.now in
     let column = c.args.column.now in
     let made : c.add_rows.new.self.rows ≡ rows ++ items_where_true live column =
-    ap (λ l. l.rows) c.in_ok-add_rows.ensures ∙ ap (λ l. rows ++ items_where_true live l) c.rows-2.ensures.rows in
+    ap (λ l. l.rows) c.in_ok-add_rows.ensures ∙ ap (λ l. rows ++ items_where_true live l) c.rows.ensures.rows in
     let kept = c.self.invariant in
     record {
-      ascending = subst (All (IsAscending int_cmp)) (sym made) (All-append (IsAscending int_cmp) rows (items_where_true live column) kept.ascending (kept_hold (IsAscending int_cmp) live column c.rows-2.ensures.ascending));
+      ascending = subst (All (IsAscending int_cmp)) (sym made) (All-append (IsAscending int_cmp) rows (items_where_true live column) kept.ascending (kept_hold (IsAscending int_cmp) live column c.rows.ensures.ascending));
       long = subst (All (All (λ value. is_long value ≡ true))) (sym made)
-          (All-append (All (λ value. is_long value ≡ true)) rows (items_where_true live column) kept.long (kept_hold (All (λ value. is_long value ≡ true)) live column c.rows-2.ensures.long));
+          (All-append (All (λ value. is_long value ≡ true)) rows (items_where_true live column) kept.long (kept_hold (All (λ value. is_long value ≡ true)) live column c.rows.ensures.long));
       whole = ap (λ l. l.next) c.in_ok-add_rows.ensures;
       same = λ passes at.
           same_more rows column live c.self.inside.ordered.items c.add_kept.new.ordered.items kept.same

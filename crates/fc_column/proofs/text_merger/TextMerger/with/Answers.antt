@@ -22,7 +22,7 @@ add_rows-requires-clause-small c = λ k d inside j e there.
 pub add_terms-requires-clause-lists : goal.add_terms-requires-clause-lists
 add_terms-requires-clause-lists c =
     let terms = c.column.inside.terms.items in
-    ap length c.column.invariant.placed ∙ length-map-range_with_len (λ ord. positions (map (is_among ord) c.column.inside.ordinals)) 0 (length terms) ∙ sym (ap length c.deref-2.ensures.value)
+    ap length c.column.invariant.placed ∙ length-map-range_with_len (λ ord. positions (map (is_among ord) c.column.inside.ordinals)) 0 (length terms) ∙ sym (ap length c.deref.ensures.value)
 
 -- the positions of each number are those of a list of rows
 lists_within : (lists rows : List (List ℕ)) (count size : ℕ) → lists ≡ map (λ ord. positions (map (is_among ord) rows)) (range_with_len 0 count) → length rows ≡ size → All (All (λ at. at < size)) lists
@@ -51,7 +51,7 @@ invariant_of-result c =
     let count = c.self.inside.count in
     let keeps : Keeps old count rows = c.self.invariant.keeps in
     let long : length live ≡ length column.ordinals = c.requires ∙ ap length (sym c.column.view_is) ∙ length-map column.ordinals _ in
-    let texts = c.in_ok-add_terms.ensures ∙ ap (λ t. old ++ numbered_terms count t (map (list_any (contains live)) column.positions)) c.deref-2.ensures.value
+    let texts = c.in_ok-add_terms.ensures ∙ ap (λ t. old ++ numbered_terms count t (map (list_any (contains live)) column.positions)) c.deref.ensures.value
     ∙ ap (λ u. old ++ numbered_terms count terms u) (used_are live column.ordinals (length terms) column.positions long c.column.invariant.placed) in
     let now = ap (λ l. l.rows) c.in_ok-add_rows.ensures in
     let more : c.in_ok-next.next ≡ count + c.terms.result = search rules in
@@ -70,7 +70,7 @@ returns c =
     let count = c.self.inside.count in
     let keeps : Keeps old count rows = c.self.invariant.keeps in
     let long : length live ≡ length column.ordinals = c.requires ∙ ap length (sym c.column.view_is) ∙ length-map column.ordinals _ in
-    let texts = c.in_ok-add_terms.ensures ∙ ap (λ t. old ++ numbered_terms count t (map (list_any (contains live)) column.positions)) c.deref-2.ensures.value
+    let texts = c.in_ok-add_terms.ensures ∙ ap (λ t. old ++ numbered_terms count t (map (list_any (contains live)) column.positions)) c.deref.ensures.value
     ∙ ap (λ u. old ++ numbered_terms count terms u) (used_are live column.ordinals (length terms) column.positions long c.column.invariant.placed) in
     let now = ap (λ l. l.rows) c.in_ok-add_rows.ensures in
     ap₂ (λ t r. map (map (text_numbered t)) r) texts now

@@ -1,39 +1,43 @@
 use Rattle.std.proofs.Common.{arith}
 use Rattle.std.proofs.lemmas.Result.{on_ok_weaker}
-use Rattle.fc_docset.specs.Positions.{contains}
-use Rattle.fc_lists.specs.Kept.{kept_before}
-use Rattle.fc_lists.proofs.BitRanks.{some_rank, no_rank}
-use Rattle.fc_lists.proofs.FilledRows.{none_added, one_added, all_added, is_behind, kept_if_filled, empty_beside}
+use Rattle.fc_lists.proofs.FilledRows.{contained, none_added, empty_added, one_added, all_added, kept_if_filled, empty_beside}
 use Rattle.fc_lists.proofs.entries.Entries+i64.add_rows.Goals as goal
 
 pub loop-at-init : goal.loop-at-init
 loop-at-init c = none_added c.args.live.now c.args.rows.now c.args.self.now c.requires.whole
 
-pub unreachable-requires : goal.unreachable-requires
-unreachable-requires c =
+pub kept_between-requires-clause-within : goal.kept_between-requires-clause-within
+kept_between-requires-clause-within c =
     let here = kept_if_filled c.args.live.now c.args.rows.now c.in_ok-filled.filled c.in_ok-filled.ensures c.in-Some.at c.in-Some.ensures.found.member in
-    let none = no_rank (contains c.args.live.now c.in-Some.at) (kept_before c.args.live.now c.in-Some.at) c.in_default-place_of.ensures in
-    absurd cc
+    omega (arith, contained c.args.live.now c.in-Some.at here)
 
-pub overflow_sub-place : goal.overflow_sub-place
-overflow_sub-place c =
-    let place = some_rank (contains c.args.live.now c.in-Some.at) (kept_before c.args.live.now c.in-Some.at) c.in-Some-place_of.place c.in-Some-place_of.ensures in
-    let behind = is_behind c.args.live.now c.in_ok-filled.filled c.args.rows.now c.requires.length
-    (empty_beside c.args.live.now c.args.rows.now c.in_ok-filled.filled c.requires.length c.in_ok-filled.ensures)
-    c.args.self.now.rows c.loop-at.self c.loop-at.done c.loop-at.from c.in-Some.at c.loop-at.invariant c.in-Some.ensures.found in
-    omega (arith, place.1, behind)
+pub row-requires : goal.row-requires
+row-requires c =
+    let here = kept_if_filled c.args.live.now c.args.rows.now c.in_ok-filled.filled c.in_ok-filled.ensures c.in-Some.at c.in-Some.ensures.found.member in
+    omega (arith, contained c.args.live.now c.in-Some.at here, c.requires.length)
 
 pub loop-at-preserved : goal.loop-at-preserved
 loop-at-preserved c =
-    let place = some_rank (contains c.args.live.now c.in-Some.at) (kept_before c.args.live.now c.in-Some.at) c.in-Some-place_of.place c.in-Some-place_of.ensures in
+    let here = kept_if_filled c.args.live.now c.args.rows.now c.in_ok-filled.filled c.in_ok-filled.ensures c.in-Some.at c.in-Some.ensures.found.member in
     one_added c.args.live.now c.in_ok-filled.filled c.args.rows.now c.requires.length
     (empty_beside c.args.live.now c.args.rows.now c.in_ok-filled.filled c.requires.length c.in_ok-filled.ensures)
-    c.args.self.now.rows c.loop-at.self c.skip.new.self c.add_row.new.self c.loop-at.done c.loop-at.from c.in-Some-place_of.place c.in-Some.at c.row.result.now
-    c.loop-at.invariant c.in-Some.ensures.found place.0 place.1 c.row.ensures c.in_ok-skip.ensures.ok c.in_ok-add_row.ensures
+    c.args.self.now.rows c.loop-at.self c.skip-in-Some.new.self c.add_row.new.self c.loop-at.from c.in-Some.at c.kept_between.result c.row.result.now
+    c.loop-at.invariant c.in-Some.ensures.found here c.kept_between.ensures c.row.ensures c.in_ok-skip.ensures.ok c.in_ok-add_row.ensures
+
+pub loop-at-smaller : goal.loop-at-smaller
+loop-at-smaller c =
+    let here = kept_if_filled c.args.live.now c.args.rows.now c.in_ok-filled.filled c.in_ok-filled.ensures c.in-Some.at c.in-Some.ensures.found.member in
+    omega (arith, contained c.args.live.now c.in-Some.at here, c.in-Some.ensures.found.behind)
+
+pub returns-then-are_empty : goal.returns-then-are_empty
+returns-then-are_empty c =
+    on_ok_weaker c.skip.result
+    (empty_added c.args.live.now c.args.rows.now c.args.self.now c.skip.new.self c.count.result c.requires.length c.if-are_empty.ensures c.count.ensures)
+    c.skip.ensures.ok
 
 pub returns : goal.returns
 returns c = on_ok_weaker c.skip-2.result
     (all_added c.args.live.now c.in_ok-filled.filled c.args.rows.now c.requires.length
     (empty_beside c.args.live.now c.args.rows.now c.in_ok-filled.filled c.requires.length c.in_ok-filled.ensures)
-    c.args.self.now.rows c.loop-at.self c.skip-2.new.self c.loop-at.done c.loop-at.from c.count.result c.loop-at.invariant c.in_default.ensures.found c.count.ensures)
+    c.args.self.now.rows c.loop-at.self c.skip-2.new.self c.loop-at.from c.kept_between-2.result c.len.result c.loop-at.invariant c.in_default.ensures.found c.len.ensures c.kept_between-2.ensures)
     c.skip-2.ensures.ok

@@ -1,6 +1,5 @@
-use Rattle.std.proofs.Common.{ℤ, List, subst, ap, ◌∙◌}
-use Rattle.fc_lists.specs.declared.entries.Entry.{Entry}
-use Rattle.fc_lists.specs.Ordered.{AreInOrder, AreInOrderOf}
+use Rattle.std.proofs.Common.{subst, ap, ◌∙◌}
+use Rattle.fc_lists.specs.Ordered.{AreInOrder}
 use Rattle.fc_lists.proofs.ItemsAt.{entries_below}
 use Rattle.fc_lists.proofs.SortedEntries.{order_of_rows}
 use Rattle.fc_lists.proofs.entries.Entries+i64.in_order.Goals as goal
@@ -13,4 +12,4 @@ returns c =
     let positions = c.in_ok-made.made.1.items in
     let below = entries_below es inside.len c.self.invariant.within (ap (λ laid. laid.next) c.self.view_is ∙ c.requires) in
     subst (AreInOrder values positions) (ap (λ laid. laid.rows) c.self.view_is)
-    (order_of_rows es inside.len values positions below (subst (λ (l : List (Entry ℤ)). AreInOrderOf l values positions) c.deref.ensures.value c.in_ok-made.ensures))
+    (order_of_rows es inside.len values positions below c.in_ok-made.ensures)
