@@ -13,6 +13,8 @@ use Rattle.fc_spec.proofs.words.WhereTrue.{length-zip_with}
 use Rattle.fc_docset.specs.Positions.{contains, positions, positions_from}
 use Rattle.fc_segment.specs.BlockPositions.{first_in_block, is_in_block_of, parent_in_block}
 use Rattle.fc_segment.specs.Parents.{parents_in}
+use Rattle.fc_segment.proofs.Cutting.{length-parents_in}
+use Rattle.fc_segment.proofs.ParentTexts.{contains_both}
 use Rattle.fc_segment.proofs.BlockMarks.{IsInBlock, in_block, size_of, total_of, parent_here, parent_later}
 
 -- ---- a member among positions is one of all numbers
@@ -164,6 +166,30 @@ ranges_are test blocks k = any_position (λ at. is_in_block_of blocks at k) (map
             let same = parent_of_position blocks at k below f.0 f.1 f.2 in
             let wrong = sym e ∙ ap (λ n. test (get_or (documents_in blocks) n [])) same ∙ sym (passes at below) ∙ here in cc)
             ∙ sym e
+
+-- the same of the parents among them
+pub ranges_of_parents : (test : Document → Bool) (blocks : List Block) (k : ℕ)
+    → list_any (λ at. is_in_block_of blocks at k) (positions (zip_with ◌&&◌ (parents_in blocks) (map test (documents_in blocks)))) ≡ get_or (blocks_where (λ b. test b.parent) blocks) k false
+ranges_of_parents test blocks k =
+    let having = map test (documents_in blocks) in
+    let both = zip_with ◌&&◌ (parents_in blocks) having in
+    let even : length (parents_in blocks) ≡ length having = length-parents_in blocks ∙ sym (length-map (documents_in blocks) test) in
+    let size : length both ≡ length having = length-zip_with ◌&&◌ (parents_in blocks) having even ∙ even in
+    any_position (λ at. is_in_block_of blocks at k) both
+    ∙ ap (λ n. list_any (λ at. contains both at && is_in_block_of blocks at k) (range_with_len 0 n)) size
+    ∙ (λ i. list_any (λ at. same at i) (range_with_len 0 (length having)))
+    ∙ sym (any_position (λ at. is_in_block_of blocks at k) having)
+    ∙ ranges_are test blocks k
+  where
+    twice : (parent here range : Bool) → ((parent && here) && (parent && range)) ≡ (here && (parent && range))
+    twice true here range = refl
+    twice false true range = refl
+    twice false false range = refl
+
+    same : (at : ℕ) → (contains (zip_with ◌&&◌ (parents_in blocks) (map test (documents_in blocks))) at && is_in_block_of blocks at k) ≡ (contains (map test (documents_in blocks)) at && is_in_block_of blocks at k)
+    same at =
+        ap (λ b. b && is_in_block_of blocks at k) (contains_both (parents_in blocks) (map test (documents_in blocks)) at (length-parents_in blocks ∙ sym (length-map (documents_in blocks) test)))
+        ∙ twice (contains (parents_in blocks) at) (contains (map test (documents_in blocks)) at) (nat_le (first_in_block blocks at) k && nat_lt k (at + 1))
 
 -- ---- sets that agree at each position
 pub joined_sets : (old new more : List Bool) → length new ≡ length old → length more ≡ length old → ((k : ℕ) → contains new k ≡ (contains old k || contains more k)) → new ≡ zip_with ◌||◌ old more

@@ -8,7 +8,8 @@ pub mod WalkedFields
 pub mod WalkedDocuments
 pub mod StoredBlocks
 pub mod BlockMarks
+pub mod ParentTexts
 pub mod BlockRanges
-pub mod IdPositions
+pub mod FirstColumn
 pub mod MergedParts
 pub mod MergedMarks

@@ -12,7 +12,7 @@ use Rattle.fc_segment.specs.Columns.{column_values, is_text_column}
 use Rattle.fc_segment.specs.Parents.{parents_in}
 use Rattle.fc_segment.specs.Cut.{cut, ends_with_parent}
 use Rattle.fc_segment.specs.Columned.{Columned}
-use Rattle.fc_segment.specs.Stored.{document_at, documents_at, stored, IsStored}
+use Rattle.fc_segment.specs.Stored.{columned, document_at, documents_at, stored, IsStored}
 use Rattle.fc_segment.proofs.Cutting.{cut-documents_in, documents_in-cut, parents_in-cut, ends_with_parent-parents_in, length-parents_in}
 use Rattle.fc_segment.proofs.Transposed.{column_of-documents_at, documents_at-columns_of}
 
@@ -42,35 +42,31 @@ column_of-stored s field column is within at =
     ∙ column_of-documents_at columns (length s.parents) field (omega (arith, length-map s.columns.items column_values)) (ap length here ∙ even)
     ∙ here
 
--- ---- a segment that was made of blocks
-pub record IsMadeOf (blocks : List Block) (count : ℕ) (s : Inside) : Type 0 where
-  pub parents : s.parents ≡ parents_in blocks
-  pub columns : map column_values s.columns.items ≡ map (λ field. column_of field (documents_in blocks)) (range_with_len 0 count)
+-- ---- parents and columns that were made of blocks
+pub record IsMadeOf (blocks : List Block) (count : ℕ) (parents : List Bool) (columns : List Column) : Type 0 where
+  pub marks : parents ≡ parents_in blocks
+  pub values : map column_values columns ≡ map (λ field. column_of field (documents_in blocks)) (range_with_len 0 count)
 
-length-column : (blocks : List Block) (count field : ℕ) (column : Column) (s : Inside) → IsMadeOf blocks count s → field < length s.columns.items
-    → length (column_values (get_or s.columns.items field column)) ≡ length s.parents
-length-column blocks count field column s made within =
-    let ds = documents_in blocks in
-    let below : field < count = omega (arith, length-map s.columns.items column_values, ap length made.columns, length-map-range_with_len (λ n. column_of n ds) 0 count) in
-    ap length (sym (get_or-map column_values s.columns.items field column [] within)
-    ∙ ap (λ l. get_or l field []) made.columns
-    ∙ get_or-map-range_with_len (λ n. column_of n ds) 0 count field field [] below (omega arith))
-    ∙ length-map ds (λ d. values_of d field) ∙ sym (length-parents_in blocks) ∙ ap length (sym made.parents)
+module _ (blocks : List Block) (count : ℕ) (parents : List Bool) (columns : List Column) (made : IsMadeOf blocks count parents columns) where
+  pub made_even : All (λ column. length (column_values column) ≡ length parents) columns
+  made_even field column within =
+      let ds = documents_in blocks in
+      let below : field < count = omega (arith, length-map columns column_values, ap length made.values, length-map-range_with_len (λ n. column_of n ds) 0 count) in
+      ap length (sym (get_or-map column_values columns field column [] within)
+      ∙ ap (λ l. get_or l field []) made.values
+      ∙ get_or-map-range_with_len (λ n. column_of n ds) 0 count field field [] below (omega arith))
+      ∙ length-map ds (λ d. values_of d field) ∙ sym (length-parents_in blocks) ∙ ap length (sym made.marks)
 
-pub made_is_stored : (blocks : List Block) (count : ℕ) (s : Inside) → IsMadeOf blocks count s → IsStored s
-made_is_stored blocks count s made = record {
-  even = λ field column within. length-column blocks count field column s made within;
-  whole = ap (ends_with_parent true) made.parents ∙ ends_with_parent-parents_in blocks;
-}
+  pub made_whole : ends_with_parent true parents ≡ true
+  made_whole = ap (ends_with_parent true) made.marks ∙ ends_with_parent-parents_in blocks
 
-made_blocks : (blocks : List Block) (count : ℕ) (s : Inside) → IsMadeOf blocks count s → All (λ d. length d ≡ count) (documents_in blocks) → (stored s).blocks ≡ blocks
-made_blocks blocks count s made lists =
-    ap₂ (λ marks columns. cut marks (documents_at columns (length marks))) made.parents made.columns
-    ∙ ap (λ n. cut (parents_in blocks) (documents_at (map (λ field. column_of field (documents_in blocks)) (range_with_len 0 count)) n)) (length-parents_in blocks)
-    ∙ ap (cut (parents_in blocks)) (documents_at-columns_of count (documents_in blocks) lists)
-    ∙ cut-documents_in blocks
+  made_blocks : All (λ d. length d ≡ count) (documents_in blocks) → (columned parents columns).blocks ≡ blocks
+  made_blocks lists =
+      ap₂ (λ marks values. cut marks (documents_at values (length marks))) made.marks made.values
+      ∙ ap (λ n. cut (parents_in blocks) (documents_at (map (λ field. column_of field (documents_in blocks)) (range_with_len 0 count)) n)) (length-parents_in blocks)
+      ∙ ap (cut (parents_in blocks)) (documents_at-columns_of count (documents_in blocks) lists)
+      ∙ cut-documents_in blocks
 
-pub made_segment : (texts : List Bool) (blocks : List Block) (count : ℕ) (s : Inside) → IsMadeOf blocks count s → map is_text_column s.columns.items ≡ texts
-    → All (λ d. length d ≡ count) (documents_in blocks) → stored s ≡ record { texts = texts; blocks = blocks }
-made_segment texts blocks count s made kinds lists =
-    ap₂ (λ (t : List Bool) (b : List Block). let made : Columned = record { texts = t; blocks = b } in made) kinds (made_blocks blocks count s made lists)
+  pub made_columned : (texts : List Bool) → map is_text_column columns ≡ texts → All (λ d. length d ≡ count) (documents_in blocks) → columned parents columns ≡ record { texts = texts; blocks = blocks }
+  made_columned texts kinds lists =
+      ap₂ (λ (t : List Bool) (b : List Block). let core : Columned = record { texts = t; blocks = b } in core) kinds (made_blocks lists)

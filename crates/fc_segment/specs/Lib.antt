@@ -5,6 +5,7 @@ pub mod Columned
 pub mod Segmented
 pub mod Merged
 pub mod Columns
+pub mod Ids
 pub mod Building
 pub mod Walked
 pub mod ColumnsSoFar

@@ -4,6 +4,7 @@
 mod builder;
 mod column;
 mod columns;
+mod ids;
 mod merged_columns;
 mod merged_parents;
 mod parents;

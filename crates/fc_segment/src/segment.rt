@@ -98,8 +98,10 @@ impl Segment {
         requires whole { HasWholeBlocks self.now.blocks live }
         ensures { IfOk result (λ segment. segment ≡ record self.now { live = live }) }
     {
-        let core = Arc::try_clone(&self.core)?;
-        Ok(Segment { core, live })
+        Ok(Segment {
+            core: Arc::try_clone(&self.core)?,
+            live,
+        })
     }
 
     /// The positions of the documents that are live: of each block all, or none.
@@ -150,8 +152,9 @@ impl Segment {
         self.core.first_child(at)
     }
 
-    /// Adds the positions of the blocks whose parent has the id, by its UTF-8 bytes, live or not, children included. The id is
-    /// looked up among the terms of field 0. That takes no memory.
+    /// Adds the positions of the blocks whose parent has the id, by its UTF-8 bytes, live or not, children included. It takes
+    /// no memory. The id is searched among the terms of field 0, and then each block that has it is added, by words of its
+    /// positions: other blocks cost nothing, and neither do children that share the id.
     pub fn parents_with_id(&self, id: &[u8], into: &mut DocSet)
         requires texts { slice_index_or self.now.texts 0 false ≡ true }
         requires length { length into.old ≡ document_total self.now.blocks }

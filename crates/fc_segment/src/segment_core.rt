@@ -1,5 +1,5 @@
 // Blocks as columns.
-ghost use Rattle.std.specs.Prelude.{◌≡◌, ◌<◌, ◌≤◌, ◌||◌, ℕ, length, map, slice_index_or, All, IfOk, false, true};
+ghost use Rattle.std.specs.Prelude.{◌≡◌, ◌<◌, ◌≤◌, ◌&&◌, ◌||◌, ℕ, length, map, slice_index_or, All, IfOk, false, true};
 ghost use Rattle.std.specs.Arc.{arc_value};
 ghost use Rattle.fc_spec.specs.documents.Columns.{column_of};
 ghost use Rattle.fc_spec.specs.documents.Live.{blocks_where};
@@ -11,21 +11,23 @@ ghost use Rattle.fc_spec.specs.documents.Schema.{texts_held};
 ghost use Rattle.fc_spec.specs.documents.ValidBlocks.{IsBlockOf};
 ghost use Rattle.fc_docs.specs.View.{batch_view};
 ghost use Rattle.fc_docset.specs.Positions.{contains, positions};
-ghost use Rattle.fc_column.specs.Terms.{has_text};
 ghost use Rattle.fc_segment.specs.BlockPositions.{first_in_block, is_in_block_of, parent_in_block};
 ghost use Rattle.fc_segment.specs.Columns.{column_values, is_text_column};
+ghost use Rattle.fc_segment.specs.Cut.{ends_with_parent};
 ghost use Rattle.fc_segment.specs.Merged.{live_blocks_of};
 ghost use Rattle.fc_segment.specs.Parents.{parents_in};
+ghost use Rattle.fc_segment.specs.Stored.{columned};
 
 use crate::columns::columns_of;
+use crate::ids::parents_by_id;
 use crate::merged_columns::merged_columns;
 use crate::merged_parents::merged_parents;
 use crate::parents::parents_of;
 use crate::{Column, Segment};
 use fc_base::{FieldId, Schema, WantMemory};
-use fc_column::TextColumn;
 use fc_docs::Batch;
 use fc_docset::DocSet;
+use fc_lists::Lists;
 use std::alloc::Global;
 use std::marker::Model;
 use std::sync::Arc;
@@ -35,6 +37,8 @@ use std::sync::Arc;
 pub struct SegmentCore {
     parents: DocSet,
     columns: Vec<Column>,
+    // For each term of field 0 the positions of the parents that have it. There are none where each document is a parent.
+    ids: Option<Lists<u32>>,
 }
 
 impl Model for SegmentCore {
@@ -59,10 +63,10 @@ impl SegmentCore {
           blocks = blocks_added (batch_view batch.now);
         }) }
     {
-        Ok(SegmentCore {
-            parents: parents_of(alloc, &batch.ops)?,
-            columns: columns_of(alloc, schema, &batch.ops)?,
-        })
+        let parents = parents_of(alloc, &batch.ops)?;
+        let columns = columns_of(alloc, schema, &batch.ops)?;
+        let core = SegmentCore::of(alloc, parents, columns)?;
+        Ok(core)
     }
 
     /// The live blocks of segments, one segment behind the other.
@@ -79,9 +83,24 @@ impl SegmentCore {
           blocks = live_blocks_of (map arc_value segments.now);
         }) }
     {
+        let parents = merged_parents(alloc, segments)?;
+        let columns = merged_columns(alloc, schema, segments)?;
+        let core = SegmentCore::of(alloc, parents, columns)?;
+        Ok(core)
+    }
+
+    // The blocks with these columns, whose parents stand at these positions.
+    fn of(alloc: Global, parents: DocSet, columns: Vec<Column>) -> Result<SegmentCore, WantMemory>
+        requires even { All (λ column. length (column_values column) ≡ length parents)
+            columns.items }
+        requires whole { ends_with_parent true parents ≡ true }
+        ensures { IfOk result (λ core. core ≡ columned parents columns.items) }
+    {
+        let ids = parents_by_id(alloc, &columns, &parents)?;
         Ok(SegmentCore {
-            parents: merged_parents(alloc, segments)?,
-            columns: merged_columns(alloc, schema, segments)?,
+            parents,
+            columns,
+            ids,
         })
     }
 
@@ -134,53 +153,47 @@ impl SegmentCore {
         }
     }
 
-    // The positions of the documents with an id.
-    fn positions_with_id(&self, id: &[u8]) -> &[u32]
+    // The positions of the parents that have an id.
+    fn parents_having(&self, id: &[u8]) -> &[u32]
         requires { slice_index_or self.now.texts 0 false ≡ true }
-        ensures positions { result.now ≡ positions
-            (map (has_val (text id.now)) (column_of 0 (documents_in self.now.blocks))) }
-        ensures within { All (λ at. at < document_total self.now.blocks) result.now }
+        ensures { result.now ≡ positions (zip_with ◌&&◌ (parents_in self.now.blocks)
+            (map (has_val (text id.now)) (column_of 0 (documents_in self.now.blocks)))) }
     {
-        match self.column(FieldId(0)) {
-            Column::Text(ids) => positions_of_text(ids, id),
-            Column::Long(_) => unreachable!(),
+        let Some(Column::Text(texts)) = self.columns.first() else {
+            unreachable!()
+        };
+        let Some(ord) = texts.ordinal_of(id) else {
+            return &[];
+        };
+        match &self.ids {
+            Some(lists) => lists.list(ord),
+            None => texts.positions_of(ord),
         }
     }
 
-    // Adds the positions of the block whose parent stands at a position, if a parent does.
-    fn add_block(&self, at: u32, into: &mut DocSet)
-        requires within { at < document_total self.now.blocks }
+    // Adds the positions of the block of a parent.
+    fn add_block(&self, parent: u32, into: &mut DocSet)
+        requires within { parent < document_total self.now.blocks }
+        requires parent { contains (parents_in self.now.blocks) parent ≡ true }
         requires length { length into.old ≡ document_total self.now.blocks }
         ensures set { (k : ℕ) → contains into.new k
-            ≡ (contains into.old k || is_in_block_of self.now.blocks at k) }
+            ≡ (contains into.old k || is_in_block_of self.now.blocks parent k) }
         ensures length { length into.new ≡ length into.old }
     {
         let _len = into.len();
-        if self.parents.contains(at) {
-            into.add_range(self.first_child(at), at + 1);
-        }
+        into.add_range(self.first_child(parent), parent + 1);
     }
 
-    /// Adds the positions of the blocks whose parent has the id, children included.
+    /// Adds the positions of the blocks whose parent has the id, children included. It looks at the positions of parents that
+    /// have the id alone.
     pub fn parents_with_id(&self, id: &[u8], into: &mut DocSet)
         requires texts { slice_index_or self.now.texts 0 false ≡ true }
         requires length { length into.old ≡ document_total self.now.blocks }
         ensures { into.new ≡ zip_with ◌||◌ into.old
             (blocks_where (has_id id.now) self.now.blocks) }
     {
-        for at in self.positions_with_id(id) {
-            self.add_block(*at, into);
+        for parent in self.parents_having(id) {
+            self.add_block(*parent, into);
         }
-    }
-}
-
-// The positions of the documents with a text.
-fn positions_of_text<'a>(column: &'a TextColumn, text: &[u8]) -> &'a [u32]
-    ensures positions { result.now ≡ positions (map (has_text text.now) column.now) }
-    ensures within { All (λ at. at < length column.now) result.now }
-{
-    match column.ordinal_of(text) {
-        Some(ord) => column.positions_of(ord),
-        None => &[],
     }
 }

@@ -4,8 +4,8 @@ use Rattle.fc_docset.specs.Positions.{contains}
 use Rattle.fc_segment.specs.BlockPositions.{is_in_block_of}
 use Rattle.fc_segment.proofs.segment_core.SegmentCore.parents_with_id.Given as goal
 
-abbrev pub invariant-loop-at : goal.invariant-loop-at
-invariant-loop-at l = record {
-  set : (k : ℕ) → contains l.into k ≡ (contains l.fn.into k || list_any (λ at. is_in_block_of l.self.blocks at k) (take l.at-index l.at-items));
+abbrev pub invariant-loop-parent : goal.invariant-loop-parent
+invariant-loop-parent l = record {
+  set : (k : ℕ) → contains l.into k ≡ (contains l.fn.into k || list_any (λ at. is_in_block_of l.self.blocks at k) (take l.parent-index l.parent-items));
   size : length l.into ≡ length l.fn.into;
 }
