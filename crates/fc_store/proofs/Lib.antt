@@ -1,6 +1,13 @@
-pub mod OneMoreSegment
-pub mod Tiered
-pub mod WholeSegments
 pub mod NextGeneration
 pub mod KeptRule
 pub mod Published
+pub mod Tiered
+pub mod OwnIds
+pub mod LiveSegments
+pub mod NextSegments
+pub mod IdKeys
+pub mod LeftSteps
+pub mod PutRanges
+pub mod NamedSets
+pub mod Sizes
+pub mod Leveled

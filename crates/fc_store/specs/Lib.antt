@@ -1,7 +1,10 @@
 pub mod Generated
 pub mod Segments
 pub mod Tiers
+pub mod Named
+pub mod OwnIds
 pub mod Built
+pub mod LivePlaces
 pub mod Charters
 pub mod Ends
 pub mod Rule

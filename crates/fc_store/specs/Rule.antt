@@ -5,7 +5,7 @@ use mathlib.Core.Option.{some}
 use lib.ListN.{get_elem?}
 use Rattle.fc_spec.specs.documents.Schema.{Schema}
 use Rattle.fc_store.specs.Generated.{Generated}
-use Rattle.fc_store.specs.Charters.{Chartered, IsBatchOf, IsChartered}
+use Rattle.fc_store.specs.Charters.{Chartered, IsBatchOf, IsChartered, KeepsLimits}
 use Rattle.fc_store.specs.Ends.{Writing, Pinning}
 use Rattle.fc_store.specs.declared.rule.Shown.{Shown}
 use Rattle.fc_store.specs.declared.rule.Known.{Known}
@@ -93,6 +93,6 @@ pub record IsLed (x : Content) (v : Known) (waiting : List Generated) : Type 0 w
   pub charted : IsChartered x.0 x.1
   pub next : IsNext x waiting
 
--- segments can be built of the charter's batches
+-- segments can be built of the charter's batches, and merged
 abbrev pub CanBuild : Content → Type 0
-CanBuild x = All (IsBatchOf x.1.schema) x.0.later
+CanBuild x = All (IsBatchOf x.1.schema) x.0.later × KeepsLimits x.0

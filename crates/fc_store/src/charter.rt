@@ -1,5 +1,5 @@
 // What a store may publish.
-ghost use Rattle.std.specs.Prelude.{◌≡◌, ◌+◌, ◌-◌, ◌<◌, ◌≤◌, IfOk, length, map, slice_get, Some};
+ghost use Rattle.std.specs.Prelude.{◌≡◌, ◌+◌, ◌-◌, ◌<◌, ◌≤◌, [], IfOk, length, map, slice_get, Some};
 ghost use Rattle.std.specs.Arc.{arc_value};
 ghost use Rattle.fc_docs.specs.View.{batch_view};
 ghost use Rattle.fc_store.specs.Charters.{last_number, IsBegun};
@@ -35,9 +35,11 @@ impl Charter {
     /// A generation, and the batches behind it.
     pub fn new(start: Arc<Generation>, batches: Arc<Vec<Batch>>) -> Charter
         requires few { (arc_value start).number + length (arc_value batches).items ≤ 4096 }
-        requires begun { IsBegun (arc_value start) }
+        requires begun { (arc_value start).number ≡ 0 → (arc_value start).blocks ≡ [] }
         ensures { result ≡ record { start = arc_value start; later = map batch_view (arc_value batches).items } }
     {
+        // whose blocks have different ids
+        let _segments = start.segments();
         Charter { start, batches }
     }
 

@@ -1,25 +1,35 @@
 // Generations of a shard.
-ghost use Rattle.std.specs.Prelude.{◌≡◌, ◌+◌, ◌-◌, ◌<◌, ◌≤◌, ◌++◌, [], length, map, take, All, IfOk};
+ghost use Rattle.std.specs.Prelude.{◌≡◌, ◌+◌, ◌<◌, ◌≤◌, ◌++◌, [], ◌∷◌, length, map, All, IfOk, None, Some, MatchOption, not};
+ghost use Rattle.std.specs.List.{filter};
 ghost use Rattle.std.specs.Arc.{arc_value};
+ghost use Rattle.fc_spec.specs.documents.Live.{left_set, HasWholeBlocks};
+ghost use Rattle.fc_spec.specs.documents.Operations.{after_ops, blocks_added, is_named};
 ghost use Rattle.fc_spec.specs.documents.Schema.{texts_held};
 ghost use Rattle.fc_spec.specs.documents.ValidBlocks.{IsBlockOf};
+ghost use Rattle.fc_spec.specs.scripts.WorldLimits.{IsWithinLimits};
 ghost use Rattle.fc_spec.specs.words.Lists.{joined};
-ghost use Rattle.fc_docs.specs.View.{batch_view};
-ghost use Rattle.fc_store.specs.Generated.{blocks_of};
+ghost use Rattle.fc_docs.specs.View.{batch_view, op_view};
+ghost use Rattle.fc_segment.specs.Merged.{blocks_each, live_blocks_of};
 ghost use Rattle.fc_store.specs.Charters.{IsBatchOf};
-ghost use Rattle.fc_store.specs.Segments.{AreSegmentsOf};
+ghost use Rattle.fc_store.specs.LivePlaces.{IsLiveAt};
+ghost use Rattle.fc_store.specs.OwnIds.{HaveOwnIds};
+ghost use Rattle.fc_store.specs.Segments.{AreDense, AreSegmentsOf};
 ghost use Rattle.fc_store.specs.Tiers.{AreTiered, sizes_of};
 
-use crate::merging::leveled;
+use crate::left::{left_batch, left_segments};
+use crate::merging::with_added;
+use crate::named::named;
 use fc_base::{Schema, WantMemory};
-use fc_docs::Batch;
+use fc_docs::{Batch, Op};
+use fc_docset::DocSet;
 use fc_segment::Segment;
 use std::alloc::Global;
 use std::marker::Model;
 use std::sync::Arc;
 
-/// The blocks of a shard's first batches, joined, which nothing changes. Its number is that of the
-/// batches. Generations share their segments, each of which has at least twice as many documents as the next one, so they are few.
+/// What the operations of a shard's first batches leave, which nothing changes. Its number is that of the batches. Generations share
+/// their segments, of which each has at least twice as many documents as the next one, so they are few. A block that a later
+/// operation deletes or overwrites stays in its segment, dead, until that is merged.
 #[derive(Debug, Drop)]
 pub struct Generation {
     schema: Arc<Schema>,
@@ -54,9 +64,8 @@ impl Generation {
         Ok(Arc::new(alloc, first)?)
     }
 
-    /// The generation after an earlier one: its blocks, and then those of a batch, perhaps none. They make one segment, if any.
-    /// Then, while the last segment but one has fewer than twice as many documents as the last, the two become one: which they
-    /// are is known beforehand, so each document is copied once at most.
+    /// The generation after an earlier one and a commit of a batch: what the operations of the batch leave of its blocks, in
+    /// their order.
     pub fn next(
         alloc: Global,
         earlier: &Generation,
@@ -64,23 +73,23 @@ impl Generation {
     ) -> Result<Arc<Generation>, WantMemory>
         requires number { earlier.now.number < 4096 }
         requires batch { IsBatchOf earlier.now.schema (batch_view batch.now) }
+        requires limits { IsWithinLimits ((earlier.now.blocks ++ blocks_added (batch_view batch.now)) ∷ []) }
         ensures { IfOk result (λ generation. arc_value generation
             ≡ record earlier.now {
               number = earlier.now.number + 1;
-              blocks = earlier.now.blocks ++ batch_view batch.now;
+              blocks = after_ops earlier.now.blocks (batch_view batch.now);
             }) }
     {
         let next = Generation {
             schema: Arc::try_clone(&earlier.schema)?,
             number: earlier.number + 1,
-            segments: segments_with(alloc, earlier, batch)?,
+            segments: after_batch(alloc, earlier, batch)?,
         };
         Ok(Arc::new(alloc, next)?)
     }
 
-    /// The generation after an earlier one and a commit of each of these batches: its blocks, and then those of the batches, in
-    /// order. They make one segment, whatever their number, and none where no batch has a block. Then segments become one as
-    /// behind one batch.
+    /// The generation after an earlier one and a commit of each of these batches: what the operations of them all leave of its blocks.
+    /// They make one segment, whatever their number, of the blocks that they add and leave, and none where there is no such block.
     pub fn after(
         alloc: Global,
         earlier: &Generation,
@@ -88,10 +97,11 @@ impl Generation {
     ) -> Result<Arc<Generation>, WantMemory>
         requires number { earlier.now.number + length batches.items ≤ 4096 }
         requires batches { IsBatchOf earlier.now.schema (joined (map batch_view batches.items)) }
+        requires limits { IsWithinLimits ((earlier.now.blocks ++ blocks_added (joined (map batch_view batches.items))) ∷ []) }
         ensures { IfOk result (λ generation. arc_value generation
             ≡ record earlier.now {
               number = earlier.now.number + length batches.items;
-              blocks = earlier.now.blocks ++ joined (map batch_view batches.items);
+              blocks = after_ops earlier.now.blocks (joined (map batch_view batches.items));
             }) }
     {
         let number = earlier.number + batches.len() as u64;
@@ -99,7 +109,7 @@ impl Generation {
         let after = Generation {
             schema: Arc::try_clone(&earlier.schema)?,
             number,
-            segments: segments_with(alloc, earlier, &all)?,
+            segments: after_batches(alloc, earlier, all)?,
         };
         Ok(Arc::new(alloc, after)?)
     }
@@ -111,98 +121,147 @@ impl Generation {
         self.number
     }
 
-    /// The segments that hold its blocks, in order.
+    /// The segments that hold its blocks, in order: its blocks are the live ones. At least half of the documents of each are live.
     pub fn segments(&self) -> &[Arc<Segment>]
-        ensures blocks { blocks_of (map arc_value result.now) ≡ self.now.blocks }
+        ensures blocks { live_blocks_of (map arc_value result.now) ≡ self.now.blocks }
         ensures kinds { All (λ segment. segment.texts ≡ texts_held self.now.schema.fields)
             (map arc_value result.now) }
-        ensures valid { All (IsBlockOf self.now.schema) self.now.blocks }
+        ensures valid { All (IsBlockOf self.now.schema) (joined (blocks_each (map arc_value result.now))) }
+        ensures limits { All (λ segment. IsWithinLimits (segment.blocks ∷ [])) (map arc_value result.now) }
+        ensures whole { All (λ segment. HasWholeBlocks segment.blocks segment.live)
+            (map arc_value result.now) }
         ensures tiers { AreTiered (sizes_of (map arc_value result.now)) }
+        ensures dense { AreDense (map arc_value result.now) }
+        ensures ids { HaveOwnIds self.now.blocks }
     {
         &self.segments
     }
 
+    /// The positions of the live documents of the segment at a place in `segments`: of each block all, or none. There are none where
+    /// no segment stands at the place.
+    pub fn live(&self, segment: u32) -> Option<&DocSet>
+        ensures { MatchOption result
+            (IsLiveAt self.now segment None)
+            (λ live. IsLiveAt self.now segment (Some live.now)) }
+    {
+        let place = segment as usize;
+        if place < self.segments.len() {
+            Some(self.segments[place].live())
+        } else {
+            None
+        }
+    }
+
     /// The same segments, shared, for whoever works on them longer than the generation is lent.
     pub fn share(&self, alloc: Global) -> Result<Vec<Arc<Segment>>, WantMemory>
-        ensures blocks { IfOk result (λ shared. blocks_of (map arc_value shared.items) ≡ self.now.blocks) }
+        ensures blocks { IfOk result (λ shared. live_blocks_of (map arc_value shared.items) ≡ self.now.blocks) }
         ensures kinds { IfOk result (λ shared. All (λ segment. segment.texts ≡ texts_held self.now.schema.fields)
             (map arc_value shared.items)) }
-        ensures valid { All (IsBlockOf self.now.schema) self.now.blocks }
+        ensures valid { IfOk result (λ shared. All (IsBlockOf self.now.schema)
+            (joined (blocks_each (map arc_value shared.items)))) }
+        ensures limits { IfOk result (λ shared. All (λ segment. IsWithinLimits (segment.blocks ∷ []))
+            (map arc_value shared.items)) }
+        ensures whole { IfOk result (λ shared. All (λ segment. HasWholeBlocks segment.blocks segment.live)
+            (map arc_value shared.items)) }
         ensures tiers { IfOk result (λ shared. AreTiered (sizes_of (map arc_value shared.items))) }
+        ensures dense { IfOk result (λ shared. AreDense (map arc_value shared.items)) }
     {
         shared(alloc, self.segments())
     }
 }
 
-// The segments of a generation, shared, with the blocks of a batch, if it has any.
-fn segments_with(
+// The segments of a generation without the blocks that operations name; and the positions of the blocks that they add and leave.
+fn left_by(
     alloc: Global,
     earlier: &Generation,
-    batch: &Batch,
-) -> Result<Vec<Arc<Segment>>, WantMemory>
-    requires { IsBatchOf earlier.now.schema (batch_view batch.now) }
-    ensures blocks { IfOk result (λ segments. blocks_of (map arc_value segments.items)
-        ≡ earlier.now.blocks ++ batch_view batch.now) }
-    ensures kept { IfOk result (λ segments.
-        AreSegmentsOf earlier.now.schema (map arc_value segments.items)) }
-    ensures tiers { IfOk result (λ segments. AreTiered (sizes_of (map arc_value segments.items))) }
+    ops: &[Op],
+) -> Result<(Vec<Arc<Segment>>, DocSet), WantMemory>
+    requires { IsBatchOf earlier.now.schema (map op_view ops.now) }
+    ensures blocks { IfOk result (λ made. live_blocks_of (map arc_value made.0.items)
+        ≡ filter (λ b. not (is_named (map op_view ops.now) b)) earlier.now.blocks) }
+    ensures kept { IfOk result (λ made. AreSegmentsOf earlier.now.schema (map arc_value made.0.items)) }
+    ensures tiers { IfOk result (λ made. AreTiered (sizes_of (map arc_value made.0.items))) }
+    ensures left { IfOk result (λ made. made.1 ≡ left_set (map op_view ops.now)) }
+    ensures ids { HaveOwnIds earlier.now.blocks }
 {
-    if batch.blocks.is_empty() {
-        return earlier.share(alloc);
-    }
-    let segments = one_more(alloc, earlier, batch)?;
-    let leveled = leveled(alloc, &earlier.schema, segments)?;
-    Ok(leveled)
+    // its first field holds texts
+    let _fields = earlier.schema.fields();
+    let segments = earlier.segments();
+    let (left, ids) = named(alloc, ops)?;
+    let kept = left_segments(alloc, segments, &ids)?;
+    Ok((kept, left))
 }
 
-// The segments of a generation, shared, and one that holds the blocks of a batch.
-fn one_more(
+// The segments behind a batch: those of a generation without the blocks that it names, and one of all that it adds, of which those are
+// live that it leaves.
+fn after_batch(
     alloc: Global,
     earlier: &Generation,
     batch: &Batch,
 ) -> Result<Vec<Arc<Segment>>, WantMemory>
     requires batch { IsBatchOf earlier.now.schema (batch_view batch.now) }
-    requires some { 0 < length (batch_view batch.now) }
-    ensures blocks { IfOk result (λ segments. blocks_of (map arc_value segments.items)
-        ≡ earlier.now.blocks ++ batch_view batch.now) }
-    ensures kept { IfOk result (λ segments.
-        AreSegmentsOf earlier.now.schema (map arc_value segments.items)) }
-    ensures any { IfOk result (λ segments. 0 < length segments.items) }
-    ensures some { IfOk result (λ segments. All (λ size. 0 < size) (sizes_of (map arc_value segments.items))) }
-    ensures tiers { IfOk result (λ segments.
-        AreTiered (take (length segments.items - 1) (sizes_of (map arc_value segments.items)))) }
+    requires limits { IsWithinLimits ((earlier.now.blocks ++ blocks_added (batch_view batch.now)) ∷ []) }
+    ensures blocks { IfOk result (λ made. live_blocks_of (map arc_value made.items)
+        ≡ after_ops earlier.now.blocks (batch_view batch.now)) }
+    ensures kept { IfOk result (λ made. AreSegmentsOf earlier.now.schema (map arc_value made.items)) }
+    ensures tiers { IfOk result (λ made. AreTiered (sizes_of (map arc_value made.items))) }
+    ensures dense { IfOk result (λ made. AreDense (map arc_value made.items)) }
+    ensures ids { IfOk result (λ made. HaveOwnIds (live_blocks_of (map arc_value made.items))) }
 {
-    let segment = Segment::build(alloc, &earlier.schema, batch)?;
-    let mut segments = shared(alloc, earlier.segments())?;
-    segments.push(Arc::new(alloc, segment)?)?;
-    Ok(segments)
+    let (kept, left) = left_by(alloc, earlier, &batch.ops)?;
+    let all = Segment::build(alloc, &earlier.schema, batch)?;
+    let added = all.with_live(alloc, left)?;
+    let made = with_added(alloc, &earlier.schema, kept, added)?;
+    Ok(made)
 }
 
-// A batch of the blocks of all of them.
+// The segments behind a batch: those of a generation without the blocks that it names, and one of the blocks that it adds and leaves.
+fn after_batches(
+    alloc: Global,
+    earlier: &Generation,
+    batch: Batch,
+) -> Result<Vec<Arc<Segment>>, WantMemory>
+    requires batch { IsBatchOf earlier.now.schema (batch_view batch) }
+    requires limits { IsWithinLimits ((earlier.now.blocks ++ blocks_added (batch_view batch)) ∷ []) }
+    ensures blocks { IfOk result (λ made. live_blocks_of (map arc_value made.items)
+        ≡ after_ops earlier.now.blocks (batch_view batch)) }
+    ensures kept { IfOk result (λ made. AreSegmentsOf earlier.now.schema (map arc_value made.items)) }
+    ensures tiers { IfOk result (λ made. AreTiered (sizes_of (map arc_value made.items))) }
+    ensures dense { IfOk result (λ made. AreDense (map arc_value made.items)) }
+    ensures ids { IfOk result (λ made. HaveOwnIds (live_blocks_of (map arc_value made.items))) }
+{
+    let (kept, left) = left_by(alloc, earlier, &batch.ops)?;
+    let only = left_batch(alloc, batch, &left)?;
+    let added = Segment::build(alloc, &earlier.schema, &only)?;
+    let made = with_added(alloc, &earlier.schema, kept, added)?;
+    Ok(made)
+}
+
+// A batch of the operations of all of them.
 fn in_one(alloc: Global, batches: Vec<Batch>) -> Result<Batch, WantMemory>
     ensures { IfOk result (λ all. batch_view all ≡ joined (map batch_view batches.items)) }
 {
-    let mut blocks = Vec::with_capacity(alloc, room_for(&batches))?;
+    let mut ops = Vec::with_capacity(alloc, room_for(&batches))?;
     for mut batch in batches {
-        blocks.append(&mut batch.blocks)?;
+        ops.append(&mut batch.ops)?;
     }
-    Ok(Batch { blocks })
+    Ok(Batch { ops })
 }
 
-// The room that the blocks of all of them take.
+// The room that the operations of all of them take.
 fn room_for(batches: &[Batch]) -> usize {
     let mut room: usize = 0;
     for batch in batches {
-        room = room.saturating_add(batch.blocks.len());
+        room = room.saturating_add(batch.ops.len());
     }
     room
 }
 
-// Shares segments, with room for one more.
+// Shares segments.
 fn shared(alloc: Global, segments: &[Arc<Segment>]) -> Result<Vec<Arc<Segment>>, WantMemory>
     ensures { IfOk result (λ shared. map arc_value shared.items ≡ map arc_value segments.now) }
 {
-    let mut shared = Vec::with_capacity(alloc, segments.len() + 1)?;
+    let mut shared = Vec::with_capacity(alloc, segments.len())?;
     for segment in segments {
         shared.push(Arc::try_clone(segment)?)?;
     }

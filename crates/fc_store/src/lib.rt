@@ -3,7 +3,9 @@
 
 mod charter;
 mod generation;
+mod left;
 mod merging;
+mod named;
 mod reader;
 mod rule;
 mod store;

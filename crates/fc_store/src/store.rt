@@ -1,6 +1,6 @@
 // Opening a store.
 ghost use Rattle.std.specs.Prelude.{◌≡◌, ◌≤◌, All, IfOk, length};
-ghost use Rattle.fc_store.specs.Charters.{IsBatchOf};
+ghost use Rattle.fc_store.specs.Charters.{IsBatchOf, KeepsLimits};
 
 use crate::{Charter, ShardReader, ShardWriter};
 use fc_base::WantMemory;
@@ -17,6 +17,7 @@ pub fn open_shard<R: Wait>(
 ) -> Result<(ShardWriter, Vec<ShardReader>), WantMemory>
     requires readers { (1 ≤ readers) × (readers ≤ 16) }
     requires batches { All (IsBatchOf charter.start.schema) charter.later }
+    requires limits { KeepsLimits charter }
     ensures writer { IfOk result (λ store. store.0 ≡ record {
       schema = charter.start.schema;
       charter = charter;

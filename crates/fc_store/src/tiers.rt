@@ -1,6 +1,10 @@
 // Which segments are merged behind a commit.
-ghost use Rattle.std.specs.Prelude.{◌≡◌, ◌<◌, ◌-◌, ◌++◌, ◌∷◌, [], length, map, slice_index, sum, take, drop, All, IfOk};
+ghost use Rattle.std.specs.Prelude.{◌≡◌, ◌*◌, ◌<◌, ◌≤◌, ◌-◌, ◌++◌, ◌∷◌, [], length, map, slice_index, sum, take, drop, All, IfOk};
 ghost use Rattle.std.specs.Arc.{arc_value};
+ghost use Rattle.std.specs.Bool.{OnFalse};
+ghost use Rattle.fc_spec.specs.documents.Totals.{document_total};
+ghost use Rattle.fc_segment.specs.Merged.{live_blocks};
+ghost use Rattle.fc_store.specs.Segments.{AreDense};
 ghost use Rattle.fc_store.specs.Tiers.{AreTiered, sizes_of};
 
 use fc_base::WantMemory;
@@ -15,20 +19,55 @@ fn size_at(segments: &[Arc<Segment>], at: usize) -> u32
     segments[at].doc_count()
 }
 
-/// From which place on segments are merged into one, so that each has at least twice as many documents as the next one: the last place
-/// where none are. Merging the last two again and again, while one has fewer than twice as many as the next, ends with the same segments,
-/// but copies documents more than once. A segment has at most 4,294,967,295 documents: more are answered as want of memory.
-pub fn merged_from(segments: &[Arc<Segment>]) -> Result<usize, WantMemory>
+// Whether fewer documents of a segment are live than dead.
+fn is_sparse(segment: &Segment) -> bool
+    ensures { OnFalse result
+        (document_total segment.now.blocks ≤ 2 * document_total (live_blocks segment.now)) }
+{
+    2 * u64::from(segment.live().count()) < u64::from(segment.doc_count())
+}
+
+/// The place of the first segment of which fewer documents are live than dead: the number of segments where there is none.
+pub fn first_sparse(segments: &[Arc<Segment>]) -> usize
+    ensures within { result ≤ length segments.now }
+    ensures dense { AreDense (take result (map arc_value segments.now)) }
+{
+    for (at, segment) in segments.iter().enumerate() {
+        if is_sparse(segment) {
+            return at;
+        }
+    }
+    segments.len()
+}
+
+// Whether segments from a place on, which have so many documents, are merged with the one before them: where a sparse one stands before
+// the place, or that one has fewer than twice as many documents.
+fn goes_on(segments: &[Arc<Segment>], sparse: usize, place: usize, size: u32) -> bool
+    requires some { 0 < place }
+    requires within { place < length segments.now }
+    ensures low { OnFalse result (place ≤ sparse) }
+    ensures tiers { OnFalse result
+        (2 * size ≤ slice_index (sizes_of (map arc_value segments.now)) (place - 1)) }
+{
+    place > sparse || u64::from(size_at(segments, place - 1)) < 2 * u64::from(size)
+}
+
+/// From which place on segments are merged into one, so that each has at least twice as many documents as the next one: a given place, or
+/// one before it, and the last place where no segment stands there. Merging the last two again and again, while one has fewer than
+/// twice as many as the next, ends with the same segments, but copies documents more than once. A segment has at most 4,294,967,295
+/// documents: more are answered as want of memory.
+pub fn merged_from(segments: &[Arc<Segment>], sparse: usize) -> Result<usize, WantMemory>
     requires any { 0 < length segments.now }
     requires some { All (λ size. 0 < size) (sizes_of (map arc_value segments.now)) }
     requires tiers { AreTiered (take (length segments.now - 1) (sizes_of (map arc_value segments.now))) }
     ensures within { IfOk result (λ place. place < length segments.now) }
+    ensures low { IfOk result (λ place. place ≤ sparse) }
     ensures tiers { IfOk result (λ place. AreTiered (take place (sizes_of (map arc_value segments.now))
         ++ sum (drop place (sizes_of (map arc_value segments.now))) ∷ [])) }
 {
     let mut place = segments.len() - 1;
     let mut size = size_at(segments, place);
-    while place > 0 && u64::from(size_at(segments, place - 1)) < 2 * u64::from(size) {
+    while place > 0 && goes_on(segments, sparse, place, size) {
         place -= 1;
         size = size
             .checked_add(size_at(segments, place))

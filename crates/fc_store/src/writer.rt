@@ -2,7 +2,7 @@
 ghost use Rattle.std.specs.Prelude.{◌≡◌, ◌+◌, ◌-◌, ◌^◌, ◌<◌, ◌≤◌, true, [], map, drop, length, MatchResult, IfOk, All};
 ghost use Rattle.std.specs.Arc.{arc_value};
 ghost use Rattle.left_right.specs.Sides.{view as view_of};
-ghost use Rattle.fc_store.specs.Charters.{last_number, IsBatchOf, IsChartered};
+ghost use Rattle.fc_store.specs.Charters.{last_number, IsBatchOf, IsChartered, KeepsLimits};
 ghost use Rattle.fc_store.specs.Rule.{content, known, CanBuild, IsLed, IsNext};
 
 use crate::reader::Seated;
@@ -52,6 +52,7 @@ impl ShardWriter {
     ) -> Result<ShardWriter, WantMemory>
         requires places { (0 < places) × (places < 2 ^ 32) }
         requires batches { All (IsBatchOf charter.start.schema) charter.later }
+        requires limits { KeepsLimits charter }
         ensures { IfOk result (λ writer. writer ≡ record {
           schema = charter.start.schema;
           charter = charter;

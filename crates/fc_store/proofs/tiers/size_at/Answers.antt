@@ -2,7 +2,7 @@ use Rattle.std.proofs.Common.{◌∙◌, ap}
 use Rattle.std.specs.Arc.{arc_value}
 use Rattle.fc_spec.specs.documents.Totals.{document_total}
 use Rattle.fc_segment.specs.Segmented.{Segmented}
-use Rattle.fc_store.proofs.WholeSegments.{size_here}
+use Rattle.fc_store.proofs.Sizes.{size_here}
 use Rattle.fc_store.proofs.tiers.size_at.Goals as goal
 
 pub returns : goal.returns
