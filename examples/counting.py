@@ -264,22 +264,38 @@ def commits_by_phase(lines, shards):
     return phases + [counts]
 
 
-def generations(lines, types, shards):
-    """For each shard the list of its batches, each a list of blocks of places."""
-    waiting, batches, blocks = [[] for _ in range(shards)], [[] for _ in range(shards)], [0] * shards
-    for line in lines[1:]:
+def block_of(number, shard, members, types):
+    """The places of a document and of its children, which it follows."""
+    documents = [*(members.get("_childDocuments_") or []), members]
+    return [Place(shard, number, one is members, read_document(types, one)) for one in documents]
+
+
+def operations(lines, types, shards):
+    """For each shard the list of its batches, each a list of pairs: an id, and the block that is added, or nothing where what has the
+    id is deleted."""
+    waiting, batches = [[] for _ in range(shards)], [[] for _ in range(shards)]
+    for number, line in enumerate(lines):
         if "add" in line:
             shard, members = line["add"].get("shard", 0), line["add"]["doc"]
-            documents = [*(members.get("_childDocuments_") or []), members]
-            for i, one in enumerate(documents):
-                document = read_document(types, one)
-                waiting[shard].append(Place(shard, blocks[shard], i == len(documents) - 1, document))
-            blocks[shard] += 1
+            waiting[shard].append((str(members["id"]), block_of(number, shard, members, types)))
+        elif "delete" in line:
+            waiting[line["delete"].get("shard", 0)].append((str(line["delete"]["id"]), None))
         elif "commit" in line:
             for shard in [line["commit"]["shard"]] if "shard" in line["commit"] else range(shards):
                 batches[shard].append(waiting[shard])
                 waiting[shard] = []
     return batches
+
+
+def left_of(batches):
+    """The places of the blocks that the operations of batches leave, in the order in which they were added."""
+    left = {}
+    for batch in batches:
+        for name, block in batch:
+            left.pop(name, None)
+            if block:
+                left[name] = block
+    return [place for block in left.values() for place in block]
 
 
 class Script:
@@ -288,12 +304,12 @@ class Script:
     def __init__(self, lines, conditions):
         self.shards, self.conditions = lines[0]["schema"]["shards"], conditions
         self.types = {"id": "string", **lines[0]["schema"]["fields"]}
-        self.batches = generations(lines, self.types, self.shards)
+        self.batches = operations(lines, self.types, self.shards)
         self.ends = commits_by_phase(lines, self.shards)
 
     def reply(self, search, numbers):
         """The line of a search that counts these generations."""
-        places = [p for s in range(self.shards) for batch in self.batches[s][:numbers[s]] for p in batch]
+        places = [p for s in range(self.shards) for p in left_of(self.batches[s][:numbers[s]])]
         asked = Search(search["request"], places, self.conditions, self.types)
         facets = asked.bucket(search["request"].get("facet", {}), asked.base([]), set(range(self.shards)), [])
         return ordered({"facets": facets, "generations": numbers, "session": session_of(search)})

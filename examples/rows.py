@@ -39,7 +39,7 @@ import phases
 
 SCRIPT_FAULTS = {
     "not-json": 1, "no-schema": 2, "unknown-line": 3, "bad-schema": 4, "bad-shard": 5, "bad-document": 6,
-    "duplicate-id": 7, "field-total": 8, "too-many-documents": 9, "too-many-sessions": 10, "long-line": 11,
+    "field-total": 8, "too-many-documents": 9, "too-many-sessions": 10, "long-line": 11,
     "too-long": 12, "too-many-commits": 13, "too-many-syncs": 14,
 }
 DETAILS = ["wrong-type", "unknown-field", "too-many-values", "no-id", "long-term", "deep-children"]

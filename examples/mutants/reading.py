@@ -14,6 +14,7 @@ ESCAPE = re.compile(r"\\u[dD][89abAB]..\\u[dD][c-fC-F]..|(\\u[dD][89a-fA-F])|\\.
 # The members that the value inside a line has to have, and those that it may have.
 FORMS = {
     "add": ({"doc"}, {"shard"}),
+    "delete": ({"id"}, {"shard"}),
     "commit": (set(), {"shard"}),
     "sync": (set(), set()),
     "search": ({"request"}, {"session"}),
@@ -23,9 +24,8 @@ FORMS = {
 KNOWN = ["not-json", "no-schema", "unknown-line"]
 TOLD_OF = {
     "bad-schema": ["schema"],
-    "bad-shard": ["add", "commit"],
+    "bad-shard": ["add", "delete", "commit"],
     "bad-document": ["add"],
-    "duplicate-id": ["add"],
     "field-total": ["add"],
     "too-many-sessions": ["search"],
 }
@@ -59,6 +59,11 @@ def is_session(value):
     return isinstance(value, str) and 1 <= len(value.encode("utf-8")) <= MOST_BYTES_OF_SESSION
 
 
+def is_id(value):
+    """Whether a line may delete this: a text, or a whole number of 64 bits."""
+    return isinstance(value, str) or type(value) is int and -2 ** 63 <= value < 2 ** 63
+
+
 def has_form(value, is_first):
     """Whether this is the schema, at first, or else a line of another form."""
     if not isinstance(value, dict) or len(value) != 1:
@@ -67,7 +72,9 @@ def has_form(value, is_first):
     if is_first or name not in FORMS:
         return is_first and name == "schema"
     needed, others = FORMS[name]
-    return isinstance(inside, dict) and needed <= set(inside) <= needed | others and is_session(inside.get("session", "main"))
+    if not isinstance(inside, dict) or not needed <= set(inside) <= needed | others:
+        return False
+    return is_session(inside.get("session", "main")) and (name != "delete" or is_id(inside["id"]))
 
 
 class Script:

@@ -22,14 +22,28 @@ class Documents:
 
     def __init__(self, chance, shards):
         self.chance, self.number, self.are_rich = chance, 0, chance.happens(50)
+        # How many of a hundred documents have an id that stood before.
+        self.again = chance.one([0, 0, 10, 40])
         self.liked = [{field: [chance.one(VALUES[field]) for _ in range(3)] for field in MOST} for _ in range(shards)]
 
     def block(self, shard):
-        """A document, with or without children."""
+        """A document, with or without children. Now and then it has the id of an earlier one, be it of another shard or a child."""
         parent = self.document(shard, "p")
         if self.chance.happens(45):
             parent["_childDocuments_"] = [self.document(shard, "c") for _ in range(self.chance.below(4))]
+        if self.chance.happens(self.again):
+            parent["id"] = self.earlier_id()
         return parent
+
+    def earlier_id(self):
+        """The id of a document that was made, or of none; more often a late one."""
+        back = self.chance.below(self.chance.one([4, 20, 200]))
+        return "d%d" % max(self.number - back, 0)
+
+    def deletion(self, shard):
+        """What a line says that deletes."""
+        name = self.earlier_id() if self.chance.happens(95) else self.chance.one(["", -7, 10 ** 18, "d01", "D1"])
+        return {"id": name, **({"shard": shard} if shard > 0 or self.chance.happens(50) else {})}
 
     def document(self, shard, kind):
         self.number += 1

@@ -53,9 +53,14 @@ class Scripts:
             shard = self.chance.below(self.shards)
             is_told = shard > 0 or self.chance.happens(70)
             lines.append({"add": {"doc": self.documents.block(shard), **({"shard": shard} if is_told else {})}})
+            if self.chance.happens(self.documents.again // 2):
+                lines.append(self.deletion(self.chance.below(self.shards)))
             if self.chance.happens(15):
                 lines += self.commits(10)
         return lines
+
+    def deletion(self, shard):
+        return {"delete": self.documents.deletion(shard)}
 
     def commits(self, percent_all):
         if self.chance.happens(percent_all):
@@ -83,8 +88,9 @@ class Scripts:
         return [line for part in sorted(parts, key=lambda part: self.chance.below(100)) for line in part]
 
     def committed(self, shard):
-        documents = [{"add": {"doc": self.documents.block(shard), "shard": shard}} for _ in range(1 + self.chance.below(4))]
-        return documents + [{"commit": {"shard": shard}}]
+        lines = [{"add": {"doc": self.documents.block(shard), "shard": shard}} for _ in range(1 + self.chance.below(4))]
+        lines += [self.deletion(shard) for _ in range(self.chance.below(3)) if self.documents.again]
+        return lines + [{"commit": {"shard": shard}}]
 
     def search(self, session=None):
         request = self.requests.request()

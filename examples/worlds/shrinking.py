@@ -3,7 +3,7 @@ script without a fault, so that the counting can read it."""
 from counting import ordered
 from worlds.requests import statistics_in
 
-NEEDED = {"add", "doc", "id", "commit", "sync", "search", "request", "type", "field", "q", "func", "start", "end", "gap"}
+NEEDED = {"add", "doc", "id", "delete", "commit", "sync", "search", "request", "type", "field", "q", "func", "start", "end", "gap"}
 QUERIES = {"q", "blockChildren", "blockParent"}
 
 

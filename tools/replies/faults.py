@@ -7,7 +7,6 @@ SCRIPT = {
     "bad-schema": "the schema names too many shards or fields, or a name or a type that is not taken",
     "bad-shard": "there is no such shard",
     "bad-document": "the document is not as the schema has it",
-    "duplicate-id": "another document had this id before",
     "field-total": "with this line, the values of a field of integers add up to too much",
     "too-many-documents": "with this line, there are too many documents, or too many values in them",
     "too-many-sessions": "there are more than 16 sessions",
