@@ -292,6 +292,30 @@ def small_commits(size):
     yield from [search({"f": terms("brand")})] * 10
 
 
+@script(2000, "each of {:,} documents deleted in a commit of its own, a search beside each")
+def published_deletes(size):
+    yield from filled(1, BRAND, map(brand, range(size)))
+    for i in range(size):
+        yield from ({"delete": {"id": f"d{7 * i % size}"}}, {"commit": {}}, search())
+
+
+@script(2000, "each of {:,} documents overwritten in a commit of its own, a search beside each")
+def published_overwrites(size):
+    yield from filled(1, BRAND, map(brand, range(size)))
+    for i in range(size):
+        yield from (add(7 * i % size, 0, **brand(i)), {"commit": {}}, search())
+
+
+@script(10_000, "one id deleted and added {:,} times, ten times a commit, beside 20,000 children with it; a search beside each commit")
+def one_id_again(size):
+    yield schema(1, **BRAND)
+    yield {"add": {"doc": {"id": "p", "_childDocuments_": [{"id": "d0"}] * 20_000}}}
+    yield from END
+    for i in range(size):
+        yield from ({"delete": {"id": "d0"}}, add(0, 0, **brand(i)))
+        yield from ({"commit": {}}, search()) if i % 10 == 9 else ()
+
+
 # Filters, tags and queries.
 
 

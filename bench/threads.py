@@ -1,6 +1,6 @@
 #!/usr/bin/env python3
 """Measures what threads gain and what they cost: several workers for one search, several sessions, commits beside searches, many
-phases, many commits, and commits that are published one by one. Prints a table with the targets, and on standard error how far it is. Looks at each line that the program
+phases, many commits, commits that are published one by one, and documents that overwrite others. Prints a table with the targets, and on standard error how far it is. Looks at each line that the program
 writes only for whether it is a reply, and whether several workers write the same ones as one."""
 import argparse
 import collections
@@ -184,7 +184,35 @@ def commits(measuring):
     yield Row("4,000 commits of a document with a search beside each, beside 2,000: processor time", twice.seconds, once.seconds, target=2.2)
 
 
-PARTS = {"workers": workers, "sessions": sessions, "beside": beside, "phases": phases, "memory": memory, "commits": commits}
+def overwritten(documents, numbers, searches):
+    """Documents of one shard whose ids have these numbers, a search beside the commit of each so many, and at last some searches."""
+    yield {"schema": {"shards": 1, "fields": run.FIELDS}}
+    for i, number in enumerate(numbers, 1):
+        yield {"add": {"doc": {**run.document(number % documents), "id": f"d{number}"}}}
+        if i % EVERY == 0:
+            yield from (COMMIT, search({}))
+    yield from (COMMIT, SYNC)
+    yield from [search(run.REQUESTS[PRICES])] * searches
+
+
+def updates(measuring):
+    """Documents that overwrite others, and a search over what they leave."""
+    options, times = measuring.options, measuring.options.searches // 4
+    half = options.documents // 2
+    again = [i * 7919 % half for i in range(half)]
+    kinds = {"over": [*range(half), *again], "twice": range(2 * half), "once": range(half)}
+    scripts = [(numbers, searches) for numbers in kinds.values() for searches in (0, 1, 1 + times)]
+    costs = measuring.costs(*(measuring.script(overwritten(half, *kind)) for kind in scripts))
+    (over, over_one, over_all), (twice, _, _), (once, once_one, once_all) = (costs[i:i + 3] for i in (0, 3, 6))
+    what = f"{half:,} documents and as many that overwrite them, a search beside the commit of each {EVERY:,}"
+    yield Row(f"{what}, beside {2 * half:,} documents: processor time", over.seconds, twice.seconds, target=2.5)
+    yield Row(f"{what}, beside {2 * half:,} documents: the most memory", over.peak, twice.peak, "bytes")
+    searching = f"one search for {SAID[PRICES]} over what is left, beside one over {half:,} documents"
+    yield Row(searching, less(over_all, over_one, times).seconds, less(once_all, once_one, times).seconds, target=1.3)
+
+
+PARTS = {"workers": workers, "sessions": sessions, "beside": beside, "phases": phases, "memory": memory, "commits": commits,
+         "updates": updates}
 
 
 def shown(value, unit):

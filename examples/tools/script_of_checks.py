@@ -24,8 +24,8 @@ LAYOUTS = [(1, True, 12), (2, True, 12), (2, False, 5), (3, True, 4), (5, False,
 LIMITS = {
     "SCRIPT_BYTES": "bytes of a script", "LINE_BYTES": "bytes of a line, without its line feed", "SHARDS": "shards",
     "FIELDS": "fields, `id` among them", "NAME_BYTES": "bytes of a field's name", "TEXT_BYTES": "bytes of a text in a document",
-    "DOCUMENTS": "documents, children too", "VALUES": "values in all documents, `id` among them",
-    "FIELD_TOTAL": "absolute values of one field of integers, added up", "COMMITS": "commits of one shard",
+    "DOCUMENTS": "documents that are added, children too", "VALUES": "values in all documents that are added, `id` among them",
+    "FIELD_TOTAL": "absolute values of one field of integers in all documents that are added, added up", "COMMITS": "commits of one shard",
     "SESSION_BYTES": "bytes of a session's name", "NESTING": "nesting of JSON",
 }
 # A limit that is made so small, a file that goes beyond it, the words, and what is said. A file of one line less does not.

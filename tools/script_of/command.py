@@ -55,6 +55,8 @@ def session(text):
 def words():
     parser = argparse.ArgumentParser(prog="script-of", description=USAGE, epilog=FORMS)
     parser.add_argument("files", nargs="+", metavar="FILE", help="a CSV file, JSON lines, or a JSON array of documents")
+    parser.add_argument("--update", action="append", default=[], metavar="FILE", dest="updates",
+                        help="a file of documents behind a commit of all before it; each takes the place of an earlier one with its id")
     parser.add_argument("--format", choices=("csv", "lines", "json"),
                         help="of all files; else it goes by the names: .csv, .jsonl or .ndjson, .json")
     parser.add_argument("--shards", type=number(1, limits.SHARDS), default=1, metavar="N", help="how many shards (default: 1)")
@@ -87,8 +89,9 @@ def read(options):
         renames[options.id] = "id"
     splits = dict(options.splits)
     reading = Reading(Names(renames), Fields(dict(options.types)))
-    forms = [(path, form_of(path, options)) for path in options.files]
-    for path, form in forms:
+    forms = [(path, form_of(path, options)) for path in [*options.files, *options.updates]]
+    for number, (path, form) in enumerate(forms):
+        reading.ids.update = max(number - len(options.files) + 1, 0)
         reading.file(path, form, splits)
     for name in reading.names.unmet():
         raise Fault(None, f"no file has a field {name!r}, which was to be renamed")
@@ -107,7 +110,8 @@ def say(text):
 def tell(reading, script):
     documents = "1 document" if reading.count == 1 else f"{reading.count:,} documents"
     shards = "1 shard" if script.shards == 1 else f"{script.shards} shards"
-    say(f"{documents} on {shards}: {', '.join(f'{count:,}' for count in script.on_shard)}")
+    replaced = f", {reading.ids.replaced:,} of them in the place of an earlier one" if reading.ids.replaced else ""
+    say(f"{documents} on {shards}: {', '.join(f'{count:,}' for count in script.on_shard)}{replaced}")
     width = max(map(len, script.types))
     for name, kind in script.types.items():
         why = reading.fields.why(name)

@@ -19,18 +19,18 @@ class Reading:
 
     def __init__(self, names, fields):
         self.names, self.fields, self.aside = names, fields, tempfile.TemporaryFile()
-        self.count, self.values, self.blocks, self.ids = 0, 0, 0, {}
+        self.count, self.values, self.blocks, self.ids = 0, 0, 0, Ids()
 
     def file(self, path, form, splits):
         for document in documents(path, form, splits, self.names):
             try:
-                block = [self.table(one) for one in (document, *document.children)]
+                block = [self.table(one, one is document) for one in (document, *document.children)]
             except Wrong as wrong:
                 raise Fault(document.place(wrong.at), wrong.text) from wrong
             self.blocks += 1
-            marshal.dump((*document.place(document.at), block), self.aside)
+            marshal.dump((*document.place(document.at), self.ids.update, block), self.aside)
 
-    def table(self, document):
+    def table(self, document, is_parent):
         gathered = {}
         for field, at, values in document.members:
             if field in gathered:
@@ -38,7 +38,7 @@ class Reading:
             else:
                 gathered[field] = (at, list(values))
         table = {field: self.fields.take(field, at, values, document.place) for field, (at, values) in gathered.items()}
-        self.identify(document, table, gathered)
+        self.identify(document, is_parent, table, gathered)
         self.count += 1
         self.values += sum(len(set(values)) for values in table.values())
         if self.count > limits.DOCUMENTS:
@@ -47,24 +47,45 @@ class Reading:
             raise Wrong(document.at, f"more than the {limits.VALUES:,} values that a script may have")
         return {field: values for field, values in table.items() if values}
 
-    def identify(self, document, table, gathered):
+    def identify(self, document, is_parent, table, gathered):
         if not table.get("id"):
             raise Wrong(gathered["id"][0] if "id" in gathered else document.at, "the document has no id")
         name, at = table["id"][0], gathered["id"][0]
         if name == "":
             raise Wrong(at, "the id is empty")
-        if name in self.ids:
-            file, line = self.ids[name]
-            raise Wrong(at, f"the id {name!r} stands already in {file}, line {line}")
-        place = document.place(at)
-        self.ids[name] = place.file, place.line
+        earlier = self.ids.take(name, is_parent, document.place(at))
+        if earlier:
+            raise Wrong(at, f"the id {name!r} stands already in {earlier.file}, line {earlier.line}")
 
     def blocks_aside(self):
-        """What was kept, one block behind another."""
+        """What was kept, one block behind another, each with the number of its update, 0 where it is of none."""
         self.aside.seek(0)
         for _ in range(self.blocks):
-            *place, block = marshal.load(self.aside)
-            yield Place(*place), block
+            *place, update, block = marshal.load(self.aside)
+            yield Place(*place), update, block
+
+
+class Ids:
+    """The ids of documents, each with its place. Behind an update a parent may have the id of an earlier parent, whose place it takes;
+    the ids of that one's children are free then."""
+
+    def __init__(self):
+        self.update, self.replaced, self.places, self.parents, self.parent = 0, 0, {}, {}, None
+
+    def take(self, name, is_parent, place):
+        """Takes an id in; the place where it stands already, or nothing."""
+        if is_parent and self.parents.get(name, (self.update,))[0] < self.update:
+            self.replaced += 1
+            for one in [name, *self.parents.pop(name)[1]]:
+                del self.places[one]
+        if name in self.places:
+            return self.places[name]
+        self.places[name] = place
+        if is_parent:
+            self.parents[name] = self.parent = self.update, []
+        else:
+            self.parent[1].append(name)
+        return None
 
 
 class Script:
@@ -73,6 +94,7 @@ class Script:
     def __init__(self, types, shards, by):
         self.types, self.shards, self.by = types, shards, by
         self.aside, self.size, self.commits, self.on_shard = tempfile.TemporaryFile(), 0, 0, [0] * shards
+        self.turns = {}
         self.totals = {field: 0 for field, kind in types.items() if kind.startswith("plong")}
 
     def line(self, place, text):
@@ -92,7 +114,7 @@ class Script:
         parent, *children = [self.members(place, table) for table in block]
         if children:
             parent["_childDocuments_"] = children
-        shard = zlib.crc32(parent["id"].encode("utf-8")) if self.by == "hash" else number
+        shard = zlib.crc32(parent["id"].encode("utf-8")) if self.by == "hash" else self.turns.setdefault(parent["id"], number)
         self.on_shard[shard % self.shards] += len(block)
         self.line(place, compact({"add": {"shard": shard % self.shards, "doc": parent}}))
 
@@ -128,10 +150,12 @@ def script_of(reading, options):
     """The script of what was read, with the requests behind it."""
     script = Script(reading.fields.types(), options.shards, options.by)
     script.schema()
-    is_open = True
-    for number, (place, block) in enumerate(reading.blocks_aside()):
+    is_open, last = True, 0
+    for number, (place, update, block) in enumerate(reading.blocks_aside()):
+        if update != last and is_open:
+            script.commit(place)
         script.add(place, block, number)
-        is_open = (number + 1) % (options.commit_every or reading.blocks + 1) != 0
+        is_open, last = (number + 1) % (options.commit_every or reading.blocks + 1) != 0, update
         if not is_open:
             script.commit(place)
     if is_open:
