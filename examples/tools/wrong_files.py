@@ -116,7 +116,7 @@ CASES = [
     ("a document of an update with the id of a child", {"a.jsonl": '{"id":"1","_childDocuments_":[{"id":"c"}]}\n', "b.csv": "id\nc\n"},
      "--update b.csv a.jsonl", "b.csv, line 2, column 1: the id 'c' stands already in a.jsonl, line 1", 65),
     ("a child of an update with an id that stood", {"a.csv": "id\n1\n", "b.jsonl": '{"id":"2","_childDocuments_":[{"id":"1"}]}\n'},
-     "--update b.jsonl a.csv", "b.jsonl, line 1, column 37: the id '1' stands already in a.csv, line 2", 65),
+     "--update b.jsonl a.csv", "b.jsonl, line 1, column 32: the id '1' stands already in a.csv, line 2", 65),
     ("a name that tells no format", {"a.txt": ""}, "a.txt", "a.txt: the name does not tell the format; --format csv, lines or json does", 65),
     ("no such file", {}, "none.csv", "none.csv: No such file or directory", 66),
     ("a folder", {}, "--format csv .", ".: Is a directory", 66),
