@@ -9,17 +9,18 @@ use Rattle.fc_spec.specs.documents.World.{World}
 use Rattle.fc_spec.specs.requests.Request.{Request}
 use Rattle.fc_spec.specs.requests.ValidRequests.{IsValidRequest}
 use Rattle.fc_spec.specs.words.Lists.{joined}
-use Rattle.fc_spec.specs.scripts.PinnedWorlds.{world_added}
+use Rattle.fc_spec.specs.documents.Operations.{after_ops}
 use Rattle.fc_search.specs.Askable.{world_of}
 use Rattle.fc_store.specs.Generated.{Generated}
+use Rattle.fc_checks.specs.Shards.{world_left}
 
-pub world_more : (gs after : List Generated) (g : Generated) (bs : List Batch) (rest : List (List Batch)) (whole : World) → after ≡ gs ++ g ∷ [] → g.blocks ≡ joined bs
-    → world_of gs ++ world_added (bs ∷ rest) ≡ whole → world_of after ++ world_added rest ≡ whole
+pub world_more : (gs after : List Generated) (g : Generated) (bs : List Batch) (rest : List (List Batch)) (whole : World) → after ≡ gs ++ g ∷ [] → g.blocks ≡ after_ops [] (joined bs)
+    → world_of gs ++ world_left (bs ∷ rest) ≡ whole → world_of after ++ world_left rest ≡ whole
 world_more gs after g bs rest whole pushed is so_far =
-    ap (λ xs. world_of xs ++ world_added rest) pushed
-    ∙ ap (λ xs. xs ++ world_added rest) (map-append (λ g. g.blocks) gs (g ∷ []))
-    ∙ append_assoc (world_of gs) (g.blocks ∷ []) (world_added rest)
-    ∙ ap (λ blocks. world_of gs ++ blocks ∷ world_added rest) is
+    ap (λ xs. world_of xs ++ world_left rest) pushed
+    ∙ ap (λ xs. xs ++ world_left rest) (map-append (λ g. g.blocks) gs (g ∷ []))
+    ∙ append_assoc (world_of gs) (g.blocks ∷ []) (world_left rest)
+    ∙ ap (λ blocks. world_of gs ++ blocks ∷ world_left rest) is
     ∙ so_far
 
 -- what is valid for a schema is so for each generation of it

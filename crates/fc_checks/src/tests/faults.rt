@@ -36,7 +36,6 @@ const LINES: &[(LineFault, &str)] = &[
     (LineFault::UnknownLine, "unknown-line"),
     (LineFault::BadSchema, "bad-schema"),
     (LineFault::BadShard, "bad-shard"),
-    (LineFault::DuplicateId, "duplicate-id"),
     (LineFault::FieldTotal, "field-total"),
     (LineFault::TooManyDocuments, "too-many-documents"),
     (LineFault::TooManySessions, "too-many-sessions"),

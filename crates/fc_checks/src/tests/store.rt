@@ -1,38 +1,35 @@
-// A store of one shard: its readers see what is published.
-ghost use Rattle.std.specs.Prelude.{◌≡◌, ◌≤◌, length, All, IfOk};
-ghost use Rattle.fc_store.specs.Charters.{IsBatchOf};
+// A store of one shard: its readers see what is published, and its segments are merged.
+ghost use Rattle.std.specs.Prelude.{◌≡◌, All, IfOk};
+ghost use Rattle.fc_store.specs.Charters.{IsBatchOf, KeepsLimits};
 
-use super::documents::{batch_of, schema_of};
-use fc_base::{Schema, WantMemory};
+use super::scripts::script_of;
+use fc_base::WantMemory;
+use fc_script::Script;
 use fc_store::{Charter, Generation, ShardReader, ShardWriter, open_shard};
 use std::alloc::Global;
 use std::process::Abort;
 use std::sync::{Arc, Wait};
 use std::test::Fail;
 
-const SCHEMA: &str = r#"{"shards":1,"fields":{"cat":"string"}}"#;
-
-// The blocks of each batch.
-const BATCHES: [&[&str]; 3] = [
-    &[r#"{"id":"1","cat":"b"}"#, r#"{"id":"2","cat":"a"}"#],
-    &[],
-    &[r#"{"id":"3","cat":"c"}"#],
-];
-
-// A charter of batches with these blocks, from no commit on.
-fn charter_of(alloc: Global, schema: &Arc<Schema>, batches: &[&[&str]]) -> Result<Charter, Fail>
-    requires { length batches.now ≤ 4096 }
-    ensures { IfOk result (λ charter. All (IsBatchOf charter.start.schema) charter.later) }
+// A charter of the batches of a script's last shard, from no commit on.
+fn charter_of(alloc: Global, text: &str) -> Result<Charter, Fail>
+    ensures batches { IfOk result (λ charter. All (IsBatchOf charter.start.schema) charter.later) }
+    ensures limits { IfOk result (λ charter. KeepsLimits charter) }
 {
-    let mut read = Vec::new(alloc);
-    for blocks in batches {
-        read.push(batch_of(alloc, schema, blocks)?)?;
+    let script = script_of(alloc, text)?;
+    let Script {
+        schema,
+        mut batches,
+        ..
+    } = script;
+    let start = Generation::first(alloc, schema)?;
+    match batches.pop() {
+        Some(batches) => Ok(Charter::new(start, Arc::new(alloc, batches)?)),
+        None => Err("no shard".into()),
     }
-    let start = Generation::first(alloc, Arc::try_clone(schema)?)?;
-    Ok(Charter::new(start, Arc::new(alloc, read)?))
 }
 
-// A store of these batches with two readers.
+// Such a store with two readers.
 struct Opened {
     writer: ShardWriter,
     one: ShardReader,
@@ -40,11 +37,8 @@ struct Opened {
     ghost alike: { (other.schema ≡ writer.schema) × (other.charter ≡ writer.charter) },
 }
 
-fn open(rt: &(impl Abort + Wait), alloc: Global, batches: &[&[&str]]) -> Result<Opened, Fail>
-    requires { length batches.now ≤ 4096 }
-{
-    let schema = schema_of(alloc, SCHEMA)?;
-    let charter = charter_of(alloc, &schema, batches)?;
+fn open(rt: &(impl Abort + Wait), alloc: Global, text: &str) -> Result<Opened, Fail> {
+    let charter = charter_of(alloc, text)?;
     let (writer, mut readers) = open_shard(rt, alloc, charter, 2)?;
     match (readers.pop(), readers.pop()) {
         (Some(other), Some(one)) => Ok(Opened { writer, one, other }),
@@ -90,11 +84,19 @@ impl Opened {
             number_of(held),
         ]
     }
+
+    // Behind one commit more, how many documents each segment has, and how many of them are live.
+    fn sizes<R: Wait>(&mut self, rt: &R, alloc: Global) -> Result<Vec<(u32, u32)>, Fail> {
+        self.commit(rt).ok_or("no commit")?;
+        let generation = self.one.pin()?;
+        let segments = generation.segments().iter();
+        Ok(segments.map(|one| (one.doc_count(), one.live().count())).collect(alloc)?)
+    }
 }
 
 #[test]
 fn readers_see_what_is_published(rt: HostRuntime) -> Result<(), Fail> {
-    let mut store = open(&rt, rt.alloc(), &BATCHES)?;
+    let mut store = open(&rt, rt.alloc(), THREE)?;
     let seen = store.seen(&rt);
     let Opened {
         writer,
@@ -110,35 +112,12 @@ fn readers_see_what_is_published(rt: HostRuntime) -> Result<(), Fail> {
     Ok(())
 }
 
-// The blocks of each commit, and how many documents each segment has behind it.
-const COMMITS: [(&[&str], &[u32]); 5] = [
-    (&[r#"{"id":"1"}"#], &[1]),
-    (&[r#"{"id":"2"}"#], &[2]),
-    (&[r#"{"id":"3"}"#], &[2, 1]),
-    (
-        &[
-            r#"{"id":"4"}"#,
-            r#"{"id":"5","_childDocuments_":[{"id":"6"}]}"#,
-            r#"{"id":"7"}"#,
-        ],
-        &[7],
-    ),
-    (&[], &[7]),
-];
-
-#[test]
-fn segments_are_merged(rt: HostRuntime) -> Result<(), Fail> {
-    let alloc = rt.alloc();
-    let schema = schema_of(alloc, SCHEMA)?;
-    let mut generation = Generation::first(alloc, Arc::try_clone(&schema)?)?;
-    for (blocks, sizes) in &COMMITS {
-        let batch = batch_of(alloc, &schema, blocks)?;
-        if generation.number() < 4096 {
-            generation = Generation::next(alloc, &generation, &batch)?;
-        }
-        let segments = generation.segments().iter();
-        let found: Vec<u32> = segments.map(|segment| segment.doc_count()).collect(alloc)?;
-        assert_eq!(rt; found.as_slice(), *sizes);
-    }
-    Ok(())
-}
+// Three commits, of which the second has no document.
+const THREE: &str = r#"{"schema":{"shards":1,"fields":{"cat":"string"}}}
+{"add":{"doc":{"id":"1","cat":"b"}}}
+{"add":{"doc":{"id":"2","cat":"a"}}}
+{"commit":{}}
+{"commit":{}}
+{"add":{"doc":{"id":"3","cat":"c"}}}
+{"commit":{}}
+"#;

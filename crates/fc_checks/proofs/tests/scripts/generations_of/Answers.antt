@@ -2,11 +2,10 @@ use Rattle.std.proofs.Common.{◌≡◌, ◌++◌, ◌∷◌, [], ◌∙◌, ap,
 use Rattle.std.specs.Arc.{arc_value}
 use Rattle.std.proofs.lemmas.List.{map_push}
 use Rattle.std.proofs.lemmas.List.Elements.{All-head, All-push, All-tail}
-use Rattle.fc_spec.specs.scripts.PinnedWorlds.{world_added}
 use Rattle.fc_script.specs.PartsView.{batches_view}
 use Rattle.fc_run.specs.Searches.{shards_view}
 use Rattle.fc_search.specs.Askable.{world_of}
-use Rattle.fc_checks.specs.Shards.{IsShardOf}
+use Rattle.fc_checks.specs.Shards.{IsShardOf, world_left}
 use Rattle.fc_checks.proofs.ShardWorlds.{world_more}
 use Rattle.fc_checks.proofs.tests.scripts.generations_of.Goals as goal
 
@@ -31,5 +30,5 @@ loop-batches-preserved c =
       shards = All-tail (IsShardOf s) (batches_view here.items) (shards_view rest) (subst (λ xs. All (IsShardOf s) (shards_view xs)) first was.shards);
       schema = subst (All (λ g. g.schema ≡ s)) (sym pushed) (All-push (λ g. g.schema ≡ s) gs (arc_value made) was.schema c.in_ok-generation_of.ensures.schema);
       world = world_more gs (map arc_value c.push.new.self.items) (arc_value made) (batches_view here.items) (shards_view rest) _ pushed c.in_ok-generation_of.ensures.blocks
-          (subst (λ xs. world_of gs ++ world_added (shards_view xs) ≡ world_added (shards_view c.args.shards.items)) first was.world);
+          (subst (λ xs. world_of gs ++ world_left (shards_view xs) ≡ world_left (shards_view c.args.shards.items)) first was.world);
     }
