@@ -85,12 +85,26 @@ impl Opened {
         ]
     }
 
-    // Behind one commit more, how many documents each segment has, and how many of them are live.
+    // Behind one commit more, of each segment how many documents it has, and how many of them are live.
     fn sizes<R: Wait>(&mut self, rt: &R, alloc: Global) -> Result<Vec<(u32, u32)>, Fail> {
         self.commit(rt).ok_or("no commit")?;
         let generation = self.one.pin()?;
         let segments = generation.segments().iter();
         Ok(segments.map(|one| (one.doc_count(), one.live().count())).collect(alloc)?)
+    }
+
+    // The same behind each of some commits, one after another.
+    fn all_sizes<R: Wait>(
+        &mut self,
+        rt: &R,
+        alloc: Global,
+        commits: usize,
+    ) -> Result<Vec<Vec<(u32, u32)>>, Fail> {
+        let mut all = Vec::new(alloc);
+        for _ in 0..commits {
+            all.push(self.sizes(rt, alloc)?)?;
+        }
+        Ok(all)
     }
 }
 
@@ -121,3 +135,69 @@ const THREE: &str = r#"{"schema":{"shards":1,"fields":{"cat":"string"}}}
 {"add":{"doc":{"id":"3","cat":"c"}}}
 {"commit":{}}
 "#;
+
+// One document is deleted, and an id of a child; one is overwritten; a parent is deleted, so that fewer are live than dead; all the others
+// are; one is added twice, and once more.
+const COMMITS: &str = r#"{"schema":{"shards":1,"fields":{}}}
+{"add":{"doc":{"id":"1"}}}
+{"commit":{}}
+{"add":{"doc":{"id":"2"}}}
+{"commit":{}}
+{"add":{"doc":{"id":"3"}}}
+{"commit":{}}
+{"add":{"doc":{"id":"4"}}}
+{"add":{"doc":{"id":"5","_childDocuments_":[{"id":"6"}]}}}
+{"add":{"doc":{"id":"7"}}}
+{"commit":{}}
+{"commit":{}}
+{"delete":{"id":"2"}}
+{"delete":{"id":"6"}}
+{"commit":{}}
+{"add":{"doc":{"id":"3"}}}
+{"commit":{}}
+{"delete":{"id":"5"}}
+{"commit":{}}
+{"delete":{"id":"1"}}
+{"delete":{"id":"3"}}
+{"delete":{"id":"4"}}
+{"delete":{"id":"7"}}
+{"commit":{}}
+{"add":{"doc":{"id":"8"}}}
+{"add":{"doc":{"id":"8"}}}
+{"commit":{}}
+{"add":{"doc":{"id":"8"}}}
+{"commit":{}}
+"#;
+
+const SIZES: [&[(u32, u32)]; 11] = [
+    &[(1, 1)],
+    &[(2, 2)],
+    &[(2, 2), (1, 1)],
+    &[(7, 7)],
+    &[(7, 7)],
+    &[(7, 6)],
+    &[(7, 5), (1, 1)],
+    &[(4, 4)],
+    &[],
+    &[(2, 1)],
+    &[(1, 1)],
+];
+
+#[test]
+fn segments_are_merged(rt: HostRuntime) -> Result<(), Fail> {
+    let alloc = rt.alloc();
+    let mut store = open(&rt, alloc, COMMITS)?;
+    let sizes = store.all_sizes(&rt, alloc, SIZES.len());
+    let Opened {
+        writer,
+        one: _,
+        other: _,
+    } = store;
+    writer.finish(&rt)?;
+    let sizes = sizes?;
+    assert_eq!(rt; sizes.len(), SIZES.len());
+    for (found, wanted) in sizes.iter().zip(SIZES) {
+        assert_eq!(rt; found.as_slice(), wanted);
+    }
+    Ok(())
+}
