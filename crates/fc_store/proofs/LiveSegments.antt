@@ -15,7 +15,7 @@ use Rattle.fc_spec.specs.scripts.WorldLimits.{IsWithinLimits}
 use Rattle.fc_spec.specs.words.Lists.{joined}
 use Rattle.fc_spec.proofs.documents.BlockTotals.{document_total-append, document_total-cons}
 use Rattle.fc_spec.proofs.documents.LiveBlocks.{full_is_whole, live_of_whole, whole_has, without_has, without_live}
-use Rattle.fc_spec.proofs.scripts.FirstBatches.{fewer_within}
+use Rattle.fc_spec.proofs.scripts.WorldTotals.{fewer_within}
 use Rattle.fc_segment.specs.Merged.{blocks_each, live_blocks, live_blocks_of}
 use Rattle.fc_segment.specs.Segmented.{Segmented}
 use Rattle.fc_store.specs.Segments.{AreDense, AreSegmentsOf, if_any, merged, without}

@@ -9,7 +9,7 @@ use Rattle.fc_spec.specs.documents.Operations.{after_op, after_ops, blocks_added
 use Rattle.fc_spec.specs.scripts.WorldLimits.{IsWithinLimits}
 use Rattle.fc_spec.specs.words.Lists.{joined}
 use Rattle.fc_spec.proofs.documents.LeftBlocks.{op_measure, after_sum, added_sum}
-use Rattle.fc_spec.proofs.scripts.FirstBatches.{fewer_within}
+use Rattle.fc_spec.proofs.scripts.WorldTotals.{fewer_within}
 use Rattle.fc_spec.proofs.words.Sums.{sum_by-first}
 use Rattle.fc_store.specs.Generated.{Generated}
 use Rattle.fc_store.specs.Charters.{Chartered, IsBegun, IsChartered, KeepsLimits, blocks_at}

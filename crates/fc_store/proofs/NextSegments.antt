@@ -14,7 +14,7 @@ use Rattle.fc_spec.specs.documents.ValidBlocks.{IsBlockOf, is_value_of}
 use Rattle.fc_spec.specs.scripts.WorldLimits.{IsWithinLimits}
 use Rattle.fc_spec.proofs.documents.LeftBlocks.{after_is, after_sum, added_sum}
 use Rattle.fc_spec.proofs.documents.LiveBlocks.{left_has, left_live}
-use Rattle.fc_spec.proofs.scripts.FirstBatches.{fewer_within}
+use Rattle.fc_spec.proofs.scripts.WorldTotals.{fewer_within}
 use Rattle.fc_base.specs.ValidSchema.{IsValidSchema, id_field}
 use Rattle.fc_segment.specs.Merged.{live_blocks}
 use Rattle.fc_segment.specs.Segmented.{Segmented}

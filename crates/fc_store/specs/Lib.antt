@@ -4,7 +4,6 @@ pub mod Tiers
 pub mod Named
 pub mod OwnIds
 pub mod Built
-pub mod LivePlaces
 pub mod Charters
 pub mod Ends
 pub mod Rule

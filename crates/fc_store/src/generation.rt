@@ -1,5 +1,5 @@
 // Generations of a shard.
-ghost use Rattle.std.specs.Prelude.{◌≡◌, ◌+◌, ◌<◌, ◌≤◌, ◌++◌, [], ◌∷◌, length, map, All, IfOk, None, Some, MatchOption, not};
+ghost use Rattle.std.specs.Prelude.{◌≡◌, ◌+◌, ◌<◌, ◌≤◌, ◌++◌, [], ◌∷◌, length, map, All, IfOk, not};
 ghost use Rattle.std.specs.List.{filter};
 ghost use Rattle.std.specs.Arc.{arc_value};
 ghost use Rattle.fc_spec.specs.documents.Live.{left_set, HasWholeBlocks};
@@ -11,7 +11,6 @@ ghost use Rattle.fc_spec.specs.words.Lists.{joined};
 ghost use Rattle.fc_docs.specs.View.{batch_view, op_view};
 ghost use Rattle.fc_segment.specs.Merged.{blocks_each, live_blocks_of};
 ghost use Rattle.fc_store.specs.Charters.{IsBatchOf};
-ghost use Rattle.fc_store.specs.LivePlaces.{IsLiveAt};
 ghost use Rattle.fc_store.specs.OwnIds.{HaveOwnIds};
 ghost use Rattle.fc_store.specs.Segments.{AreDense, AreSegmentsOf};
 ghost use Rattle.fc_store.specs.Tiers.{AreTiered, sizes_of};
@@ -121,7 +120,8 @@ impl Generation {
         self.number
     }
 
-    /// The segments that hold its blocks, in order: its blocks are the live ones. At least half of the documents of each are live.
+    /// The segments that hold its blocks, in order: its blocks are the live ones, and each segment says which of its own are. At least
+    /// half of the documents of each are live.
     pub fn segments(&self) -> &[Arc<Segment>]
         ensures blocks { live_blocks_of (map arc_value result.now) ≡ self.now.blocks }
         ensures kinds { All (λ segment. segment.texts ≡ texts_held self.now.schema.fields)
@@ -135,21 +135,6 @@ impl Generation {
         ensures ids { HaveOwnIds self.now.blocks }
     {
         &self.segments
-    }
-
-    /// The positions of the live documents of the segment at a place in `segments`: of each block all, or none. There are none where
-    /// no segment stands at the place.
-    pub fn live(&self, segment: u32) -> Option<&DocSet>
-        ensures { MatchOption result
-            (IsLiveAt self.now segment None)
-            (λ live. IsLiveAt self.now segment (Some live.now)) }
-    {
-        let place = segment as usize;
-        if place < self.segments.len() {
-            Some(self.segments[place].live())
-        } else {
-            None
-        }
     }
 
     /// The same segments, shared, for whoever works on them longer than the generation is lent.

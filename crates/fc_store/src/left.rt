@@ -19,14 +19,13 @@ use std::sync::Arc;
 
 // The positions of a segment's live blocks that have one of the ids.
 fn live_with_ids(alloc: Global, segment: &Segment, ids: &[&Name]) -> Result<DocSet, WantMemory>
-    requires some { 0 < length segment.now.texts }
-    requires texts { slice_index_or segment.now.texts 0 false ≡ true }
+    requires { slice_index_or segment.now.texts 0 false ≡ true }
     ensures { IfOk result (λ found. found
         ≡ zip_with ◌&&◌ (blocks_where (has_one_of (texts_of ids.now)) segment.now.blocks) segment.now.live) }
 {
     let mut found = DocSet::empty(alloc, segment.doc_count())?;
     for id in ids {
-        segment.parents_with_id(id.bytes(), &mut found)?;
+        segment.parents_with_id(id.bytes(), &mut found);
     }
     found.and_with(segment.live());
     Ok(found)
@@ -38,8 +37,7 @@ fn without_ids(
     segment: &Arc<Segment>,
     ids: &[&Name],
 ) -> Result<Arc<Segment>, WantMemory>
-    requires some { 0 < length (arc_value segment.now).texts }
-    requires texts { slice_index_or (arc_value segment.now).texts 0 false ≡ true }
+    requires { slice_index_or (arc_value segment.now).texts 0 false ≡ true }
     ensures { IfOk result (λ left. arc_value left
         ≡ without (has_one_of (texts_of ids.now)) (arc_value segment.now)) }
 {
@@ -62,8 +60,7 @@ pub fn left_segments(
     segments: &[Arc<Segment>],
     ids: &[&Name],
 ) -> Result<Vec<Arc<Segment>>, WantMemory>
-    requires some { All (λ segment. 0 < length segment.texts) (map arc_value segments.now) }
-    requires texts { All (λ segment. slice_index_or segment.texts 0 false ≡ true)
+    requires { All (λ segment. slice_index_or segment.texts 0 false ≡ true)
         (map arc_value segments.now) }
     ensures { IfOk result (λ left. map arc_value left.items
         ≡ map (without (has_one_of (texts_of ids.now))) (map arc_value segments.now)) }

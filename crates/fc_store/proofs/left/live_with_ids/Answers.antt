@@ -18,7 +18,7 @@ pub loop-id-preserved : goal.loop-id-preserved
 loop-id-preserved c =
     let blocks = c.args.segment.now.blocks in
     let i = c.loop-id.id-index in
-    c.in_ok-parents_with_id.ensures ∙ ap₂ (λ found x. zip_with ◌||◌ found (blocks_where (has_id x) blocks)) c.loop-id.invariant c.bytes.ensures.value
+    c.parents_with_id.ensures ∙ ap₂ (λ found x. zip_with ◌||◌ found (blocks_where (has_id x) blocks)) c.loop-id.invariant c.bytes.ensures.value
     ∙ ids_more c.args.ids.now i c.id-item.result blocks c.loop-id-test.true c.id-item.is
 
 pub and_with-requires : goal.and_with-requires
