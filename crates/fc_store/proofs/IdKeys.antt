@@ -1,5 +1,5 @@
 -- A set of lent ids, beside what operations name.
-use Rattle.std.proofs.Common.{slice_index_or, ◌≡◌, List, [], ◌∷◌, Bool, true, false, ◌||◌, Bor, Ordering, Less, Equal, Greater, map, refl, sym, ap, ap₂, ◌∙◌}
+use Rattle.std.proofs.Common.{slice_index_or, ◌≡◌, List, [], ◌∷◌, Bool, true, false, ◌||◌, Bor, Ordering, Less, Equal, Greater, refl, sym, ap, ap₂, ◌∙◌}
 use Rattle.std.proofs.Math.Bool.{or-false}
 use Rattle.std.specs.Cmp.{eq_by_cmp_equiv}
 use Rattle.std.specs.Cmp.Lexicographic.{nat_list_cmp_total}

@@ -1,5 +1,5 @@
 -- Segments and their live blocks: the first of them and the last, one more, fewer live blocks, and several as one.
-use Rattle.std.proofs.Common.{◌≡◌, ◌==◌, ℕ, zero, suc, ◌+◌, ◌*◌, ◌<◌, ◌≤◌, ◌⊎◌, inl, inr, List, [], ◌∷◌, ◌++◌, length, map, take, drop, replicate, cond, sum, Bool, true, false, not, count_by, All, refl, sym, ap, ap₂, subst, ◌∙◌, arith, append_assoc, append-nil, length-append, eq-eqb, ne_eqb}
+use Rattle.std.proofs.Common.{◌≡◌, ◌==◌, ℕ, zero, suc, ◌*◌, ◌≤◌, ◌⊎◌, inl, inr, List, [], ◌∷◌, ◌++◌, length, map, take, drop, replicate, cond, sum, Bool, true, false, not, All, refl, sym, ap, ap₂, subst, ◌∙◌, arith, append_assoc, append-nil, eq-eqb, ne_eqb}
 use Rattle.std.specs.List.{filter, items_where_true}
 use Rattle.std.specs.Prelude.{sum_by}
 use Rattle.std.proofs.lemmas.Bool.{cases_eq}
@@ -7,9 +7,9 @@ use Rattle.std.proofs.lemmas.List.{length-replicate}
 use Rattle.std.proofs.lemmas.List.Elements.{All-nil, All-cons, All-head, All-tail, All-append, All-take, All-drop, All-map, filter-append}
 use Rattle.std.proofs.lemmas.List.Sums.{sum_by-append, sum_by-cons}
 use Rattle.fc_spec.specs.documents.Document.{Block}
-use Rattle.fc_spec.specs.documents.Live.{HasWholeBlocks, live_in, parents_in_set, set_without}
+use Rattle.fc_spec.specs.documents.Live.{HasWholeBlocks, live_in, parents_in_set}
 use Rattle.fc_spec.specs.documents.Schema.{Schema, texts_held}
-use Rattle.fc_spec.specs.documents.Totals.{document_total, documents_in}
+use Rattle.fc_spec.specs.documents.Totals.{document_total}
 use Rattle.fc_spec.specs.documents.ValidBlocks.{IsBlockOf}
 use Rattle.fc_spec.specs.scripts.WorldLimits.{IsWithinLimits}
 use Rattle.fc_spec.specs.words.Lists.{joined}
@@ -19,8 +19,8 @@ use Rattle.fc_spec.proofs.scripts.WorldTotals.{fewer_within}
 use Rattle.fc_segment.specs.Merged.{blocks_each, live_blocks, live_blocks_of}
 use Rattle.fc_segment.specs.Segmented.{Segmented}
 use Rattle.fc_store.specs.Segments.{AreDense, AreSegmentsOf, if_any, merged, without}
-use Rattle.fc_store.specs.Tiers.{AreTiered, sizes_of}
-use Rattle.fc_store.proofs.Tiered.{none_or_one, some_size}
+use Rattle.fc_store.specs.Tiers.{sizes_of}
+use Rattle.fc_store.proofs.Tiered.{some_size}
 
 -- all their blocks, live or not
 abbrev pub all_blocks : List Segmented → List Block

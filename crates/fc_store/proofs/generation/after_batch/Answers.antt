@@ -1,21 +1,18 @@
-use Rattle.std.proofs.Common.{◌≡◌, ◌∙◌, ◌++◌, ◌∷◌, [], not, true, length, map, replicate, All, ap, sym, subst, subst₂, arith}
+use Rattle.std.proofs.Common.{◌≡◌, ◌∙◌, ◌++◌, ◌∷◌, [], not, map, ap, sym, subst, subst₂}
 use Rattle.std.specs.Arc.{arc_value}
 use Rattle.std.specs.List.{filter}
-use Rattle.fc_spec.specs.documents.Document.{Block, adding}
-use Rattle.fc_spec.specs.documents.Live.{left_set, live_in, HasWholeBlocks}
-use Rattle.fc_spec.specs.documents.Operations.{after_ops, blocks_added, is_named, left_of}
+use Rattle.fc_spec.specs.documents.Live.{left_set, HasWholeBlocks}
+use Rattle.fc_spec.specs.documents.Operations.{after_ops, blocks_added, is_named}
 use Rattle.fc_spec.specs.documents.Schema.{Schema, texts_held}
-use Rattle.fc_spec.specs.documents.Totals.{document_total}
-use Rattle.fc_spec.specs.documents.ValidBlocks.{IsBlockOf}
 use Rattle.fc_spec.specs.scripts.WorldLimits.{IsWithinLimits}
-use Rattle.fc_spec.proofs.documents.LiveBlocks.{left_has, length-live}
+use Rattle.fc_spec.proofs.documents.LiveBlocks.{left_has}
 use Rattle.fc_docs.specs.View.{batch_view, op_view}
 use Rattle.fc_segment.specs.Merged.{live_blocks, live_blocks_of}
 use Rattle.fc_segment.specs.Segmented.{Segmented}
 use Rattle.fc_store.specs.Generated.{Generated}
 use Rattle.fc_store.specs.OwnIds.{HaveOwnIds}
 use Rattle.fc_store.specs.Segments.{AreSegmentsOf}
-use Rattle.fc_store.proofs.NextSegments.{IsAdded, after_within, left_alone, left_few, left_valid, marked_added, only_added}
+use Rattle.fc_store.proofs.NextSegments.{IsAdded, after_within, marked_added}
 use Rattle.fc_store.proofs.OwnIds.{own_ids_after}
 use Rattle.fc_store.proofs.generation.after_batch.Goals as goal
 

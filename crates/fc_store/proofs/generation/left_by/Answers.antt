@@ -5,7 +5,6 @@ use Rattle.fc_spec.specs.documents.Operations.{is_named}
 use Rattle.fc_base.specs.ValidSchema.{IsValidSchema}
 use Rattle.fc_docs.specs.View.{op_view}
 use Rattle.fc_segment.specs.Merged.{live_blocks_of}
-use Rattle.fc_segment.specs.Segmented.{Segmented}
 use Rattle.fc_store.specs.Generated.{Generated}
 use Rattle.fc_store.specs.Named.{has_one_of, texts_of}
 use Rattle.fc_store.specs.Segments.{AreSegmentsOf, without}

@@ -1,4 +1,4 @@
-use Rattle.std.proofs.Common.{◌≡◌, ◌∙◌, ◌||◌, false, replicate, length, take, sym, ap, ap₂}
+use Rattle.std.proofs.Common.{◌∙◌, ◌||◌, false, replicate, length, take, sym, ap, ap₂}
 use Rattle.fc_spec.specs.documents.Live.{blocks_where}
 use Rattle.fc_spec.specs.documents.Operations.{has_id}
 use Rattle.fc_spec.specs.documents.Sets.{zip_with}

@@ -1,4 +1,4 @@
-use Rattle.std.proofs.Common.{◌≡◌, ◌+◌, ◌≤◌, ◌∷◌, [], length, ap, subst, length-append, arith}
+use Rattle.std.proofs.Common.{◌+◌, ◌≤◌, ◌∷◌, [], length, ap, subst, length-append, arith}
 use Rattle.fc_spec.specs.documents.Totals.{documents_of}
 use Rattle.fc_docs.specs.View.{block_view, op_view}
 use Rattle.fc_store.specs.Named.{op_size}

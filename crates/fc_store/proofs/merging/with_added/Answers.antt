@@ -1,14 +1,13 @@
-use Rattle.std.proofs.Common.{◌≡◌, ◌∙◌, ◌-◌, ◌<◌, ◌++◌, ◌∷◌, [], All, length, map, take, ap, sym, subst}
+use Rattle.std.proofs.Common.{◌∙◌, ◌-◌, ◌<◌, ◌∷◌, [], All, length, map, take, ap, sym, subst}
 use Rattle.std.specs.Arc.{arc_value}
 use Rattle.fc_spec.specs.documents.Totals.{document_total}
 use Rattle.fc_spec.specs.scripts.WorldLimits.{IsWithinLimits}
-use Rattle.fc_segment.specs.Merged.{live_blocks, live_blocks_of}
-use Rattle.fc_segment.specs.Segmented.{Segmented}
+use Rattle.fc_segment.specs.Merged.{live_blocks_of}
 use Rattle.fc_store.specs.Segments.{AreSegmentsOf, if_any}
 use Rattle.fc_store.specs.Tiers.{AreTiered, sizes_of}
 use Rattle.fc_store.proofs.LiveSegments.{any_segment, live_with, segments-append, sizes_with}
 use Rattle.fc_store.proofs.Sizes.{sizes_long}
-use Rattle.fc_store.proofs.Tiered.{some_each, some_size, tiered_but_last}
+use Rattle.fc_store.proofs.Tiered.{some_each, tiered_but_last}
 use Rattle.fc_store.proofs.merging.with_added.Goals as goal
 
 pub leveled-requires-clause-kept : goal.leveled-requires-clause-kept

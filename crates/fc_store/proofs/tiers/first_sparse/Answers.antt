@@ -1,6 +1,6 @@
-use Rattle.std.proofs.Common.{◌≡◌, ◌*◌, ◌<◌, ◌≤◌, length, get_or, map, sym, subst, arith}
+use Rattle.std.proofs.Common.{◌*◌, ◌≤◌, map, sym, subst, arith}
 use Rattle.std.proofs.lemmas.Bool.{OnFalse_at}
-use Rattle.std.proofs.lemmas.List.{get_or-map, length-map}
+use Rattle.std.proofs.lemmas.List.{length-map}
 use Rattle.std.proofs.lemmas.List.Elements.{All-more}
 use Rattle.std.specs.Arc.{arc_value}
 use Rattle.fc_spec.specs.documents.Totals.{document_total}

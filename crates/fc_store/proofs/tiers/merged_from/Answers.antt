@@ -1,4 +1,4 @@
-use Rattle.std.proofs.Common.{◌≡◌, ◌∙◌, ◌-◌, length, map, take, sym, subst, arith}
+use Rattle.std.proofs.Common.{◌-◌, map, take, sym, subst, arith}
 use Rattle.std.specs.Arc.{arc_value}
 use Rattle.std.proofs.lemmas.Bool.{OnFalse_at}
 use Rattle.fc_store.specs.Tiers.{AreTiered, sizes_of}
