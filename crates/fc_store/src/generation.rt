@@ -82,7 +82,7 @@ impl Generation {
         let next = Generation {
             schema: Arc::try_clone(&earlier.schema)?,
             number: earlier.number + 1,
-            segments: after_batch(alloc, earlier, batch)?,
+            segments: behind_batch(alloc, earlier, batch)?,
         };
         Ok(Arc::new(alloc, next)?)
     }
@@ -108,7 +108,7 @@ impl Generation {
         let after = Generation {
             schema: Arc::try_clone(&earlier.schema)?,
             number,
-            segments: after_batches(alloc, earlier, all)?,
+            segments: behind_batches(alloc, earlier, all)?,
         };
         Ok(Arc::new(alloc, after)?)
     }
@@ -219,6 +219,65 @@ fn after_batches(
     let only = left_batch(alloc, batch, &left)?;
     let added = Segment::build(alloc, &earlier.schema, &only)?;
     let made = with_added(alloc, &earlier.schema, kept, added)?;
+    Ok(made)
+}
+
+// The segments of a generation, shared.
+fn same(alloc: Global, earlier: &Generation) -> Result<Vec<Arc<Segment>>, WantMemory>
+    ensures blocks { IfOk result (λ made. live_blocks_of (map arc_value made.items) ≡ earlier.now.blocks) }
+    ensures kept { IfOk result (λ made. AreSegmentsOf earlier.now.schema (map arc_value made.items)) }
+    ensures tiers { IfOk result (λ made. AreTiered (sizes_of (map arc_value made.items))) }
+    ensures dense { IfOk result (λ made. AreDense (map arc_value made.items)) }
+    ensures ids { HaveOwnIds earlier.now.blocks }
+{
+    let segments = earlier.segments();
+    let made = shared(alloc, segments)?;
+    Ok(made)
+}
+
+// The segments behind a batch: the same, shared, where it has no operation.
+fn behind_batch(
+    alloc: Global,
+    earlier: &Generation,
+    batch: &Batch,
+) -> Result<Vec<Arc<Segment>>, WantMemory>
+    requires batch { IsBatchOf earlier.now.schema (batch_view batch.now) }
+    requires limits { IsWithinLimits ((earlier.now.blocks ++ blocks_added (batch_view batch.now)) ∷ []) }
+    ensures blocks { IfOk result (λ made. live_blocks_of (map arc_value made.items)
+        ≡ after_ops earlier.now.blocks (batch_view batch.now)) }
+    ensures kept { IfOk result (λ made. AreSegmentsOf earlier.now.schema (map arc_value made.items)) }
+    ensures tiers { IfOk result (λ made. AreTiered (sizes_of (map arc_value made.items))) }
+    ensures dense { IfOk result (λ made. AreDense (map arc_value made.items)) }
+    ensures ids { IfOk result (λ made. HaveOwnIds (live_blocks_of (map arc_value made.items))) }
+{
+    if batch.ops.is_empty() {
+        let made = same(alloc, earlier)?;
+        return Ok(made);
+    }
+    let made = after_batch(alloc, earlier, batch)?;
+    Ok(made)
+}
+
+// The segments behind a batch: the same, shared, where it has no operation.
+fn behind_batches(
+    alloc: Global,
+    earlier: &Generation,
+    batch: Batch,
+) -> Result<Vec<Arc<Segment>>, WantMemory>
+    requires batch { IsBatchOf earlier.now.schema (batch_view batch) }
+    requires limits { IsWithinLimits ((earlier.now.blocks ++ blocks_added (batch_view batch)) ∷ []) }
+    ensures blocks { IfOk result (λ made. live_blocks_of (map arc_value made.items)
+        ≡ after_ops earlier.now.blocks (batch_view batch)) }
+    ensures kept { IfOk result (λ made. AreSegmentsOf earlier.now.schema (map arc_value made.items)) }
+    ensures tiers { IfOk result (λ made. AreTiered (sizes_of (map arc_value made.items))) }
+    ensures dense { IfOk result (λ made. AreDense (map arc_value made.items)) }
+    ensures ids { IfOk result (λ made. HaveOwnIds (live_blocks_of (map arc_value made.items))) }
+{
+    if batch.ops.is_empty() {
+        let made = same(alloc, earlier)?;
+        return Ok(made);
+    }
+    let made = after_batches(alloc, earlier, batch)?;
     Ok(made)
 }
 
