@@ -32,7 +32,7 @@ few_documents ds few = both.0
     both = grind (arith, few)
 
 -- what joined batches add is of the schema where what each adds is
-all_added : (s : Schema) (bs : List documents.Batch) → All (IsBatchOf s) bs → All (IsBlockOf s) (blocks_added (joined bs))
+pub all_added : (s : Schema) (bs : List documents.Batch) → All (IsBatchOf s) bs → All (IsBlockOf s) (blocks_added (joined bs))
 all_added s [] all = All-nil (IsBlockOf s)
 all_added s (b ∷ bs) all =
     subst (All (IsBlockOf s)) (sym (filter_map-append added_by b (joined bs)))
