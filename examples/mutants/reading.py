@@ -35,7 +35,7 @@ def number(text):
     value = float(text)
     if math.isinf(value):
         raise ValueError("a number that is too large")
-    return value if re.search("[.eE]", text) else int(text)
+    return value if re.search("[.eE]|^-0$", text) else int(text)
 
 
 def refuse(text):

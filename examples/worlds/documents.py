@@ -31,18 +31,19 @@ class Documents:
         parent = self.document(shard, "p")
         if self.chance.happens(45):
             parent["_childDocuments_"] = [self.document(shard, "c") for _ in range(self.chance.below(4))]
-        if self.chance.happens(self.again):
-            parent["id"] = self.earlier_id()
+        for one in [parent, *parent.get("_childDocuments_", [])]:
+            if self.chance.happens(self.again):
+                one["id"] = self.earlier_id()
         return parent
 
     def earlier_id(self):
         """The id of a document that was made, or of none; more often a late one."""
         back = self.chance.below(self.chance.one([4, 20, 200]))
-        return "d%d" % max(self.number - back, 0)
+        return "d%d" % max(self.number - back, 0) if self.chance.happens(96) else self.chance.one(["", -7, 7, "07"])
 
     def deletion(self, shard):
         """What a line says that deletes."""
-        name = self.earlier_id() if self.chance.happens(95) else self.chance.one(["", -7, 10 ** 18, "d01", "D1"])
+        name = self.earlier_id() if self.chance.happens(95) else self.chance.one(["", "-7", "7", 10 ** 18, "d01", "D1"])
         return {"id": name, **({"shard": shard} if shard > 0 or self.chance.happens(50) else {})}
 
     def document(self, shard, kind):

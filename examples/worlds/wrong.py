@@ -145,6 +145,9 @@ EDITS = [
      "            left.update({(name, number): [p] for number, p in enumerate(rest)})"),
     ("the ids of children count", "counting.py", "            left.pop(name, None)",
      "            left = {key: one for key, one in left.items() if not any(name in p.document['id'] for p in one)}"),
+    ("an overwrite takes the blocks with the ids of its children too", "counting.py", "            left.pop(name, None)",
+     "            names = {one for p in block or [] for one in p.document['id']} | {name}\n"
+     "            left = {key: one for key, one in left.items() if key not in names}"),
     ("a delete takes the documents of every shard", "counting.py",
      'waiting[line["delete"].get("shard", 0)].append((str(line["delete"]["id"]), None))',
      '[one.append((str(line["delete"]["id"]), None)) for one in waiting]'),
