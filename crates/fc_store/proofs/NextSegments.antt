@@ -1,9 +1,9 @@
 -- The segments behind operations.
-use Rattle.std.proofs.Common.{◌≡◌, ◌≤◌, List, [], ◌∷◌, ◌++◌, length, map, replicate, Bool, true, not, All, IsTrue, refl, sym, ap, subst, ◌∙◌, arith, append-nil}
+use Rattle.std.proofs.Common.{◌≡◌, ◌≤◌, List, [], ◌∷◌, ◌++◌, length, map, replicate, Bool, true, false, not, count_by, All, IsTrue, refl, sym, ap, subst, ◌∙◌, arith, append-nil}
 use Rattle.std.specs.List.{filter}
 use Rattle.std.specs.Prelude.{sum_by}
 use Rattle.std.proofs.lemmas.List.Elements.{All-cons, All-head, All-nil, All-tail}
-use Rattle.std.proofs.lemmas.List.Sums.{sum_by-append}
+use Rattle.std.proofs.lemmas.List.Sums.{count_by-le-length, sum_by-append}
 use Rattle.fc_spec.specs.documents.Val.{Text, Val, text, long}
 use Rattle.fc_spec.specs.documents.Document.{Block, values_of, Op, adding, deleting}
 use Rattle.fc_spec.specs.documents.Operations.{after_ops, blocks_added, is_named, left_of}
@@ -15,6 +15,7 @@ use Rattle.fc_spec.specs.scripts.WorldLimits.{IsWithinLimits}
 use Rattle.fc_spec.proofs.documents.LeftBlocks.{after_is, after_sum, added_sum}
 use Rattle.fc_spec.proofs.documents.LiveBlocks.{left_has, left_live}
 use Rattle.fc_spec.proofs.scripts.WorldTotals.{fewer_within}
+use Rattle.fc_spec.proofs.words.Counting.{count_by-cons}
 use Rattle.fc_base.specs.ValidSchema.{IsValidSchema, id_field}
 use Rattle.fc_segment.specs.Merged.{live_blocks}
 use Rattle.fc_segment.specs.Segmented.{Segmented}
@@ -92,12 +93,22 @@ only_added s blocks ops g valid limits is = subst (IsAdded s blocks ops) (sym is
 
 -- ---- a batch of those blocks alone
 
-added_of : (bs : List Block) → blocks_added (map adding bs) ≡ bs
+pub added_of : (bs : List Block) → blocks_added (map adding bs) ≡ bs
 added_of [] = refl
 added_of (b ∷ bs) = ap (λ l. b ∷ l) (added_of bs)
 
-pub left_alone : (ops : List Op) (set : List Bool) → set ≡ left_set ops → blocks_added (map adding (live_in (blocks_added ops) set)) ≡ left_of ops
-left_alone ops set is = added_of (live_in (blocks_added ops) set) ∙ ap (live_in (blocks_added ops)) is ∙ left_live ops
+pub left_alone : (ops : List Op) (set : List Bool) → set ≡ left_set ops → live_in (blocks_added ops) set ≡ left_of ops
+left_alone ops set is = ap (live_in (blocks_added ops)) is ∙ left_live ops
 
 pub left_few : (ops : List Op) → document_total (left_of ops) ≤ document_total (blocks_added ops)
 left_few ops = subst (λ l. document_total l ≤ document_total (blocks_added ops)) (left_live ops) (kept_total (parents_in_set (blocks_added ops) (left_set ops)) (blocks_added ops))
+
+-- ---- all of it
+
+all_true : (set : List Bool) → count_by (λ here. here) set ≡ length set → set ≡ replicate (length set) true
+all_true [] same = refl
+all_true (true ∷ set) same = ap (λ l. true ∷ l) (all_true set (omega (arith, same, count_by-cons (λ here. here) true set)))
+all_true (false ∷ set) same = absurd (omega (arith, same, count_by-cons (λ here. here) false set, count_by-le-length (λ here. here) set))
+
+pub all_live : (blocks : List Block) (set : List Bool) → length set ≡ document_total blocks → count_by (λ here. here) set ≡ length set → live_in blocks set ≡ blocks
+all_live blocks set count same = ap (live_in blocks) (all_true set same ∙ ap (λ n. replicate n true) count) ∙ full_live blocks

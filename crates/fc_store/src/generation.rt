@@ -15,7 +15,7 @@ ghost use Rattle.fc_store.specs.OwnIds.{HaveOwnIds};
 ghost use Rattle.fc_store.specs.Segments.{AreDense, AreSegmentsOf};
 ghost use Rattle.fc_store.specs.Tiers.{AreTiered, sizes_of};
 
-use crate::left::{left_batch, left_segments};
+use crate::left::{left_segments, only_left};
 use crate::merging::with_added;
 use crate::named::named;
 use fc_base::{Schema, WantMemory};
@@ -216,7 +216,7 @@ fn after_batches(
     ensures ids { IfOk result (λ made. HaveOwnIds (live_blocks_of (map arc_value made.items))) }
 {
     let (kept, left) = left_by(alloc, earlier, &batch.ops)?;
-    let only = left_batch(alloc, batch, &left)?;
+    let only = only_left(alloc, batch, &left)?;
     let added = Segment::build(alloc, &earlier.schema, &only)?;
     let made = with_added(alloc, &earlier.schema, kept, added)?;
     Ok(made)

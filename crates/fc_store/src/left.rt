@@ -93,8 +93,8 @@ fn push_if_left(kept: &mut Vec<Op>, op: Op, left: &DocSet, at: u32) -> Result<u3
     }
 }
 
-/// A batch that adds those of the blocks that a batch adds that are in a set.
-pub fn left_batch(alloc: Global, batch: Batch, left: &DocSet) -> Result<Batch, WantMemory>
+// A batch that adds those of the blocks that a batch adds that are in a set.
+fn left_batch(alloc: Global, batch: Batch, left: &DocSet) -> Result<Batch, WantMemory>
     requires { length left.now ≡ document_total (blocks_added (batch_view batch)) }
     ensures { IfOk result (λ only. batch_view only
         ≡ map adding (live_in (blocks_added (batch_view batch)) left.now)) }
@@ -105,4 +105,17 @@ pub fn left_batch(alloc: Global, batch: Batch, left: &DocSet) -> Result<Batch, W
         at = push_if_left(&mut ops, op, left, at)?;
     }
     Ok(Batch { ops })
+}
+
+/// A batch that adds those of the blocks that a batch adds that are in a set: the same batch, where all of them are.
+pub fn only_left(alloc: Global, batch: Batch, left: &DocSet) -> Result<Batch, WantMemory>
+    requires { length left.now ≡ document_total (blocks_added (batch_view batch)) }
+    ensures { IfOk result (λ only. blocks_added (batch_view only)
+        ≡ live_in (blocks_added (batch_view batch)) left.now) }
+{
+    if left.count() == left.len() {
+        return Ok(batch);
+    }
+    let only = left_batch(alloc, batch, left)?;
+    Ok(only)
 }

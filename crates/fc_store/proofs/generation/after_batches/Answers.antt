@@ -17,8 +17,8 @@ use Rattle.fc_store.proofs.NextSegments.{IsAdded, after_within, left_alone, left
 use Rattle.fc_store.proofs.OwnIds.{own_ids_after}
 use Rattle.fc_store.proofs.generation.after_batches.Goals as goal
 
-pub left_batch-requires : goal.left_batch-requires
-left_batch-requires c =
+pub only_left-requires : goal.only_left-requires
+only_left-requires c =
     let ops = batch_view c.args.batch in
     let left : c.in_ok-kept.left ≡ left_set ops = c.in_ok-kept.ensures.left ∙ ap (λ l. left_set (map op_view l)) c.deref.ensures.value in
     ap length left ∙ length-live (blocks_added ops) (left_set ops) (left_has ops)
@@ -28,14 +28,14 @@ build-requires-clause-valid c =
     let s = c.args.earlier.now.schema in
     let ops = batch_view c.args.batch in
     let left : c.in_ok-kept.left ≡ left_set ops = c.in_ok-kept.ensures.left ∙ ap (λ l. left_set (map op_view l)) c.deref.ensures.value in
-    let alone : blocks_added (batch_view c.in_ok-only.only) ≡ left_of ops = ap blocks_added c.in_ok-only.ensures ∙ left_alone ops c.in_ok-kept.left left in
+    let alone : blocks_added (batch_view c.in_ok-only.only) ≡ left_of ops = c.in_ok-only.ensures ∙ left_alone ops c.in_ok-kept.left left in
     subst₂ (λ (z : Schema) bs. All (IsBlockOf z) bs) (sym (c.deref-2.ensures ∙ ap (λ (g : Generated). g.schema) c.earlier.view_is)) (sym alone) (left_valid s ops c.requires.batch.valid)
 
 pub build-requires-clause-few : goal.build-requires-clause-few
 build-requires-clause-few c =
     let ops = batch_view c.args.batch in
     let left : c.in_ok-kept.left ≡ left_set ops = c.in_ok-kept.ensures.left ∙ ap (λ l. left_set (map op_view l)) c.deref.ensures.value in
-    let alone : blocks_added (batch_view c.in_ok-only.only) ≡ left_of ops = ap blocks_added c.in_ok-only.ensures ∙ left_alone ops c.in_ok-kept.left left in
+    let alone : blocks_added (batch_view c.in_ok-only.only) ≡ left_of ops = c.in_ok-only.ensures ∙ left_alone ops c.in_ok-kept.left left in
     omega (arith, ap document_total alone, left_few ops, c.requires.batch.few)
 
 pub with_added-requires-clause-added : goal.with_added-requires-clause-added
@@ -45,7 +45,7 @@ with_added-requires-clause-added c =
     let ops = batch_view c.args.batch in
     let left : c.in_ok-kept.left ≡ left_set ops = c.in_ok-kept.ensures.left ∙ ap (λ l. left_set (map op_view l)) c.deref.ensures.value in
     let schema = c.deref-2.ensures ∙ ap (λ (g : Generated). g.schema) c.earlier.view_is in
-    let alone : blocks_added (batch_view c.in_ok-only.only) ≡ left_of ops = ap blocks_added c.in_ok-only.ensures ∙ left_alone ops c.in_ok-kept.left left in
+    let alone : blocks_added (batch_view c.in_ok-only.only) ≡ left_of ops = c.in_ok-only.ensures ∙ left_alone ops c.in_ok-kept.left left in
     let is : c.in_ok-added.added ≡ record { texts = texts_held s.fields; blocks = left_of ops; live = replicate (document_total (left_of ops)) true } =
     c.in_ok-added.ensures
     ∙ (λ i. record { texts = texts_held (schema i).fields; blocks = alone i; live = replicate (document_total (alone i)) true }) in
@@ -59,7 +59,7 @@ with_added-requires-clause-limits c =
     let ops = batch_view c.args.batch in
     let left : c.in_ok-kept.left ≡ left_set ops = c.in_ok-kept.ensures.left ∙ ap (λ l. left_set (map op_view l)) c.deref.ensures.value in
     let schema = c.deref-2.ensures ∙ ap (λ (g : Generated). g.schema) c.earlier.view_is in
-    let alone : blocks_added (batch_view c.in_ok-only.only) ≡ left_of ops = ap blocks_added c.in_ok-only.ensures ∙ left_alone ops c.in_ok-kept.left left in
+    let alone : blocks_added (batch_view c.in_ok-only.only) ≡ left_of ops = c.in_ok-only.ensures ∙ left_alone ops c.in_ok-kept.left left in
     let is : c.in_ok-added.added ≡ record { texts = texts_held s.fields; blocks = left_of ops; live = replicate (document_total (left_of ops)) true } =
     c.in_ok-added.ensures
     ∙ (λ i. record { texts = texts_held (schema i).fields; blocks = alone i; live = replicate (document_total (alone i)) true }) in
@@ -75,7 +75,7 @@ returns-clause-blocks c =
     let ops = batch_view c.args.batch in
     let left : c.in_ok-kept.left ≡ left_set ops = c.in_ok-kept.ensures.left ∙ ap (λ l. left_set (map op_view l)) c.deref.ensures.value in
     let schema = c.deref-2.ensures ∙ ap (λ (g : Generated). g.schema) c.earlier.view_is in
-    let alone : blocks_added (batch_view c.in_ok-only.only) ≡ left_of ops = ap blocks_added c.in_ok-only.ensures ∙ left_alone ops c.in_ok-kept.left left in
+    let alone : blocks_added (batch_view c.in_ok-only.only) ≡ left_of ops = c.in_ok-only.ensures ∙ left_alone ops c.in_ok-kept.left left in
     let is : c.in_ok-added.added ≡ record { texts = texts_held s.fields; blocks = left_of ops; live = replicate (document_total (left_of ops)) true } =
     c.in_ok-added.ensures
     ∙ (λ i. record { texts = texts_held (schema i).fields; blocks = alone i; live = replicate (document_total (alone i)) true }) in
@@ -91,7 +91,7 @@ returns-clause-ids c =
     let ops = batch_view c.args.batch in
     let left : c.in_ok-kept.left ≡ left_set ops = c.in_ok-kept.ensures.left ∙ ap (λ l. left_set (map op_view l)) c.deref.ensures.value in
     let schema = c.deref-2.ensures ∙ ap (λ (g : Generated). g.schema) c.earlier.view_is in
-    let alone : blocks_added (batch_view c.in_ok-only.only) ≡ left_of ops = ap blocks_added c.in_ok-only.ensures ∙ left_alone ops c.in_ok-kept.left left in
+    let alone : blocks_added (batch_view c.in_ok-only.only) ≡ left_of ops = c.in_ok-only.ensures ∙ left_alone ops c.in_ok-kept.left left in
     let is : c.in_ok-added.added ≡ record { texts = texts_held s.fields; blocks = left_of ops; live = replicate (document_total (left_of ops)) true } =
     c.in_ok-added.ensures
     ∙ (λ i. record { texts = texts_held (schema i).fields; blocks = alone i; live = replicate (document_total (alone i)) true }) in
