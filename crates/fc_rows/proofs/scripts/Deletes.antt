@@ -12,7 +12,7 @@ use Rattle.fc_rows.proofs.Words.{written, BothSay, said, labelled, terms_on, nam
 use Rattle.fc_rows.proofs.scripts.Sessions.{one_shard}
 use Rattle.fc_rows.proofs.replies.Families.{child, parent_of_brand, family, is_parent}
 
--- document 1 is added once more, and then 2 is deleted
+-- the document with the id 1 is added once more, and then the one with 2 is deleted
 abbrev pub counts : Result Request RequestFault
 counts = Ok (asking (facet (named "c" (terms (terms_on 1))) no_nodes no_nodes))
 
