@@ -1,5 +1,5 @@
 -- Shards, one after another: the world of their generations.
-use Rattle.std.proofs.Common.{◌≡◌, ◌+◌, List, [], ◌∷◌, ◌++◌, length, map, ◌∙◌, ap, append_assoc, length-append, subst, sym, arith}
+use Rattle.std.proofs.Common.{◌≡◌, ◌+◌, List, [], ◌∷◌, ◌++◌, length, ◌∙◌, ap, append_assoc, length-append, subst, sym, arith}
 use Rattle.std.specs.Prelude.{All}
 use Rattle.std.proofs.lemmas.List.{get_or-append-add, map-append}
 use Rattle.std.proofs.lemmas.List.Elements.{All-weaker}

@@ -90,7 +90,11 @@ impl Opened {
         self.commit(rt).ok_or("no commit")?;
         let generation = self.one.pin()?;
         let segments = generation.segments().iter();
-        Ok(segments.map(|one| (one.doc_count(), one.live().count())).collect(alloc)?)
+        Ok(
+            segments
+                .map(|one| (one.doc_count(), one.live().count()))
+                .collect(alloc)?,
+        )
     }
 
     // The same behind each of some commits, one after another.
@@ -193,8 +197,9 @@ fn segments_are_merged(rt: HostRuntime) -> Result<(), Fail> {
         one: _,
         other: _,
     } = store;
-    writer.finish(&rt)?;
+    let finished = writer.finish(&rt);
     let sizes = sizes?;
+    finished?;
     assert_eq!(rt; sizes.len(), SIZES.len());
     for (found, wanted) in sizes.iter().zip(SIZES) {
         assert_eq!(rt; found.as_slice(), wanted);
