@@ -306,7 +306,7 @@ def published_overwrites(size):
         yield from (add(7 * i % size, 0, **brand(i)), {"commit": {}}, search())
 
 
-@script(10_000, "one id deleted and added {:,} times, ten times a commit, beside 20,000 children with it; a search beside each commit")
+@script(20_000, "one id deleted and added {:,} times, ten times a commit, beside 20,000 children with it; a search beside each commit")
 def one_id_again(size):
     yield schema(1, **BRAND)
     yield {"add": {"doc": {"id": "p", "_childDocuments_": [{"id": "d0"}] * 20_000}}}
