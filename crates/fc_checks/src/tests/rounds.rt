@@ -83,14 +83,8 @@ fn three_rounds(rt: HostRuntime) -> Result<(), Fail> {
 }
 
 const SCRIPT: &str = r#"{"schema":{"shards":2,"fields":{"cat":"string","size":"string"}}}
-{"add":{"doc":{"id":"1","cat":"x","size":"s"},"shard":0}}
-{"add":{"doc":{"id":"2","cat":"x","size":"s"},"shard":0}}
-{"add":{"doc":{"id":"3","cat":"x","size":"l"},"shard":0}}
-{"add":{"doc":{"id":"4","cat":"x","size":"l"},"shard":1}}
-{"add":{"doc":{"id":"5","cat":"x","size":"l"},"shard":1}}
-{"add":{"doc":{"id":"6","cat":"y","size":"m"},"shard":1}}
-{"add":{"doc":{"id":"7","cat":"y","size":"m"},"shard":1}}
-{"add":{"doc":{"id":"8","cat":"y","size":"m"},"shard":1}}
+{"add":{"doc":{"id":"1","cat":"x","size":"s","_childDocuments_":[{"id":"2","cat":"x","size":"s"},{"id":"3","cat":"x","size":"l"}]}}}
+{"add":{"doc":{"id":"4","cat":"x","size":"l","_childDocuments_":[{"id":"5","cat":"x","size":"l"},{"id":"6","cat":"y","size":"m"},{"id":"7","cat":"y","size":"m"},{"id":"8","cat":"y","size":"m"}]},"shard":1}}
 {"commit":{}}
 {"sync":{}}
 {"search":{"session":"a","request":{"facet":{"cats":{"type":"terms","field":"cat","limit":1,"overrequest":0,"overrefine":0,"refine":true,"facet":{"sizes":{"type":"terms","field":"size","limit":1,"overrequest":0,"overrefine":0,"refine":true}}}}}}}

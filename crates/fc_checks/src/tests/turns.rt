@@ -17,15 +17,8 @@ const ROWS: &[Row] = &[
     (
         Asked {
             script: r##"{"schema":{"shards":2,"fields":{"cat":"string"}}}
-{"add":{"doc":{"id":"1","cat":"a"},"shard":0}}
-{"add":{"doc":{"id":"2","cat":"a"},"shard":0}}
-{"add":{"doc":{"id":"3","cat":"a"},"shard":0}}
-{"add":{"doc":{"id":"4","cat":"b"},"shard":0}}
-{"add":{"doc":{"id":"5","cat":"b"},"shard":0}}
-{"add":{"doc":{"id":"6","cat":"c"},"shard":1}}
-{"add":{"doc":{"id":"7","cat":"c"},"shard":1}}
-{"add":{"doc":{"id":"8","cat":"c"},"shard":1}}
-{"add":{"doc":{"id":"9","cat":"a"},"shard":1}}
+{"add":{"doc":{"id":"1","cat":"a","_childDocuments_":[{"id":"2","cat":"a"},{"id":"3","cat":"a"},{"id":"4","cat":"b"},{"id":"5","cat":"b"}]}}}
+{"add":{"doc":{"id":"6","cat":"c","_childDocuments_":[{"id":"7","cat":"c"},{"id":"8","cat":"c"},{"id":"9","cat":"a"}]},"shard":1}}
 {"commit":{}}
 "##,
             earlier: 1,
