@@ -9,7 +9,7 @@ use Rattle.std.specs.Int.{bit_at, bit_not}
 use Rattle.fc_spec.specs.documents.Bits.{has_bit, first_bits}
 use Rattle.fc_spec.proofs.documents.WordBits.{has_bit-set, or_joins, and_right_true, or_right_false}
 use Rattle.fc_docset.specs.Neighbours.{IsNextFrom, HasNoneFrom, IsLastUpTo, HasNoneUpTo, is_one}
-use Rattle.fc_docset.proofs.BitLists.{length_of, get_or-first_bits, first_bits_is}
+use Rattle.fc_lane.proofs.BitLists.{length_of, get_or-first_bits, first_bits_is}
 
 -- in the written word, and in the others
 written_here : (words : List ℕ) (i w k : ℕ) → i < length words → k / 64 ≡ i → has_bit (set words i w) k ≡ is_one w (k % 64)

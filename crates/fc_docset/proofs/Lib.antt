@@ -1,6 +1,4 @@
-pub mod BitLists
-pub mod LowBits
-pub mod WholeWords
+pub mod WordPositions
 pub mod WordNeighbours
 pub mod ChangedBits
 pub mod FrontWords

@@ -7,11 +7,9 @@ ghost use Rattle.fc_docset.specs.Neighbours.{HasNoneFrom, HasNoneUpTo, IsLastUpT
 
 use crate::Positions;
 use crate::neighbours::{last_bit, next_bit};
-use crate::words::{
-    and_not_words, and_words, clear_bit, clear_from, count_bits, has_bit, or_words, set_bit,
-    set_bits, word_count,
-};
+use crate::words::{clear_bit, clear_from, has_bit, set_bit, set_bits, word_count};
 use fc_base::WantMemory;
+use fc_lane::{and_not_words, and_words, count_bits, or_words};
 use std::alloc::Global;
 use std::marker::Model;
 

@@ -1,6 +1,6 @@
 // Words of 64 bits: bit j of word i stands for position 64 i + j.
-ghost use Rattle.std.specs.Prelude.{◌≡◌, ◌==◌, ◌<◌, ◌≤◌, ◌*◌, ◌/◌, ◌^◌, ◌&&◌, ◌||◌, ℕ, length, not, nat_le, nat_lt, count_by};
-ghost use Rattle.fc_spec.specs.documents.Bits.{has_bit, words_for, first_bits};
+ghost use Rattle.std.specs.Prelude.{◌≡◌, ◌==◌, ◌<◌, ◌≤◌, ◌*◌, ◌/◌, ◌&&◌, ◌||◌, ℕ, length, not, nat_le, nat_lt};
+ghost use Rattle.fc_spec.specs.documents.Bits.{has_bit, words_for};
 
 /// How many words hold a bit for each position below `len`.
 pub fn word_count(len: u32) -> usize
@@ -59,42 +59,4 @@ pub fn clear_from(words: &mut [u64], len: u32)
     if used != 0 {
         words[(len / 64) as usize] &= (1 << used) - 1;
     }
-}
-
-/// Keeps the bits that are 1 in both.
-pub fn and_words(words: &mut [u64], others: &[u64])
-    requires { length words.old ≡ length others.now }
-    ensures { (k : ℕ) → has_bit words.new k ≡ (has_bit words.old k && has_bit others.now k) }
-{
-    for (i, word) in words.iter_mut().enumerate() {
-        *word &= others[i];
-    }
-}
-
-/// Adds the bits that are 1 in the others.
-pub fn or_words(words: &mut [u64], others: &[u64])
-    requires { length words.old ≡ length others.now }
-    ensures { (k : ℕ) → has_bit words.new k ≡ (has_bit words.old k || has_bit others.now k) }
-{
-    for (i, word) in words.iter_mut().enumerate() {
-        *word |= others[i];
-    }
-}
-
-/// Clears the bits that are 1 in the others.
-pub fn and_not_words(words: &mut [u64], others: &[u64])
-    requires { length words.old ≡ length others.now }
-    ensures { (k : ℕ) → has_bit words.new k ≡ (has_bit words.old k && not (has_bit others.now k)) }
-{
-    for (i, word) in words.iter_mut().enumerate() {
-        *word &= !others[i];
-    }
-}
-
-/// How many bits are 1.
-pub fn count_bits(words: &[u64]) -> u64
-    requires { length words.now < 2 ^ 32 }
-    ensures { result ≡ count_by (λ here. here) (first_bits (64 * length words.now) words.now) }
-{
-    words.iter().map(|word| u64::from(word.count_ones())).sum()
 }

@@ -12,7 +12,7 @@ use Rattle.fc_spec.proofs.words.WhereTrue.{length-zip_with}
 use Rattle.fc_spec.proofs.requests.SetChanges.{moved_keeps}
 use Rattle.fc_docset.specs.Positions.{contains}
 use Rattle.fc_docset.specs.Neighbours.{IsNextFrom, HasNoneFrom}
-use Rattle.fc_docset.proofs.BitLists.{get_or-zip_with}
+use Rattle.fc_lane.proofs.BitLists.{get_or-zip_with}
 use Rattle.fc_segment.specs.Parents.{parents_in}
 use Rattle.fc_segment.specs.BlockPositions.{first_in_block, parent_in_block}
 use Rattle.fc_segment.proofs.BlockMarks.{IsInBlock, in_block, next_is_parent}

@@ -20,7 +20,7 @@ use Rattle.fc_spec.proofs.words.WhereTrue.{filter_where_true, zip_with-append, z
 use Rattle.fc_spec.proofs.documents.LiveBlocks.{live_documents}
 use Rattle.fc_spec.proofs.documents.PlacedDocuments.{documents_at-places}
 use Rattle.fc_spec.proofs.requests.SetChanges.{changes_are_blockwise}
-use Rattle.fc_docset.proofs.BitLists.{get_or-zip_with}
+use Rattle.fc_lane.proofs.BitLists.{get_or-zip_with}
 use Rattle.fc_segment.proofs.BlockMarks.{size_of, total_of}
 
 -- ---- filters, one after another

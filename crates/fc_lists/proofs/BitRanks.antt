@@ -9,8 +9,8 @@ use Rattle.std.proofs.lemmas.Nat.Bits.{bit_at_and, bit_at_ones, bit_at-lt, and_p
 use Rattle.std.proofs.lemmas.Nat.{and_le_r, pow_pos}
 use Rattle.fc_spec.specs.documents.Bits.{has_bit, first_bits}
 use Rattle.fc_spec.proofs.documents.WordBits.{one_shl}
-use Rattle.fc_docset.proofs.BitLists.{length-first_bits}
-use Rattle.fc_docset.proofs.LowBits.{low_bits, length-low_bits, get_or-low_bits, count_by-low_bits}
+use Rattle.fc_lane.proofs.BitLists.{length-first_bits}
+use Rattle.fc_lane.proofs.LowBits.{low_bits, length-low_bits, get_or-low_bits, count_by-low_bits}
 use Rattle.fc_lists.specs.Ranks.{bits_below}
 
 pub range_with_len-append : (a n m : ℕ) → range_with_len a (n + m) ≡ range_with_len a n ++ range_with_len (a + n) m

@@ -9,7 +9,7 @@ use Rattle.fc_column.specs.Longs.{has_between, is_between}
 use Rattle.fc_column.proofs.InOrder.{among_if_any}
 use Rattle.fc_lists.proofs.OfNumbers.{is_among-positions, positions_lie}
 use Rattle.fc_docset.specs.Positions.{contains, positions}
-use Rattle.fc_docset.proofs.BitLists.{get_or-zip_with}
+use Rattle.fc_lane.proofs.BitLists.{get_or-zip_with}
 use Rattle.fc_kind.proofs.BucketPlaces.{length-zip_with}
 
 -- the set has those of the positions that the other set has

@@ -2,7 +2,7 @@
 use Rattle.std.proofs.Common.{◌≡◌, ℕ, zero, suc, Bool, true, false, ◌&&◌, not, List, [], ◌∷◌, length, get_or, map, replicate, refl, sym, ap, ap₂, ◌∙◌, arith}
 use Rattle.std.proofs.lemmas.List.{get_or_default, length-map, same_lists}
 use Rattle.fc_lists.specs.Among.{is_among}
-use Rattle.fc_docset.proofs.BitLists.{get_or-zip_with}
+use Rattle.fc_lane.proofs.BitLists.{get_or-zip_with}
 use Rattle.fc_spec.specs.documents.Sets.{zip_with}
 use Rattle.fc_spec.specs.documents.Val.{Val}
 use Rattle.fc_spec.proofs.words.WhereTrue.{length-zip_with}

@@ -6,7 +6,7 @@ use Rattle.fc_spec.specs.queries.Matching.{matches}
 use Rattle.fc_spec.specs.requests.Request.{children}
 use Rattle.fc_spec.specs.requests.DomainSets.{moved_set}
 use Rattle.fc_spec.proofs.words.WhereTrue.{length-zip_with}
-use Rattle.fc_docset.proofs.BitLists.{first_bits_is, length-first_bits}
+use Rattle.fc_lane.proofs.BitLists.{first_bits_is, length-first_bits}
 use Rattle.fc_query.specs.QueryView.{query_view}
 use Rattle.fc_facet.specs.KindView.{step_view}
 use Rattle.fc_domain.proofs.GroupSets.{on_ok}

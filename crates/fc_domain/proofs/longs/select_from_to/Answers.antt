@@ -1,7 +1,7 @@
 use Rattle.std.proofs.Common.{◌≡◌, ℤ, length, map, w64, to_z, of_z, sym, ap₂, ◌∙◌, rules}
 use Rattle.std.proofs.lemmas.List.{length-map}
 use Rattle.fc_column.specs.Longs.{has_between}
-use Rattle.fc_docset.proofs.BitLists.{first_bits_is}
+use Rattle.fc_lane.proofs.BitLists.{first_bits_is}
 use Rattle.fc_domain.proofs.LongRows.{rows_from_to}
 use Rattle.fc_domain.proofs.longs.select_from_to.Goals as goal
 

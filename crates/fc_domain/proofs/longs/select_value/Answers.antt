@@ -1,7 +1,7 @@
 use Rattle.std.proofs.Common.{◌≡◌, ℤ, ◌&&◌, int_le, length, map, w64, to_z, of_z, sym, ap, ◌∙◌, rules}
 use Rattle.std.proofs.lemmas.List.{length-map}
 use Rattle.fc_column.specs.Longs.{has_between}
-use Rattle.fc_docset.proofs.BitLists.{first_bits_is}
+use Rattle.fc_lane.proofs.BitLists.{first_bits_is}
 use Rattle.fc_spec.specs.documents.Val.{long, has_val, same_val}
 use Rattle.fc_domain.proofs.LongRows.{longs_pass, at_long}
 use Rattle.fc_domain.proofs.longs.select_value.Goals as goal

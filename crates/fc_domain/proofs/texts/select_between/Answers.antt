@@ -1,7 +1,7 @@
 use Rattle.std.proofs.Common.{◌≡◌, ◌&&◌, length, map, sym, ap₂, ◌∙◌}
 use Rattle.std.proofs.lemmas.List.{length-map}
 use Rattle.fc_column.specs.Terms.{ordinals_in, has_from_to}
-use Rattle.fc_docset.proofs.BitLists.{first_bits_is}
+use Rattle.fc_lane.proofs.BitLists.{first_bits_is}
 use Rattle.fc_query.specs.QueryView.{bound_view}
 use Rattle.fc_domain.specs.Within.{meets}
 use Rattle.fc_domain.proofs.TextRows.{texts_pass}

@@ -2,7 +2,7 @@ use Rattle.std.proofs.Common.{◌≡◌, ◌&&◌, length, map, replicate, nat_l
 use Rattle.std.proofs.lemmas.List.{length-map}
 use Rattle.std.specs.Option.{is_some}
 use Rattle.fc_column.specs.Terms.{ordinals_in, has_from_to, terms_below}
-use Rattle.fc_docset.proofs.BitLists.{first_bits_is}
+use Rattle.fc_lane.proofs.BitLists.{first_bits_is}
 use Rattle.fc_spec.specs.documents.Val.{text, has_val, same_val}
 use Rattle.fc_domain.proofs.TextRows.{at_text, texts_pass, text_nowhere}
 use Rattle.fc_domain.proofs.texts.select_value.Goals as goal

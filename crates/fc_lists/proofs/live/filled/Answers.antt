@@ -3,7 +3,7 @@ use Rattle.std.proofs.lemmas.List.{length-map, take_at}
 use Rattle.fc_spec.specs.documents.Bits.{has_bit}
 use Rattle.fc_spec.specs.documents.Sets.{zip_with}
 use Rattle.fc_spec.specs.words.Lists.{is_empty}
-use Rattle.fc_docset.proofs.BitLists.{length-first_bits, first_bits_is}
+use Rattle.fc_lane.proofs.BitLists.{length-first_bits, first_bits_is}
 use Rattle.fc_lists.proofs.live.filled.Goals as goal
 
 pub and_with-requires : goal.and_with-requires

@@ -1,6 +1,6 @@
 use Rattle.std.proofs.Common.{◌≡◌, ◌∙◌, List, ◌&&◌, map, not, length, sym, ap, ap₂, arith}
 use Rattle.std.proofs.lemmas.List.{length-map, with_items_is}
-use Rattle.fc_docset.proofs.BitLists.{first_bits_is, length-first_bits}
+use Rattle.fc_lane.proofs.BitLists.{first_bits_is, length-first_bits}
 use Rattle.fc_segment.specs.Columns.{column_values}
 use Rattle.fc_spec.specs.documents.Bits.{has_bit}
 use Rattle.fc_spec.specs.documents.Sets.{zip_with}

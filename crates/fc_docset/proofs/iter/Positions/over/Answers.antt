@@ -1,7 +1,8 @@
 use Rattle.std.proofs.Common.{◌≡◌, ◌∷◌, [], sym, ap, ◌∙◌}
 use Rattle.std.proofs.lemmas.List.{nil_from_length}
 use Rattle.fc_docset.specs.Positions.{positions_from}
-use Rattle.fc_docset.proofs.WholeWords.{all_bits, positions_skip}
+use Rattle.fc_lane.proofs.WholeWords.{all_bits}
+use Rattle.fc_docset.proofs.WordPositions.{positions_skip}
 use Rattle.fc_docset.proofs.iter.Positions.over.Goals as goal
 
 pub returns-in-None : goal.returns-in-None

@@ -1,7 +1,8 @@
 use Rattle.std.proofs.Common.{◌≡◌, ◌+◌, ◌∷◌, [], List, ℕ, length, sym, ap, ap₂, ◌∙◌, arith}
 use Rattle.std.proofs.lemmas.List.{nil_from_length}
 use Rattle.fc_docset.specs.Positions.{positions_from}
-use Rattle.fc_docset.proofs.WholeWords.{all_bits, positions_skip, next_position}
+use Rattle.fc_lane.proofs.WholeWords.{all_bits}
+use Rattle.fc_docset.proofs.WordPositions.{positions_skip, next_position}
 use Rattle.fc_docset.proofs.iter.PositionsIterator.next.Goals as goal
 
 -- a word of 0s and no other leave nothing

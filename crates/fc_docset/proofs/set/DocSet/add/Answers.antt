@@ -1,7 +1,7 @@
 use Rattle.std.proofs.Common.{◌||◌, ◌==◌, ap, ◌∙◌, arith}
 use Rattle.std.proofs.lemmas.List.{with_items_is}
 use Rattle.fc_spec.specs.documents.Bits.{has_bit, first_bits}
-use Rattle.fc_docset.proofs.BitLists.{length_of, first_bits-add, none_added}
+use Rattle.fc_lane.proofs.BitLists.{length_of, first_bits-add, none_added}
 use Rattle.fc_docset.proofs.set.DocSet.add.Goals as goal
 
 pub set_bit-requires : goal.set_bit-requires

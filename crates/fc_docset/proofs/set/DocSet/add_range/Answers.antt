@@ -2,7 +2,7 @@ use Rattle.std.proofs.Common.{◌≡◌, ℕ, ◌&&◌, ◌||◌, nat_le, nat_lt
 use Rattle.std.proofs.lemmas.List.{with_items_is}
 use Rattle.fc_spec.specs.documents.Bits.{has_bit, first_bits}
 use Rattle.fc_docset.specs.Positions.{contains}
-use Rattle.fc_docset.proofs.BitLists.{length_of}
+use Rattle.fc_lane.proofs.BitLists.{length_of}
 use Rattle.fc_docset.proofs.ChangedBits.{member-first_bits, none_in_run}
 use Rattle.fc_docset.proofs.set.DocSet.add_range.Goals as goal
 

@@ -1,7 +1,7 @@
 use Rattle.std.proofs.Common.{◌≡◌, false, replicate, vec_len, sym, ap, ◌∙◌, arith, rules}
 use Rattle.fc_spec.specs.documents.Bits.{has_bit}
 use Rattle.fc_spec.proofs.documents.WordBits.{has_bit_of_zeros}
-use Rattle.fc_docset.proofs.BitLists.{length_of, first_bits_all}
+use Rattle.fc_lane.proofs.BitLists.{length_of, first_bits_all}
 use Rattle.fc_docset.proofs.set.DocSet.clear.Goals as goal
 
 pub invariant_of-self : goal.invariant_of-self

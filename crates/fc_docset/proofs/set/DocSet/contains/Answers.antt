@@ -1,6 +1,6 @@
 use Rattle.std.proofs.Common.{ap, sym, ◌∙◌, arith, get_or, false}
 use Rattle.fc_spec.specs.documents.Bits.{has_bit}
-use Rattle.fc_docset.proofs.BitLists.{length_of, get_or-first_bits}
+use Rattle.fc_lane.proofs.BitLists.{length_of, get_or-first_bits}
 use Rattle.fc_docset.proofs.set.DocSet.contains.Goals as goal
 
 pub has_bit-requires : goal.has_bit-requires

@@ -1,7 +1,7 @@
 use Rattle.std.proofs.Common.{count_by, ap, ◌∙◌, arith}
 use Rattle.std.proofs.lemmas.List.Sums.{count_by-le-length}
-use Rattle.fc_docset.proofs.BitLists.{length_of}
-use Rattle.fc_docset.proofs.WholeWords.{all_bits, count_of_all}
+use Rattle.fc_lane.proofs.BitLists.{length_of}
+use Rattle.fc_lane.proofs.WholeWords.{all_bits, count_of_all}
 use Rattle.fc_docset.proofs.set.DocSet.count.Goals as goal
 
 pub count_bits-requires : goal.count_bits-requires

@@ -1,7 +1,7 @@
 use Rattle.std.proofs.Common.{◌≡◌, false, replicate, ap, ◌∙◌, rules}
 use Rattle.fc_spec.specs.documents.Bits.{has_bit}
 use Rattle.fc_spec.proofs.documents.WordBits.{has_bit_of_zeros}
-use Rattle.fc_docset.proofs.BitLists.{first_bits_all}
+use Rattle.fc_lane.proofs.BitLists.{first_bits_all}
 use Rattle.fc_docset.proofs.set.DocSet.empty.Goals as goal
 
 pub invariant_of-result : goal.invariant_of-result

@@ -2,7 +2,7 @@ use Rattle.std.proofs.Common.{◌≡◌, ◌-◌, ◌^◌, true, nat_lt, replica
 use Rattle.std.proofs.lemmas.List.{with_items_is}
 use Rattle.fc_spec.specs.documents.Bits.{has_bit, first_bits}
 use Rattle.fc_spec.proofs.documents.WordBits.{and_right_true, has_bit_of_ones}
-use Rattle.fc_docset.proofs.BitLists.{length_of, first_bits_all}
+use Rattle.fc_lane.proofs.BitLists.{length_of, first_bits_all}
 use Rattle.fc_docset.proofs.set.DocSet.fill.Goals as goal
 
 pub returns : goal.returns

@@ -1,6 +1,6 @@
 use Rattle.std.proofs.Common.{◌≡◌, ◌+◌, ◌/◌, take, ap, ◌∙◌, rules}
 use Rattle.fc_spec.specs.documents.Bits.{first_bits}
-use Rattle.fc_docset.proofs.BitLists.{first_bits_of_front}
+use Rattle.fc_lane.proofs.BitLists.{first_bits_of_front}
 use Rattle.fc_docset.proofs.set.DocSet.from_mask.Goals as goal
 
 pub returns : goal.returns

@@ -1,7 +1,7 @@
 use Rattle.std.proofs.Common.{◌≡◌, ◌-◌, ◌^◌, true, replicate, ap, ◌∙◌, arith, rules}
 use Rattle.fc_spec.specs.documents.Bits.{has_bit}
 use Rattle.fc_spec.proofs.documents.WordBits.{has_bit_of_ones}
-use Rattle.fc_docset.proofs.BitLists.{first_bits_all}
+use Rattle.fc_lane.proofs.BitLists.{first_bits_all}
 use Rattle.fc_docset.proofs.set.DocSet.full.Goals as goal
 
 pub returns : goal.returns

@@ -1,6 +1,7 @@
 use Rattle.std.proofs.Common.{ap, ◌∙◌, arith}
 use Rattle.fc_docset.specs.Positions.{positions}
-use Rattle.fc_docset.proofs.WholeWords.{all_bits, positions_of_all}
+use Rattle.fc_lane.proofs.WholeWords.{all_bits}
+use Rattle.fc_docset.proofs.WordPositions.{positions_of_all}
 use Rattle.fc_docset.proofs.set.DocSet.iter.Goals as goal
 
 pub over-requires : goal.over-requires

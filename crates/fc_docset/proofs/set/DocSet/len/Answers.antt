@@ -1,5 +1,5 @@
 use Rattle.std.proofs.Common.{sym, ap, ◌∙◌, length}
-use Rattle.fc_docset.proofs.BitLists.{length-first_bits}
+use Rattle.fc_lane.proofs.BitLists.{length-first_bits}
 use Rattle.fc_docset.proofs.set.DocSet.len.Goals as goal
 
 pub returns : goal.returns

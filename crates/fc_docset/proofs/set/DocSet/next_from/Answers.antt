@@ -1,7 +1,7 @@
 use Rattle.std.proofs.Common.{sym, ap, ◌∙◌, arith}
 use Rattle.fc_spec.specs.documents.Bits.{has_bit}
 use Rattle.fc_docset.specs.Positions.{contains}
-use Rattle.fc_docset.proofs.BitLists.{length_of}
+use Rattle.fc_lane.proofs.BitLists.{length_of}
 use Rattle.fc_docset.proofs.ChangedBits.{member-first_bits, next_of_same}
 use Rattle.fc_docset.proofs.set.DocSet.next_from.Goals as goal
 

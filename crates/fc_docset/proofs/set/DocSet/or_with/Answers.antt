@@ -1,7 +1,7 @@
 use Rattle.std.proofs.Common.{◌||◌, refl, ap, ap₂, ◌∙◌, arith}
 use Rattle.std.proofs.lemmas.List.{with_items_is}
 use Rattle.fc_spec.specs.documents.Bits.{has_bit, first_bits}
-use Rattle.fc_docset.proofs.BitLists.{length_of, first_bits-zip_with, none_joined}
+use Rattle.fc_lane.proofs.BitLists.{length_of, first_bits-zip_with, none_joined}
 use Rattle.fc_docset.proofs.set.DocSet.or_with.Goals as goal
 
 pub or_words-requires : goal.or_words-requires

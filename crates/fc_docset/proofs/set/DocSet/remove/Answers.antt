@@ -1,7 +1,7 @@
 use Rattle.std.proofs.Common.{◌&&◌, ◌==◌, not, ap, ◌∙◌, arith}
 use Rattle.std.proofs.lemmas.List.{with_items_is}
 use Rattle.fc_spec.specs.documents.Bits.{has_bit, first_bits}
-use Rattle.fc_docset.proofs.BitLists.{length_of}
+use Rattle.fc_lane.proofs.BitLists.{length_of}
 use Rattle.fc_docset.proofs.ChangedBits.{first_bits-remove, none_removed}
 use Rattle.fc_docset.proofs.set.DocSet.remove.Goals as goal
 

@@ -2,7 +2,7 @@ use Rattle.std.proofs.Common.{◌≤◌, length, nat_lt, take, sym, ap, ◌∙�
 use Rattle.std.proofs.lemmas.List.{with_items_is, length-take}
 use Rattle.fc_spec.specs.documents.Bits.{has_bit, first_bits, words_for}
 use Rattle.fc_spec.proofs.documents.WordBits.{and_right_true}
-use Rattle.fc_docset.proofs.BitLists.{length_of, first_bits_same, first_bits_of_front}
+use Rattle.fc_lane.proofs.BitLists.{length_of, first_bits_same, first_bits_of_front}
 use Rattle.fc_docset.proofs.set.DocSet.set_mask.Goals as goal
 
 pub slice_bounds-copy_from_slice-end : goal.slice_bounds-copy_from_slice-end

@@ -2,7 +2,7 @@ use Rattle.std.proofs.Common.{nat_lt, ap, ◌∙◌, arith, lt-ltb}
 use Rattle.std.proofs.lemmas.List.{with_items_is}
 use Rattle.fc_spec.specs.documents.Bits.{has_bit, first_bits}
 use Rattle.fc_spec.proofs.documents.WordBits.{and_right_true}
-use Rattle.fc_docset.proofs.BitLists.{first_bits_same}
+use Rattle.fc_lane.proofs.BitLists.{first_bits_same}
 use Rattle.fc_docset.proofs.set.DocSet.within.Goals as goal
 
 pub returns : goal.returns

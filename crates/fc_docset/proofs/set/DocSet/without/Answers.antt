@@ -1,7 +1,7 @@
 use Rattle.std.proofs.Common.{◌&&◌, not, ap, ap₂, ◌∙◌, arith}
 use Rattle.std.proofs.lemmas.List.{with_items_is}
 use Rattle.fc_spec.specs.documents.Bits.{has_bit, first_bits}
-use Rattle.fc_docset.proofs.BitLists.{length_of, first_bits-zip_with}
+use Rattle.fc_lane.proofs.BitLists.{length_of, first_bits-zip_with}
 use Rattle.fc_docset.proofs.set.DocSet.without.Goals as goal
 
 pub and_not_words-requires : goal.and_not_words-requires

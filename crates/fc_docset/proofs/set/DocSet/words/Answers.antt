@@ -1,6 +1,6 @@
 use Rattle.std.proofs.Common.{false, get_or, ap, ◌∙◌, arith}
 use Rattle.fc_spec.specs.documents.Bits.{has_bit}
-use Rattle.fc_docset.proofs.BitLists.{length_of, HasBits-first_bits}
+use Rattle.fc_lane.proofs.BitLists.{length_of, HasBits-first_bits}
 use Rattle.fc_docset.proofs.set.DocSet.words.Goals as goal
 
 pub returns-clause-count : goal.returns-clause-count

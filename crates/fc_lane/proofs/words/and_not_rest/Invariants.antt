@@ -1,0 +1,10 @@
+use Rattle.std.proofs.Common.{◌≡◌, ℕ, ◌<◌, ◌≤◌, get_or}
+use Rattle.fc_lane.specs.Joined.{and_not}
+use Rattle.fc_lane.proofs.words.and_not_rest.Given as goal
+
+abbrev pub invariant-loop-i : goal.invariant-loop-i
+invariant-loop-i l = record {
+  joined : (k : ℕ) → l.from ≤ k → k < l.i → get_or l.words k 0 ≡ and_not (get_or l.initial.words k 0) (get_or l.others k 0);
+  below : (k : ℕ) → k < l.from → get_or l.words k 0 ≡ get_or l.initial.words k 0;
+  past : (k : ℕ) → l.i ≤ k → get_or l.words k 0 ≡ get_or l.initial.words k 0;
+}

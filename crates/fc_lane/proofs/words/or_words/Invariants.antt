@@ -1,0 +1,9 @@
+use Rattle.std.proofs.Common.{◌-◌, length, bit_or}
+use Rattle.fc_lane.proofs.JoinedWords.{AreJoinedBefore}
+use Rattle.fc_lane.proofs.words.or_words.Given as goal
+
+abbrev pub invariant-loop-words : goal.invariant-loop-words
+invariant-loop-words l = AreJoinedBefore bit_or l.at l.initial.words l.others l.words
+
+abbrev pub decreases-loop-words : goal.decreases-loop-words
+decreases-loop-words l = length l.words - l.at
