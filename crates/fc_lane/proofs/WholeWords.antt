@@ -9,7 +9,7 @@ use Rattle.fc_lane.proofs.BitLists.{length-first_bits, get_or-first_bits, first_
 use Rattle.fc_lane.proofs.LowBits.{low_bits, length-low_bits, get_or-low_bits, count_by-low_bits}
 
 -- ---- the first word and the rest
-has_bit_first : (w : ℕ) (words : List ℕ) (k : ℕ) → k < 64 → has_bit (w ∷ words) k ≡ (bit_at w k == 1)
+pub has_bit_first : (w : ℕ) (words : List ℕ) (k : ℕ) → k < 64 → has_bit (w ∷ words) k ≡ (bit_at w k == 1)
 unfolding has_bit
 has_bit_first w words k low =
     let word : k / 64 ≡ 0 = omega arith in
@@ -23,7 +23,7 @@ has_bit_rest w words k high =
     let bit : k % 64 ≡ (k - 64) % 64 = omega arith in
     ap₂ (λ i j. bit_at (get_or (w ∷ words) i 0) j == 1) word bit
 
-first_bits-cons : (n w : ℕ) (words : List ℕ) → first_bits (64 + n) (w ∷ words) ≡ low_bits 64 w ++ first_bits n words
+pub first_bits-cons : (n w : ℕ) (words : List ℕ) → first_bits (64 + n) (w ∷ words) ≡ low_bits 64 w ++ first_bits n words
 first_bits-cons n w words =
     first_bits_is (64 + n) (w ∷ words) (low_bits 64 w ++ first_bits n words)
     (length-append (low_bits 64 w) (first_bits n words) ∙ ap₂ (λ a b. a + b) (length-low_bits 64 w) (length-first_bits n words))

@@ -7,5 +7,5 @@ mod masked;
 mod words;
 
 pub use between::mask_between;
-pub use masked::{masked_max, masked_min, masked_sum};
+pub use masked::{masked_count, masked_max, masked_min, masked_sum};
 pub use words::{and_not_words, and_words, count_bits, or_words};

@@ -1,0 +1,13 @@
+use Rattle.std.proofs.Common.{◌≡◌, ◌<◌, ◌^◌, Some, [], ◌∷◌, length}
+use Rattle.fc_spec.specs.requests.Statistics.{greatest_of, greater}
+use Rattle.fc_lane.specs.Masked.{masked}
+use Rattle.fc_lane.proofs.masked.greatest.greatest_with_bits.Given as goal
+
+abbrev pub invariant-loop-left : goal.invariant-loop-left
+invariant-loop-left l = record {
+  greatest : greater (Some l.greatest) (greatest_of (masked (l.left ∷ []) l.part)) ≡ greater (Some l.start) (greatest_of (masked (l.word ∷ []) l.part));
+  within : l.left < 2 ^ length l.part;
+}
+
+abbrev pub decreases-loop-left : goal.decreases-loop-left
+decreases-loop-left l = l.left
