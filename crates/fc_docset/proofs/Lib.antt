@@ -1,4 +1,5 @@
 pub mod WordPositions
 pub mod WordNeighbours
+pub mod BitsInBoth
 pub mod ChangedBits
 pub mod FrontWords

@@ -8,4 +8,6 @@ mod set;
 mod words;
 
 pub use iter::Positions;
+pub use neighbours::next_in_both;
 pub use set::DocSet;
+pub use words::{set_bits, word_count};

@@ -1,5 +1,5 @@
 // The bits that are next to a position, in words of 64 bits: bit j of word i stands for position 64 i + j.
-ghost use Rattle.std.specs.Prelude.{◌≡◌, ◌<◌, ◌≤◌, ◌*◌, ◌^◌, length, MatchOption};
+ghost use Rattle.std.specs.Prelude.{◌≡◌, ◌<◌, ◌≤◌, ◌*◌, ◌^◌, ◌&&◌, length, MatchOption};
 ghost use Rattle.fc_spec.specs.documents.Bits.{has_bit};
 ghost use Rattle.fc_docset.specs.Neighbours.{
   HasNoneFrom,
@@ -45,6 +45,23 @@ pub fn next_bit(words: &[u64], from: u32) -> Option<u32>
     let mut low = from % 64;
     for at in (from / 64) as usize..words.len() {
         if let Some(bit) = lowest_from(words[at], low) {
+            return Some(64 * at as u32 + bit);
+        }
+        low = 0;
+    }
+    None
+}
+
+/// The first position from one on whose bit is 1 in these words and in the others.
+pub fn next_in_both(words: &[u64], others: &[u64], from: u32) -> Option<u32>
+    requires { 64 * length words.now ≤ 2 ^ 32 }
+    ensures { MatchOption result
+        (HasNoneFrom (λ at. has_bit words.now at && has_bit others.now at) from)
+        (IsNextFrom (λ at. has_bit words.now at && has_bit others.now at) from) }
+{
+    let mut low = from % 64;
+    for at in (from / 64) as usize..words.len().min(others.len()) {
+        if let Some(bit) = lowest_from(words[at] & others[at], low) {
             return Some(64 * at as u32 + bit);
         }
         low = 0;

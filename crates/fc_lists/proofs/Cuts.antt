@@ -1,11 +1,12 @@
 -- Lists in one list, by the places where they start.
-use Rattle.std.proofs.Common.{◌≡◌, ℕ, zero, suc, ◌+◌, ◌-◌, ◌<◌, ◌≤◌, List, [], ◌∷◌, ◌++◌, length, get_or, take, drop, map, slice_range, refl, sym, ap, ap₂, ◌∙◌, arith, add-zero}
+use Rattle.std.proofs.Common.{◌≡◌, ℕ, zero, suc, ◌+◌, ◌-◌, ◌<◌, ◌≤◌, List, [], ◌∷◌, ◌++◌, length, get_or, take, drop, map, slice_range, refl, sym, ap, ap₂, ◌∙◌, arith, add-zero, zero-add}
 use Rattle.std.specs.List.{flat_map, range_with_len}
 use Rattle.std.specs.List.Sorted.{IsNonDecreasing}
-use Rattle.std.proofs.lemmas.List.{append-nil, take-append-drop, take-take, drop-take, drop-drop, ext_get_or}
+use Rattle.std.proofs.lemmas.List.{append-nil, length-map, take_all, take-append-drop, take-take, drop-take, drop-drop, ext_get_or}
 use Rattle.std.proofs.lemmas.List.Edits.{between_none, length-between, get_or-between}
 use Rattle.std.proofs.lemmas.List.Concat.{flat_map-append}
-use Rattle.std.proofs.lemmas.List.FromFn.{length-range_with_len, get_or-range_with_len, length-map-range_with_len, get_or-map-range_with_len, map-range_with_len_more}
+use Rattle.std.proofs.lemmas.List.FromFn.{length-range_with_len, get_or-range_with_len, length-map-range_with_len, get_or-map-range_with_len, map-range_with_len_more, take-map-range_with_len}
+use Rattle.fc_lists.specs.Flat.{flat}
 use Rattle.fc_lists.specs.Starts.{AreStarts, cut, part_at}
 
 pub length-cut : {T : Type 0} (starts : List ℕ) (items : List T) → length (cut starts items) ≡ length starts - 1
@@ -64,7 +65,41 @@ cut_span {T} starts items from to rising some order within =
     ∙ joined_parts starts items from (to - from) rising (omega arith)
     ∙ ap (λ n. slice_range items (get_or starts from 0) (get_or starts n 0)) there
 
+-- the items of the lists before one are those from the first start up to its own
+pub cut_front : {T : Type 0} (starts : List ℕ) (items : List T) (at : ℕ) → IsNonDecreasing starts → 0 < length starts → at ≤ length starts - 1
+    → flat (take at (cut starts items)) ≡ slice_range items (get_or starts 0 0) (get_or starts at 0)
+cut_front starts items at rising some within =
+    ap flat (take-map-range_with_len (part_at starts items) 0 (length starts - 1) at within)
+    ∙ joined_parts starts items 0 at rising (omega arith)
+    ∙ ap (λ n. slice_range items (get_or starts 0 0) (get_or starts n 0)) (zero-add at)
+
+pub cut_all : {T : Type 0} (starts : List ℕ) (items : List T) (size : ℕ) → AreStarts starts size
+    → flat (cut starts items) ≡ slice_range items (get_or starts 0 0) size
+cut_all starts items size are =
+    let long = length-cut starts items in
+    ap flat (sym (take_all (length starts - 1) (cut starts items) (omega arith)))
+    ∙ cut_front starts items (length starts - 1) are.rising are.some (omega arith)
+    ∙ ap (slice_range items (get_or starts 0 0)) are.last
+
 -- ---- where each list has one item
+single_part : {T : Type 0} (items : List T) (at : ℕ) → at < length items → slice_range items at (at + 1) ≡ get_or (map (λ item. item ∷ []) items) at []
+single_part [] at within = absurd (omega arith)
+single_part (x ∷ items) zero within = refl
+single_part (x ∷ items) (suc at) within =
+    let size : suc at + 1 - suc at ≡ at + 1 - at = omega arith in
+    ap (λ n. take n (drop at items)) size ∙ single_part items at (omega arith)
+
+pub cut_singles : {T : Type 0} (items : List T) → cut (range_with_len 0 (length items + 1)) items ≡ map (λ item. item ∷ []) items
+cut_singles items =
+    let starts = range_with_len 0 (length items + 1) in
+    let count = length-range_with_len 0 (length items + 1) in
+    let size = length-cut starts items in
+    ext_get_or [] (cut starts items) (map (λ item. item ∷ []) items) (omega (arith, size, count, length-map items (λ item. item ∷ [])))
+    (λ at within.
+    let first = get_or-range_with_len 0 (length items + 1) at 0 (omega arith) ∙ zero-add at in
+    let second = get_or-range_with_len 0 (length items + 1) (at + 1) 0 (omega arith) ∙ zero-add (at + 1) in
+    get_or-cut starts items at (omega arith) ∙ ap₂ (slice_range items) first second ∙ single_part items at (omega arith))
+
 pub counts_up_is : (xs : List ℕ) → ((k : ℕ) → k < length xs → get_or xs k 0 ≡ k) → xs ≡ range_with_len 0 (length xs)
 counts_up_is xs same =
     ext_get_or 0 xs (range_with_len 0 (length xs)) (sym (length-range_with_len 0 (length xs)))

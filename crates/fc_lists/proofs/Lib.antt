@@ -2,8 +2,12 @@ pub mod ItemsAt
 pub mod Cuts
 pub mod BitRanks
 pub mod Counts
+pub mod Flat
+pub mod FlatRows
+pub mod SpreadBits
+pub mod FrontBits
 pub mod FirstEntries
-pub mod Spread
+pub mod BitRows
 pub mod ByNumber
 pub mod OfNumbers
 pub mod SortedEntries

@@ -1,6 +1,7 @@
 pub mod Laid
 pub mod Among
 pub mod Items
+pub mod Flat
 pub mod Entries
 pub mod Starts
 pub mod Lists

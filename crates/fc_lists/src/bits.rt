@@ -1,12 +1,14 @@
 // Words of 64 bits as sets of positions, and how many positions stand below one.
-ghost use Rattle.std.specs.Prelude.{◌≡◌, ◌==◌, ◌+◌, ◌*◌, ◌/◌, ◌<◌, ◌≤◌, ◌^◌, ℕ, length, slice_index, sum, take, vec_len, All, IfOk, Option, Some, None, if◌then◌else◌};
-ghost use Rattle.fc_spec.specs.documents.Bits.{has_bit, words_for};
+ghost use Rattle.std.specs.Prelude.{◌≡◌, ◌==◌, ◌+◌, ◌*◌, ◌/◌, ◌<◌, ◌≤◌, ◌^◌, ℕ, length, slice_index, sum, take, vec_len, true, All, IfOk, Option, Some, None, if◌then◌else◌};
+ghost use Rattle.fc_spec.specs.documents.Bits.{has_bit, words_for, first_bits, HasBits};
+ghost use Rattle.std.specs.Bool.{OnTrue};
 ghost use Rattle.std.specs.List.Sorted.{IsStrictlyIncreasing};
 ghost use Rattle.fc_lists.specs.Among.{is_among};
 ghost use Rattle.fc_lists.specs.Ranks.{bits_below};
 
 use crate::sums::running_sums;
 use fc_base::WantMemory;
+use fc_docset::word_count;
 use std::alloc::Global;
 
 /// Makes the bits exactly those of the positions. Bit j of word i stands for position 64 i + j.
@@ -27,6 +29,19 @@ pub fn copy_bits(words: &[u64], into: &mut [u64])
 {
     for (i, word) in into.iter_mut().enumerate() {
         *word = if i < words.len() { words[i] } else { 0 };
+    }
+}
+
+/// Makes the bits those of other words, for the positions below `len` alone: all others are 0s.
+pub fn copy_front(words: &[u64], len: u32, into: &mut [u64])
+    requires enough { words_for len ≤ length words.now }
+    requires room { words_for len ≤ length into.old }
+    ensures { HasBits into.new (first_bits len words.now) }
+{
+    copy_bits(&words[..word_count(len)], into);
+    let used = len % 64;
+    if used != 0 {
+        into[(len / 64) as usize] &= (1 << used) - 1;
     }
 }
 
@@ -74,6 +89,22 @@ pub fn rank(words: &[u64], before: &[u32], at: u32) -> Option<u32>
         return None;
     }
     Some(before[index] + (word & (bit - 1)).count_ones())
+}
+
+/// How many bits below a position are 1, where its own is. Where it is known that all up to it are, none is counted.
+pub fn rank_among(all: bool, words: &[u64], before: &[u32], at: u32) -> Option<u32>
+    requires all { OnTrue all ((has_bit words.now at ≡ true) × (bits_below at words.now ≡ at)) }
+    requires len { length words.now ≤ length before.now }
+    requires before { (i : ℕ) → i < length words.now →
+        slice_index before.now i ≡ bits_below (64 * i) words.now }
+    ensures { result
+        ≡ (if has_bit words.now at then Some (bits_below at words.now) else None) }
+{
+    if all {
+        Some(at)
+    } else {
+        rank(words, before, at)
+    }
 }
 
 /// How many bits are 1 from one position up to but not including another.

@@ -1,17 +1,19 @@
 // The items of each position, where most positions may have none.
-ghost use Rattle.std.specs.Prelude.{◌≡◌, ◌<◌, ◌≤◌, ◌^◌, [], length, map, not, slice_index, slice_index_or, take, true, vec_len, All, IfOk, MatchBool};
+ghost use Rattle.std.specs.Prelude.{◌≡◌, ◌+◌, ◌<◌, ◌≤◌, ◌^◌, [], ◌∷◌, length, map, not, slice_index, slice_index_or, take, true, vec_len, All, IfOk, IfSome, MatchBool};
 ghost use Rattle.std.specs.Bool.{OnTrue};
 ghost use Rattle.std.specs.List.Sorted.{IsNonDecreasingBy};
-ghost use Rattle.fc_spec.specs.documents.Bits.{words_for, HasBits};
+ghost use Rattle.fc_spec.specs.documents.Bits.{words_for, first_bits, HasBits};
 ghost use Rattle.fc_spec.specs.words.Lists.{is_empty};
 ghost use Rattle.fc_lists.specs.Among.{is_among};
 ghost use Rattle.fc_lists.specs.Items.{rows_below};
+ghost use Rattle.fc_lists.specs.Flat.{flat, spread_over};
 ghost use Rattle.fc_lists.specs.Heads.{AreHeads};
 
-use crate::bits::{bits_before, copy_bits, rank, words_of};
+use crate::bits::{bits_before, copy_bits, copy_front, rank_among, words_of};
 use crate::entries::{Entry, items_of};
 use crate::lists::Lists;
 use fc_base::WantMemory;
+use fc_docset::{next_in_both, set_bits};
 use std::alloc::Global;
 use std::marker::Model;
 
@@ -19,6 +21,8 @@ use std::marker::Model;
 #[derive(Debug, Drop)]
 pub struct Rows<T> {
     len: u32,
+    // Each position has items. Where this is not said, some may have none.
+    filled: bool,
     // Bit j of word i is 1 where position 64 i + j has items. There are no words past the last one.
     words: Vec<u64>,
     // How many positions before each word have items.
@@ -32,11 +36,11 @@ impl<T> Model for Rows<T> {
 
     ghost Value = { List (List T) };
 
-    ghost use Rattle.fc_lists.specs.Rows.{spread, AreSpread};
+    ghost use Rattle.fc_lists.specs.Rows.{rows_in, AreRows};
 
-    ghost view = { spread };
+    ghost view = { rows_in };
 
-    ghost invariant = { AreSpread };
+    ghost invariant = { AreRows };
 }
 
 impl<T: Copy> Rows<T> {
@@ -51,11 +55,13 @@ impl<T: Copy> Rows<T> {
         let items = items_of(alloc, entries)?;
         let words = words_of(alloc, &positions)?;
         let before = bits_before(alloc, &words)?;
+        let lists = Lists::new(items, starts);
         Ok(Rows {
             len,
+            filled: lists.len() == len as usize,
             words,
             before,
-            lists: Lists::new(items, starts),
+            lists,
         })
     }
 }
@@ -73,9 +79,68 @@ impl<T: Drop> Rows<T> {
         requires { at < length self.now }
         ensures { result.now ≡ slice_index_or self.now at [] }
     {
-        match rank(&self.words, &self.before, at) {
+        match rank_among(self.filled, &self.words, &self.before, at) {
             Some(rank) => self.lists.list(rank),
             None => &[],
+        }
+    }
+
+    /// The items of all positions, one position behind the other.
+    pub fn flat(&self) -> &[T]
+        ensures { result.now ≡ flat self.now }
+    {
+        self.lists.flat()
+    }
+
+    /// The item of each position, where it is known that each position has exactly one.
+    pub fn singles(&self) -> Option<&[T]>
+        ensures { IfSome result (λ items. self.now ≡ map (λ item. item ∷ []) items.now) }
+    {
+        if self.filled {
+            self.lists.singles()
+        } else {
+            None
+        }
+    }
+
+    /// Makes the bits exactly those of the places in `flat` whose position has the bit 1 in `docs`. Bits
+    /// of `docs` past the last position are passed over.
+    pub fn spread(&self, docs: &[u64], into: &mut [u64])
+        requires enough { words_for (length self.now) ≤ length docs.now }
+        requires room { words_for (length (flat self.now)) ≤ length into.old }
+        ensures { HasBits into.new (spread_over (first_bits (length self.now) docs.now) self.now) }
+    {
+        if self.singles().is_some() {
+            copy_front(docs, self.len, into);
+        } else {
+            self.spread_rows(docs, into);
+        }
+    }
+
+    // Makes the bits exactly those of the places in `flat` whose position has the bit 1 in `docs`.
+    fn spread_rows(&self, docs: &[u64], into: &mut [u64])
+        requires { words_for (length (flat self.now)) ≤ length into.old }
+        ensures { HasBits into.new (spread_over (first_bits (length self.now) docs.now) self.now) }
+    {
+        into.fill(0);
+        let mut from = 0;
+        while let Some(at) = next_in_both(&self.words, docs, from) {
+            let (start, end) = self.places(at);
+            set_bits(into, start, end);
+            from = at + 1;
+        }
+    }
+
+    // Where the items of a position that has some stand among those of all positions.
+    fn places(&self, at: u32) -> (u32, u32)
+        requires within { at < length self.now }
+        requires some { 0 < length (slice_index_or self.now at []) }
+        ensures start { result.0 ≡ length (flat (take at self.now)) }
+        ensures end { result.1 ≡ length (flat (take (at + 1) self.now)) }
+    {
+        match rank_among(self.filled, &self.words, &self.before, at) {
+            Some(rank) => self.lists.places(rank),
+            None => unreachable!(),
         }
     }
 

@@ -5,7 +5,7 @@ use Rattle.std.proofs.lemmas.List.FromFn.{length-map-range_with_len, get_or-map-
 use Rattle.fc_spec.specs.documents.Bits.{has_bit}
 use Rattle.fc_spec.specs.words.Lists.{is_empty}
 use Rattle.fc_lists.specs.Rows.{row_at}
-use Rattle.fc_lists.proofs.Spread.{row_some}
+use Rattle.fc_lists.proofs.BitRows.{row_some}
 use Rattle.fc_lists.proofs.rows.Rows.any.Goals as goal
 
 pub copy_bits-requires : goal.copy_bits-requires

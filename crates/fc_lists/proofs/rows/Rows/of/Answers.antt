@@ -1,4 +1,5 @@
-use Rattle.std.proofs.Common.{◌≡◌, ◌<◌, ◌*◌, ◌^◌, map, length, vec_len, subst, sym, ap, ◌∙◌, arith}
+use Rattle.std.proofs.Common.{◌≡◌, ◌<◌, ◌*◌, ◌^◌, map, length, vec_len, subst, ◌==◌, eqb-true, sym, ap, ◌∙◌, arith}
+use Rattle.std.proofs.lemmas.Bool.{OnTrue_from}
 use Rattle.std.proofs.lemmas.List.{length-map}
 use Rattle.fc_lists.specs.Among.{is_among}
 use Rattle.fc_lists.specs.Starts.{AreStarts, cut}
@@ -7,7 +8,7 @@ use Rattle.fc_lists.specs.Rows.{row_at}
 use Rattle.std.specs.List.{range_with_len}
 use Rattle.fc_lists.proofs.Marks.{Marked}
 use Rattle.fc_lists.proofs.FirstEntries.{heads_start}
-use Rattle.fc_lists.proofs.Spread.{rows_are, whole_is, length-lists, lists_some, none_past_is, positions_within}
+use Rattle.fc_lists.proofs.BitRows.{rows_are, whole_is, length-lists, lists_some, none_past_is, positions_within}
 use Rattle.fc_lists.proofs.rows.Rows.of.Goals as goal
 
 pub bits_before-requires : goal.bits_before-requires
@@ -23,8 +24,8 @@ bits_before-requires g c =
     let small : bits_below (64 * length words) words < 2 ^ 32 = omega (arith, whole, few, heads.few, length-map entries (λ entry. entry.at), c.requires.few) in
     rw c.deref-2.ensures.value small
 
-pub new-requires : goal.new-requires
-new-requires g c =
+pub new-lists-requires : goal.new-lists-requires
+new-lists-requires g c =
     let entries = c.args.entries.now in
     let starts = c.in_ok-positions.starts.items in
     let items = c.in_ok-items.ensures in
@@ -41,7 +42,7 @@ invariant_of-result g c =
     let heads = c.in_ok-positions.ensures in
     let marked : Marked words positions = λ at. c.in_ok-words.ensures.bits at ∙ ap (is_among at) c.deref.ensures.value in
     let items = c.in_ok-items.ensures in
-    let lists = c.new.ensures ∙ ap (cut starts) items in
+    let lists = c.new-lists.ensures ∙ ap (cut starts) items in
     let same = c.deref-2.ensures.value in
     record {
       small = omega arith;
@@ -51,6 +52,7 @@ invariant_of-result g c =
       counted = λ i within. c.in_ok-before.ensures.counts i (omega (arith, ap length same)) ∙ ap (bits_below (64 * i)) same;
       whole = whole_is entries positions starts c.requires.rising heads words marked ∙ sym (ap length lists);
       some = rw lists (lists_some entries positions starts c.requires.rising heads);
+      full = OnTrue_from (c.len.result == c.args.len) (length c.new-lists.result ≡ c.args.len) (λ same. sym c.len.ensures ∙ eqb-true c.len.result c.args.len same);
     }
 
 pub returns : goal.returns
@@ -62,5 +64,5 @@ returns g c =
     let heads = c.in_ok-positions.ensures in
     let marked : Marked words positions = λ at. c.in_ok-words.ensures.bits at ∙ ap (is_among at) c.deref.ensures.value in
     let items = c.in_ok-items.ensures in
-    ap (λ (lists : _). map (row_at words lists) (range_with_len 0 c.args.len)) (c.new.ensures ∙ ap (cut starts) items)
+    ap (λ (lists : _). map (row_at words lists) (range_with_len 0 c.args.len)) (c.new-lists.ensures ∙ ap (cut starts) items)
     ∙ rows_are entries positions starts c.requires.rising heads words c.args.len marked

@@ -4,8 +4,15 @@ use Rattle.fc_spec.specs.documents.Bits.{has_bit}
 use Rattle.fc_lists.specs.Ranks.{bits_below}
 use Rattle.fc_lists.specs.Rows.{row_at}
 use Rattle.fc_lists.proofs.BitRanks.{rank_within, some_rank, no_rank}
+use Rattle.fc_lists.proofs.FlatRows.{rank_if_filled}
 use Rattle.fc_lists.proofs.Marks.{word_within}
 use Rattle.fc_lists.proofs.rows.Rows.row.Goals as goal
+
+pub rank_among-requires-clause-all : goal.rank_among-requires-clause-all
+rank_among-requires-clause-all g c =
+    let inside = c.self.inside in
+    let within : c.args.at < inside.len = omega (arith, length-map-range_with_len (row_at inside.words.items inside.lists) 0 inside.len, ap length c.self.view_is) in
+    rw c.deref.ensures.value (rank_if_filled inside.filled inside.words.items inside.lists inside.len c.args.at c.self.invariant.none_past c.self.invariant.whole c.self.invariant.full within)
 
 pub list-requires : goal.list-requires
 list-requires g c =
