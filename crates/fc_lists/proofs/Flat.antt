@@ -5,7 +5,7 @@ use Rattle.std.proofs.lemmas.List.{append-nil, length-map, take_all, take_more, 
 use Rattle.std.proofs.lemmas.List.Concat.{flat_map-append}
 use Rattle.fc_spec.specs.documents.Bits.{first_bits, HasBits}
 use Rattle.fc_spec.proofs.words.WhereTrue.{items_where_true-append}
-use Rattle.fc_docset.proofs.BitLists.{first_bits_is}
+use Rattle.fc_lane.proofs.BitLists.{first_bits_is}
 use Rattle.fc_lists.specs.Flat.{flat, spread_over}
 
 module _ {T : Type 0} where

@@ -5,7 +5,7 @@ use Rattle.std.proofs.lemmas.List.{length-take-le, get_or-take, get_or_past}
 use Rattle.std.specs.Int.{bit_at}
 use Rattle.fc_spec.specs.documents.Bits.{has_bit, words_for, first_bits, HasBits}
 use Rattle.fc_spec.proofs.documents.WordBits.{has_bit_past, has_bit-set, has_bit-cleared, and_right_true, mask_below}
-use Rattle.fc_docset.proofs.BitLists.{length-first_bits, get_or-first_bits}
+use Rattle.fc_lane.proofs.BitLists.{length-first_bits, get_or-first_bits}
 use Rattle.fc_docset.proofs.FrontWords.{has_bit-front}
 
 module _ (words into : List ℕ) (len : ℕ) (enough : words_for len ≤ length words) (copied : (k : ℕ) → has_bit into k ≡ has_bit (take (words_for len) words) k) where

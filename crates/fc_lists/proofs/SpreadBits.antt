@@ -5,7 +5,7 @@ use Rattle.std.proofs.lemmas.List.{append-nil, length-map, get_or_append_left, g
 use Rattle.std.proofs.lemmas.List.FromFn.{map-range_with_len_more}
 use Rattle.fc_spec.specs.documents.Bits.{has_bit, first_bits, HasBits}
 use Rattle.fc_spec.proofs.documents.WordBits.{has_bit_of_zeros, or_right_false}
-use Rattle.fc_docset.proofs.BitLists.{length-first_bits}
+use Rattle.fc_lane.proofs.BitLists.{length-first_bits}
 use Rattle.fc_lists.specs.Flat.{flat, spread_over}
 use Rattle.fc_lists.proofs.Flat.{spread_over-push, length-spread_front, length-flat-more}
 

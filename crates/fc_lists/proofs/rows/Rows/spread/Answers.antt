@@ -4,7 +4,7 @@ use Rattle.std.proofs.lemmas.Bool.{false≢true}
 use Rattle.std.proofs.lemmas.List.{length-map}
 use Rattle.std.proofs.lemmas.List.FromFn.{length-map-range_with_len}
 use Rattle.fc_spec.specs.documents.Bits.{first_bits}
-use Rattle.fc_docset.proofs.BitLists.{length-first_bits}
+use Rattle.fc_lane.proofs.BitLists.{length-first_bits}
 use Rattle.fc_lists.specs.Flat.{flat, spread_over}
 use Rattle.fc_lists.specs.Rows.{row_at}
 use Rattle.fc_lists.proofs.Flat.{flat-singles, spread_over-singles}
