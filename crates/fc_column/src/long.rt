@@ -1,13 +1,14 @@
 // Columns of integers.
 ghost use Rattle.std.specs.Prelude.{◌≡◌, ℕ, ◌==◌, ◌<◌, ◌≤◌, [], ◌∷◌, ◌++◌, length, map, not, replicate, count_by, slice_index_or, true, ◌≤ℤ◌, ◌↔◌, All, IfOk, IsNone, IfSome, OnOk};
 ghost use Rattle.std.specs.Ordering.{int_cmp};
-ghost use Rattle.fc_spec.specs.documents.Bits.{words_for, HasBits};
+ghost use Rattle.fc_spec.specs.documents.Bits.{words_for, first_bits, HasBits};
 ghost use Rattle.fc_spec.specs.documents.Columns.{IsLong, IsAscending, longs_in};
 ghost use Rattle.fc_spec.specs.documents.Val.{val_cmp};
 ghost use Rattle.fc_base.specs.View.{val_view};
 ghost use Rattle.fc_spec.specs.documents.IntegerTexts.{is_long};
 ghost use Rattle.fc_spec.specs.words.Lists.{is_empty};
 ghost use Rattle.fc_column.specs.Longs.{AreThere, is_between, has_between};
+ghost use Rattle.fc_lists.specs.Flat.{flat, spread_over};
 ghost use Rattle.fc_lists.specs.Ordered.{AreInOrder};
 
 use fc_base::{Val, WantMemory};
@@ -98,6 +99,32 @@ impl LongColumn {
         ensures long { All (λ value. is_long value ≡ true) result.now }
     {
         self.rows.row(doc)
+    }
+
+    /// The integers of all positions, one position behind the other.
+    pub fn flat(&self) -> &[i64]
+        ensures values { result.now ≡ flat self.now }
+        ensures long { All (λ value. is_long value ≡ true) result.now }
+    {
+        self.rows.flat()
+    }
+
+    /// The integer of each position, where it is known that each position has exactly one.
+    pub fn singles(&self) -> Option<&[i64]>
+        ensures values { IfSome result (λ values. self.now ≡ map (λ value. value ∷ []) values.now) }
+        ensures long { IfSome result (λ values. All (λ value. is_long value ≡ true) values.now) }
+    {
+        self.rows.singles()
+    }
+
+    /// Makes the bits exactly those of the places in `flat` whose position has the bit 1 in `docs`. Bit j of word i stands for
+    /// position, or place, 64 i + j. Bits of `docs` past the last position are passed over.
+    pub fn spread(&self, docs: &[u64], into: &mut [u64])
+        requires enough { words_for (length self.now) ≤ length docs.now }
+        requires room { words_for (length (flat self.now)) ≤ length into.old }
+        ensures { HasBits into.new (spread_over (first_bits (length self.now) docs.now) self.now) }
+    {
+        self.rows.spread(docs, into);
     }
 
     /// Makes the bits exactly those of the positions with an integer. Bit j of word i stands for

@@ -1,7 +1,8 @@
 -- The items of rows, one row behind the other, and those of a set of rows.
-use Rattle.std.proofs.Common.{◌≡◌, ℕ, ◌+◌, ◌<◌, ◌≤◌, Bool, true, false, List, [], ◌∷◌, ◌++◌, length, take, drop, get_or, map, refl, sym, ap, ap₂, ◌∙◌, arith, append_assoc, length-append}
+use Rattle.std.proofs.Common.{◌≡◌, ℕ, ◌+◌, ◌<◌, ◌≤◌, Bool, true, false, List, [], ◌∷◌, ◌++◌, length, take, drop, get_or, map, refl, sym, ap, ap₂, ◌∙◌, arith, append_assoc, length-append, All, subst}
 use Rattle.std.specs.List.{items_where_true}
 use Rattle.std.proofs.lemmas.List.{append-nil, length-map, take_all, take_more, take-append-drop}
+use Rattle.std.proofs.lemmas.List.Elements.{All-append, All-head, All-tail}
 use Rattle.std.proofs.lemmas.List.Concat.{flat_map-append}
 use Rattle.fc_spec.specs.documents.Bits.{first_bits, HasBits}
 use Rattle.fc_spec.proofs.words.WhereTrue.{items_where_true-append}
@@ -75,6 +76,12 @@ module _ {T : Type 0} where
       ap (λ l. map (λ _. here) row ++ l) (spread_over-push bits b rows (omega arith))
       ∙ sym (append_assoc (map (λ _. here) row) (spread_over bits rows) last)
 
+  -- what holds of the items of each row holds of all items
+  pub All-flat : (P : T → Type 0) (rows : List (List T)) → All (All P) rows → All P (flat rows)
+  All-flat P [] all = λ k d inside. absurd (omega arith)
+  All-flat P (row ∷ rows) all =
+      All-append P row (flat rows) (All-head (All P) row rows all) (All-flat P rows (All-tail (All P) row rows all))
+
   -- ---- where each row has one item
   pub flat-singles : (items : List T) → flat (map (λ item. item ∷ []) items) ≡ items
   flat-singles [] = refl
@@ -85,3 +92,6 @@ module _ {T : Type 0} where
   spread_over-singles [] (item ∷ items) long = absurd (omega arith)
   spread_over-singles (b ∷ bits) [] long = absurd (omega arith)
   spread_over-singles (b ∷ bits) (item ∷ items) long = ap (λ l. b ∷ l) (spread_over-singles bits items (omega arith))
+
+  pub All-singles : (P : T → Type 0) (rows : List (List T)) (items : List T) → rows ≡ map (λ item. item ∷ []) items → All (All P) rows → All P items
+  All-singles P rows items is all = subst (All P) (ap flat is ∙ flat-singles items) (All-flat P rows all)
