@@ -15,7 +15,10 @@ FIELDS = {"brand": "string", "price": "plong", "hundredth": "string"}
 # The facets list nothing of what they count, so that a search is little more than the counting.
 NOTHING = {"limit": 0, "overrequest": 0}
 STATISTICS = {"total": "sum(price)", "least": "min(price)", "values": "countvals(price)"}
-CONDITIONS = {"*:*": lambda d: True, "hundredth:yes": lambda d: "yes" in d["hundredth"]}
+# The documents of a half, as a query, and how many sums over them are asked for beside one.
+HALF, SUMS = "price:[0 TO 499]", 20
+CONDITIONS = {"*:*": lambda d: True, "hundredth:yes": lambda d: "yes" in d["hundredth"],
+              HALF: lambda d: any(price < 500 for price in d["price"])}
 
 
 def terms(field, **more):
@@ -31,6 +34,8 @@ REQUESTS = {
     "prices-statistics": {"facet": {"f": terms("price", facet=STATISTICS)}},
     "prices-few": {"query": "hundredth:yes", "facet": {"f": terms("price")}},
     "brands-by-price": {"facet": {"f": terms("price", limit=-1, facet={"b": terms("brand")})}},
+    "half-sum": {"query": HALF, "facet": {"total": "sum(price)"}},
+    "half-sums": {"query": HALF, "facet": {f"total{number}": "sum(price)" for number in range(1 + SUMS)}},
 }
 # What the table says of those whose time it has.
 TIMED = {
@@ -109,10 +114,12 @@ def rounded(number):
     return f"{round(number, places):,.{max(places, 0)}f}"
 
 
-def row_of_time(what, seconds, documents):
+def row_of_time(what, seconds, documents, target=None):
     if seconds <= 0:
         return f"| {what} | {UNSEEN} | | |"
-    return f"| {what} | {rounded(1e3 * seconds)} ms | {rounded(1e9 * seconds / documents)} ns | |"
+    each = 1e9 * seconds / documents
+    aim = f"at most {target} ns{', missed' * (each > target)}" if target else ""
+    return f"| {what} | {rounded(1e3 * seconds)} ms | {rounded(each)} ns | {aim} |"
 
 
 def row_of_ratio(what, above, below, target, more=""):
@@ -125,6 +132,8 @@ def rows(options, seconds, two, many):
     """The rows of the table in docs/performance.md."""
     for name, what in TIMED.items():
         yield row_of_time(what, seconds[name], options.documents)
+    yield row_of_time("one more sum over half of the documents", (seconds["half-sums"] - seconds["half-sum"]) / SUMS,
+                      options.documents / 2, 1.5)
     for name in ("brands", "prices"):
         yield row_of_ratio(f"{name} of every hundredth document, over those of all", seconds[f"{name}-few"], seconds[name], 0.1)
     each = seconds["brands-by-price"]
