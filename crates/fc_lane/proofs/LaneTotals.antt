@@ -1,15 +1,13 @@
 -- The sum of signed lanes wraps on the way, and is exact all the same where no sum on the way is large.
 use Rattle.std.proofs.Common.{◌≡◌, ℕ, ℤ, ◌+◌, ◌%◌, ◌^◌, ◌<◌, ◌≤◌, ◌+ℤ◌, List, [], ◌∷◌, map, sum_by, sym, ap, ◌∙◌, subst, arith, w64, of_z, to_z, mod-lt, lit<}
-use Rattle.std.specs.Prelude.{nat_abs, FitsSigned}
+use Rattle.std.specs.Prelude.{nat_abs}
 use Rattle.std.specs.Int.{int_wrap}
 use Rattle.std.specs.Simd.Lanes.{fold_l}
 use Rattle.std.proofs.lemmas.Int.{ints, int_wrap_fits, wrapping_add_onto}
 use Rattle.std.proofs.lemmas.List.Sums.{sum_by-cons}
 use Rattle.fc_spec.specs.requests.Statistics.{total_of}
 use Rattle.fc_spec.specs.scripts.ScriptTotals.{total_limit}
-
-small_fits : (z : ℤ) → nat_abs z ≤ total_limit → FitsSigned w64 z
-small_fits z small = omega (arith, ints)
+use Rattle.fc_lane.proofs.PickedTotals.{small_fits}
 
 -- the bits m of what is there already
 pub total_of_lanes : (add : ℕ → ℕ → ℕ) → ((a b : ℕ) → add a b ≡ (a + b) % 2 ^ 64) → (m : ℕ) (sum : ℤ) (xs : List ℤ)

@@ -1,11 +1,13 @@
--- How many of the first bits are 1, one word after another.
-use Rattle.std.proofs.Common.{◌≡◌, ℕ, zero, suc, false, replicate, refl, ◌+◌, ◌-◌, ◌%◌, ◌^◌, ◌<◌, ◌≤◌, ◌⊎◌, inl, inr, min, cond, List, ◌∷◌, ◌++◌, length, get_or, drop, count_by, sym, ap, ap₂, ◌∙◌, arith, drop-cons, add-one, mod-lt, append-nil}
+-- How many of the first bits are 1, one word after another, and how many items they pick.
+use Rattle.std.proofs.Common.{◌≡◌, ℕ, zero, suc, Bool, true, false, replicate, refl, ◌+◌, ◌-◌, ◌%◌, ◌^◌, ◌<◌, ◌≤◌, ◌⊎◌, inl, inr, min, cond, List, [], ◌∷◌, ◌++◌, length, get_or, drop, count_by, sym, ap, ap₂, ◌∙◌, arith, drop-cons, add-one, mod-lt, append-nil}
 use Rattle.std.specs.Int.Count.{ones}
+use Rattle.std.specs.List.{items_where_true}
 use Rattle.std.proofs.lemmas.Bool.{cases_lt}
-use Rattle.std.proofs.lemmas.List.Sums.{sum_by-append, count_by-le-length}
+use Rattle.std.proofs.lemmas.List.Sums.{sum_by-append, sum_by-cons, count_by-le-length}
 use Rattle.std.proofs.Math.ListN.{drop_of_length-le}
 use Rattle.std.proofs.lemmas.Nat.{pow_pos}
 use Rattle.fc_spec.specs.documents.Bits.{first_bits}
+use Rattle.fc_lane.specs.Masked.{masked}
 use Rattle.fc_lane.proofs.BitLists.{length-first_bits}
 use Rattle.fc_lane.proofs.LowBits.{low_bits, count_by-low_bits}
 use Rattle.fc_lane.proofs.WholeWords.{first_bits-cons}
@@ -51,3 +53,13 @@ count-end mask i left past =
     go : (n : ℕ) → count_by (λ b. b) (replicate n false) ≡ 0
     go zero = refl
     go (suc n) = go n
+
+-- ---- how many items are picked
+length_picked : {T : Type 0} (bits : List Bool) (items : List T) → length bits ≡ length items → length (items_where_true bits items) ≡ count_by (λ b. b) bits
+length_picked [] items size = refl
+length_picked (b ∷ bits) [] size = absurd (cc)
+length_picked (true ∷ bits) (x ∷ items) size = omega (arith, length_picked bits items (omega arith), sum_by-cons (λ b. cond b 1 0) true bits)
+length_picked (false ∷ bits) (x ∷ items) size = omega (arith, length_picked bits items (omega arith), sum_by-cons (λ b. cond b 1 0) false bits)
+
+pub length-masked : {T : Type 0} (words : List ℕ) (items : List T) → length (masked words items) ≡ count_by (λ b. b) (first_bits (length items) words)
+length-masked words items = length_picked (first_bits (length items) words) items (length-first_bits (length items) words)

@@ -15,6 +15,7 @@ use Rattle.fc_spec.specs.requests.Statistics.{pair_values, longs_of}
 use Rattle.fc_spec.specs.words.Lists.{joined}
 use Rattle.fc_spec.proofs.documents.BlockTotals.{documents_in-append}
 use Rattle.fc_spec.proofs.documents.PlacedDocuments.{documents_at, documents_at-shard}
+use Rattle.fc_lane.proofs.PickedTotals.{fewer_picked}
 use Rattle.fc_partial.specs.Fitting.{StatisticsFit}
 use Rattle.fc_spec.specs.scripts.WorldLimits.{IsWithinLimits}
 
@@ -125,12 +126,6 @@ member_fits X k d here fit =
     front_fits (slice_index_or X k d ∷ []) (drop (suc k) X) (back_fits (take k X) (slice_index_or X k d ∷ drop (suc k) X) (subst StatisticsFit (sym all) fit))
 
 -- those at the positions in a set
-fewer_picked : {X : Type 0} (f : X → ℕ) (set : List Bool) (xs : List X) → sum_by f (items_where_true set xs) ≤ sum_by f xs
-fewer_picked f [] xs = omega arith
-fewer_picked f (b ∷ set) [] = omega arith
-fewer_picked f (true ∷ set) (x ∷ xs) = omega (arith, sum_by-cons f x (items_where_true set xs), sum_by-cons f x xs, fewer_picked f set xs)
-fewer_picked f (false ∷ set) (x ∷ xs) = omega (arith, sum_by-cons f x xs, fewer_picked f set xs)
-
 length-picked : {X : Type 0} (set : List Bool) (xs : List X) → length (items_where_true set xs) ≤ length xs
 length-picked [] xs = omega arith
 length-picked (b ∷ set) [] = omega arith

@@ -1,26 +1,18 @@
 -- Statistics of places that fit add up.
-use Rattle.std.proofs.Common.{◌≤◌, ℕ, ℤ, pos, ◌+ℤ◌, FitsSigned, w64, List, [], ◌∷◌, ◌++◌, length, map, ap, subst, arith, length-append}
-use Rattle.std.specs.Prelude.{nat_abs, sum_by, count_by}
+use Rattle.std.proofs.Common.{ℕ, pos, ◌+ℤ◌, FitsSigned, w64, List, [], ◌∷◌, ◌++◌, length, map, ap, subst, arith, length-append}
+use Rattle.std.specs.Prelude.{count_by}
 use Rattle.std.proofs.lemmas.Int.{ints}
-use Rattle.std.proofs.lemmas.List.Sums.{count_by-le-length, sum_by-cons}
+use Rattle.std.proofs.lemmas.List.Sums.{count_by-le-length}
 use Rattle.fc_spec.specs.documents.Document.{values_of}
 use Rattle.fc_spec.specs.documents.World.{Place}
 use Rattle.fc_spec.specs.requests.Request.{Stat, StatKind, sum, min, max, countvals, missing}
 use Rattle.fc_spec.specs.requests.Statistics.{amount, value_over, statistic_in, stats_over, pair_values, longs_of, total_of}
-use Rattle.fc_spec.specs.scripts.ScriptTotals.{total_limit}
 use Rattle.fc_spec.specs.words.Lists.{is_empty}
 use Rattle.fc_spec.proofs.requests.Statistics.{statistic_in-append}
+use Rattle.fc_lane.proofs.PickedTotals.{total_size, small_fits}
 use Rattle.fc_partial.specs.Adding.{AddUp}
 use Rattle.fc_partial.specs.Fitting.{StatisticsFit}
 use Rattle.fc_partial.specs.Numbers.{NumbersAddUp}
-
--- a sum is no larger than the absolute values added up
-total_size : (xs : List ℤ) → nat_abs (total_of xs) ≤ sum_by nat_abs xs
-total_size [] = omega arith
-total_size (x ∷ xs) = omega (arith, ints, total_size xs, sum_by-cons nat_abs x xs)
-
-small_fits : (z : ℤ) → nat_abs z ≤ total_limit → FitsSigned w64 z
-small_fits z h = omega (arith, ints)
 
 -- the number that a statistic of joined places adds to a sum
 module _ (X Y : List Place) (fit : StatisticsFit (X ++ Y)) where

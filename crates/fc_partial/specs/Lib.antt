@@ -11,4 +11,5 @@ pub mod TallyView
 pub mod Celled
 pub mod CellsView
 pub mod OneDocument
+pub mod CombinedAt
 pub mod Fitting

@@ -7,6 +7,7 @@ mod cells;
 mod document;
 mod entries;
 mod key;
+mod longs;
 mod statistics;
 mod tally;
 
