@@ -8,7 +8,8 @@ use Rattle.std.proofs.lemmas.List.Sums.{get_or-le-sum_by}
 use Rattle.std.specs.List.{list_any, zip}
 use Rattle.std.specs.Ordering.{int_cmp, is_lt, is_le}
 use Rattle.fc_spec.proofs.words.Counting.{count_by-cons}
-use Rattle.fc_column.specs.Longs.{has_between, is_between}
+use Rattle.fc_lane.specs.Between.{is_between}
+use Rattle.fc_column.specs.Longs.{has_between}
 use Rattle.fc_lists.specs.Ordered.{AreInOrder, count_beside}
 use Rattle.fc_column.proofs.InOrder.{any_count, between_yes}
 

@@ -12,7 +12,7 @@ use Rattle.fc_spec.proofs.words.Counting.{count_by-cons}
 use Rattle.std.specs.Prelude.{FitsSigned}
 use Rattle.fc_spec.specs.documents.IntegerTexts.{is_long}
 use Rattle.fc_lists.specs.Among.{is_among}
-use Rattle.fc_column.specs.Longs.{is_between}
+use Rattle.fc_lane.specs.Between.{is_between}
 use Rattle.fc_lists.specs.Ordered.{Rise, count_beside, AreInOrder}
 use Rattle.fc_lists.proofs.Marks.{same_either}
 

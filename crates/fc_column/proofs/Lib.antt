@@ -11,6 +11,7 @@ pub mod Grown
 pub mod ColumnTerms
 pub mod BuiltTexts
 pub mod Ends
+pub mod Singles
 pub mod KeptInOrder
 pub mod MergedOrder
 pub mod MergedNumbers

@@ -1,12 +1,9 @@
 -- The integers of a position.
-use Rattle.std.specs.Prelude.{◌≡◌, ℤ, Bool, true, ◌&&◌, List, int_le}
+use Rattle.std.specs.Prelude.{◌≡◌, ℤ, Bool, true, List}
 use Rattle.std.specs.List.{list_any}
+use Rattle.fc_lane.specs.Between.{is_between}
 
--- whether a value lies between two numbers, both included
-abbrev pub is_between : ℤ → ℤ → ℤ → Bool
-is_between lo hi value = int_le lo value && int_le value hi
-
--- whether one of the values does
+-- whether one of the values lies between two numbers, both included
 abbrev pub has_between : ℤ → ℤ → List ℤ → Bool
 has_between lo hi values = list_any (is_between lo hi) values
 

@@ -7,11 +7,13 @@ ghost use Rattle.fc_spec.specs.documents.Val.{val_cmp};
 ghost use Rattle.fc_base.specs.View.{val_view};
 ghost use Rattle.fc_spec.specs.documents.IntegerTexts.{is_long};
 ghost use Rattle.fc_spec.specs.words.Lists.{is_empty};
-ghost use Rattle.fc_column.specs.Longs.{AreThere, is_between, has_between};
+ghost use Rattle.fc_lane.specs.Between.{is_between};
+ghost use Rattle.fc_column.specs.Longs.{AreThere, has_between};
 ghost use Rattle.fc_lists.specs.Flat.{flat, spread_over};
 ghost use Rattle.fc_lists.specs.Ordered.{AreInOrder};
 
 use fc_base::{Val, WantMemory};
+use fc_lane::mask_between;
 use fc_lists::{Entries, Rows, mark};
 use std::alloc::Global;
 use std::marker::Model;
@@ -143,7 +145,12 @@ impl LongColumn {
         ensures bits { HasBits into.new (map (has_between lo hi) self.now) }
         ensures long { All (All (λ value. is_long value ≡ true)) self.now }
     {
-        mark(self.positions_between(lo, hi), into);
+        let found = self.positions_between(lo, hi);
+        match self.singles() {
+            // To mark more than half of the positions costs more than to go over all integers.
+            Some(values) if found.len() > values.len() / 2 => mask_between(values, lo, hi, into),
+            _ => mark(found, into),
+        }
     }
 
     /// The positions with an integer from `lo` to `hi`, both included, in the order of their integers:

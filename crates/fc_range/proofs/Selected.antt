@@ -5,7 +5,8 @@ use Rattle.std.proofs.lemmas.List.{get_or-append-add, get_or-map, get_or-set_oth
 use Rattle.std.proofs.lemmas.List.Folds.{list_any-append}
 use Rattle.fc_spec.specs.documents.Sets.{zip_with}
 use Rattle.fc_lists.specs.Among.{is_among}
-use Rattle.fc_column.specs.Longs.{has_between, is_between}
+use Rattle.fc_lane.specs.Between.{is_between}
+use Rattle.fc_column.specs.Longs.{has_between}
 use Rattle.fc_column.proofs.InOrder.{among_if_any}
 use Rattle.fc_lists.proofs.OfNumbers.{is_among-positions, positions_lie}
 use Rattle.fc_docset.specs.Positions.{contains, positions}

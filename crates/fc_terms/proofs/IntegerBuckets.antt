@@ -10,7 +10,7 @@ use Rattle.fc_spec.specs.documents.Totals.{documents_in, document_total}
 use Rattle.fc_spec.specs.documents.Val.{Text, text, long, has_val, same_val}
 use Rattle.fc_spec.specs.requests.Buckets.{Key, value, missing, gap, before, between, after, whole, has_prefix, in_bucket}
 use Rattle.fc_spec.specs.requests.Request.{Terms, terms}
-use Rattle.fc_column.specs.Longs.{is_between}
+use Rattle.fc_lane.specs.Between.{is_between}
 use Rattle.fc_kind.specs.PlaceAt.{place_at}
 use Rattle.fc_kind.proofs.PlaceColumns.{row_at}
 use Rattle.fc_count.proofs.CountedBuckets.{IsCountedOrNone}

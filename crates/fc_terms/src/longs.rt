@@ -7,7 +7,7 @@ ghost use Rattle.fc_spec.specs.documents.Val.{long};
 ghost use Rattle.fc_spec.specs.requests.Request as definition;
 ghost use Rattle.fc_spec.specs.scripts.WorldLimits.{IsWithinLimits};
 ghost use Rattle.fc_base.specs.StatisticView.{stat_view};
-ghost use Rattle.fc_column.specs.Longs.{is_between};
+ghost use Rattle.fc_lane.specs.Between.{is_between};
 ghost use Rattle.fc_facet.specs.KindView.{terms_view};
 ghost use Rattle.fc_kind.specs.Collecting.{BucketsAddUp, CollectsAmong};
 ghost use Rattle.fc_kind.specs.Columns.{HaveFields};

@@ -1,7 +1,8 @@
 use Rattle.std.proofs.Common.{◌∙◌, ◌&&◌, ℤ, [], map, slice_index_or, count_by, sym, ap, ap₂, w64}
 use Rattle.std.proofs.lemmas.Int.{to_z-of_z}
 use Rattle.fc_spec.specs.documents.Sets.{zip_with}
-use Rattle.fc_column.specs.Longs.{has_between, is_between}
+use Rattle.fc_lane.specs.Between.{is_between}
+use Rattle.fc_column.specs.Longs.{has_between}
 use Rattle.fc_domain.proofs.LongRows.{rows_from_to}
 use Rattle.fc_range.proofs.Selected.{all_picked}
 use Rattle.fc_range.proofs.selecting.select_from_to.Goals as goal

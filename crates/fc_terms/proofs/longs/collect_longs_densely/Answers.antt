@@ -2,7 +2,7 @@ use Rattle.std.proofs.Common.{◌≡◌, ◌+◌, ◌≤ℤ◌, All, true, map, 
 use Rattle.fc_base.specs.StatisticView.{stat_view}
 use Rattle.fc_spec.specs.documents.Sets.{places_on}
 use Rattle.fc_spec.specs.requests.Request as definition
-use Rattle.fc_column.specs.Longs.{is_between}
+use Rattle.fc_lane.specs.Between.{is_between}
 use Rattle.fc_docset.specs.Positions.{positions}
 use Rattle.fc_facet.specs.KindView.{terms_view}
 use Rattle.fc_kind.specs.Collecting.{BucketsAddUp}

@@ -1,6 +1,7 @@
 use Rattle.std.proofs.Common.{◌≡◌, ◌∙◌, ℤ, [], false, map, get_or, w64, to_z, of_z, sym, ap, rules}
 use Rattle.std.proofs.lemmas.List.{length-map}
-use Rattle.fc_column.specs.Longs.{is_between, has_between}
+use Rattle.fc_lane.specs.Between.{is_between}
+use Rattle.fc_column.specs.Longs.{has_between}
 use Rattle.fc_column.proofs.InOrder.{among_if_any, any_at}
 use Rattle.fc_domain.proofs.LongRows.{longs_pass, at_long}
 use Rattle.fc_spec.specs.documents.Val.{long, has_val, same_val}

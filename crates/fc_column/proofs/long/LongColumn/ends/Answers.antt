@@ -2,7 +2,8 @@ use Rattle.std.proofs.Common.{◌≡◌, ◌-◌, ◌<◌, ℤ, All, [], length,
 use Rattle.std.proofs.lemmas.Bool.{false≢true}
 use Rattle.std.proofs.lemmas.List.{nil_from_length}
 use Rattle.std.specs.List.{list_any}
-use Rattle.fc_column.specs.Longs.{has_between, is_between}
+use Rattle.fc_lane.specs.Between.{is_between}
+use Rattle.fc_column.specs.Longs.{has_between}
 use Rattle.fc_lists.specs.Ordered.{AreInOrder}
 use Rattle.fc_column.proofs.Ends.{between_ends, none_in_rows, none_there, there_in_rows}
 use Rattle.fc_column.proofs.long.LongColumn.ends.Goals as goal

@@ -1,7 +1,7 @@
 use Rattle.std.proofs.Common.{◌==◌, ◌≤◌, length, count_by, slice_range, subst, sym, ap, ◌∙◌, arith, rules, of_calls}
 use Rattle.std.specs.Ordering.{int_cmp, is_lt, is_le}
 use Rattle.std.proofs.lemmas.Fn.{always_returns_same}
-use Rattle.fc_column.specs.Longs.{is_between}
+use Rattle.fc_lane.specs.Between.{is_between}
 use Rattle.fc_lists.specs.Ordered.{Rise, AreInOrder}
 use Rattle.fc_column.proofs.InOrder.{low_in_front, upto_in_front, span_counts, none_counts, positions_in_rows}
 use Rattle.fc_column.proofs.long.LongColumn.positions_between.Goals as goal
