@@ -1,5 +1,5 @@
 -- One comparison of turned lanes, as the word of a test.
-use Rattle.std.proofs.Common.{◌≡◌, ℕ, suc, ◌+◌, ◌*◌, ◌^◌, ◌-◌, ◌%◌, List, [], ◌∷◌, Bool, true, false, cond, not, map, length, drop, refl, ◌∙◌, ap, ap₂, arith, pow-suc}
+use Rattle.std.proofs.Common.{◌≡◌, ℕ, suc, ◌+◌, ◌^◌, ◌-◌, ◌%◌, List, [], ◌∷◌, Bool, cond, map, length, drop, refl, ◌∙◌, ap, ap₂, arith}
 use Rattle.std.specs.Prelude.{ℤ, int_lt, FitsSigned, ◌≤ℤ◌, replicate}
 use Rattle.std.specs.Int.{w64}
 use Rattle.std.specs.List.{All}
@@ -8,7 +8,7 @@ use Rattle.std.proofs.lemmas.List.{length-map}
 use Rattle.std.proofs.lemmas.List.Elements.{All-take, All-drop}
 use Rattle.std.proofs.lemmas.Simd.{tops_compared, zip2_splat, zip2_splat_left, mask_l-mod, map-map}
 use mir.Val.{to_z, of_z, bits, hbits}
-use Rattle.fc_lane.specs.Between.{is_between}
+use Rattle.fc_lane.specs.Between.{is_outside}
 use Rattle.fc_lane.proofs.TurnedOrder.{past_is}
 
 -- the lanes' own subtraction and test: of their bits, and of these read as signed
@@ -27,46 +27,34 @@ map_same : {X Y : Type 0} (f g : X → Y) (P : X → Type 0) → ((x : X) → P 
 map_same f g P same [] all = refl
 map_same f g P same (x ∷ xs) all = ap₂ (λ y ys. y ∷ ys) (same x (all 0 x (omega arith))) (map_same f g P same xs (λ k d within. all (suc k) d (omega arith)))
 
--- the bits of a test and of its opposite are all bits
-opposite_more : (b : Bool) (m n k : ℕ) → m + n + 1 ≡ k → cond (not b) 1 0 + 2 * m + (cond b 1 0 + 2 * n) + 1 ≡ 2 * k
-opposite_more true m n k e = omega arith
-opposite_more false m n k e = omega arith
-
-opposite_masks : {X : Type 0} (p : X → Bool) (xs : List X) → mask_l (map (λ x. not (p x)) xs) + mask_l (map p xs) + 1 ≡ 2 ^ length xs
-opposite_masks p [] = refl
-opposite_masks p (x ∷ xs) = opposite_more (p x) (mask_l (map (λ x. not (p x)) xs)) (mask_l (map p xs)) (2 ^ length xs) (opposite_masks p xs) ∙ omega (arith, pow-suc 2 (length xs))
-
-module _ (lo hi : ℤ) (f : FitsSigned w64 lo) (g : FitsSigned w64 hi) (ordered : lo ≤ℤ hi) (xs : List ℤ) (fit : All (FitsSigned w64) xs) (size : length xs ≡ 64) where
+module _ (lo hi : ℤ) (f : FitsSigned w64 lo) (g : FitsSigned w64 hi) (ordered : lo ≤ℤ hi) (xs : List ℤ) (fit : All (FitsSigned w64) xs) (size : length xs ≡ 16) where
   turned_lanes : List ℕ
-  turned_lanes = zip2 lane_minus (map (of_z w64) xs) (replicate 64 (turn lo))
+  turned_lanes = zip2 lane_minus (map (of_z w64) xs) (replicate 16 (turn lo))
 
   turned_lanes_are : turned_lanes ≡ map (λ x. lane_minus (of_z w64 x) (turn lo)) xs
   unfolding turned_lanes
   turned_lanes_are =
-      zip2_splat lane_minus (map (of_z w64) xs) 64 (turn lo) (length-map xs (of_z w64) ∙ size)
+      zip2_splat lane_minus (map (of_z w64) xs) 16 (turn lo) (length-map xs (of_z w64) ∙ size)
       ∙ map-map (λ a. lane_minus a (turn lo)) (of_z w64) xs
 
   past : List ℕ
-  past = zip2 (λ a b. cond (lane_lt a b) (2 ^ bits w64 - 1) 0) (replicate 64 (lane_minus (of_z w64 hi) (turn lo))) turned_lanes
+  past = zip2 (λ a b. cond (lane_lt a b) (2 ^ bits w64 - 1) 0) (replicate 16 (lane_minus (of_z w64 hi) (turn lo))) turned_lanes
 
-  past_are : map (top (hbits w64)) past ≡ map (λ x. not (is_between lo hi x)) xs
+  past_are : map (top (hbits w64)) past ≡ map (is_outside lo hi) xs
   unfolding past
   past_are =
       let highest = lane_minus (of_z w64 hi) (turn lo) in
-      let long : length turned_lanes ≡ 64 = ap length turned_lanes_are ∙ length-map xs (λ x. lane_minus (of_z w64 x) (turn lo)) ∙ size in
-      tops_compared w64 lane_lt (replicate 64 highest) turned_lanes
-      ∙ zip2_splat_left lane_lt highest 64 turned_lanes long
+      let long : length turned_lanes ≡ 16 = ap length turned_lanes_are ∙ length-map xs (λ x. lane_minus (of_z w64 x) (turn lo)) ∙ size in
+      tops_compared w64 lane_lt (replicate 16 highest) turned_lanes
+      ∙ zip2_splat_left lane_lt highest 16 turned_lanes long
       ∙ ap (map (lane_lt highest)) turned_lanes_are
       ∙ map-map (lane_lt highest) (λ x. lane_minus (of_z w64 x) (turn lo)) xs
-      ∙ map_same (λ x. lane_lt highest (lane_minus (of_z w64 x) (turn lo))) (λ x. not (is_between lo hi x)) (FitsSigned w64) (λ x h. past_is lo hi x f g h ordered) xs fit
+      ∙ map_same (λ x. lane_lt highest (lane_minus (of_z w64 x) (turn lo))) (is_outside lo hi) (FitsSigned w64) (λ x h. past_is lo hi x f g h ordered) xs fit
 
-  pub between_lanes : 2 ^ 64 - 1 - mask_l (map (top (hbits w64)) (zip2 (λ a b. cond (lane_lt a b) (2 ^ bits w64 - 1) 0) (replicate 64 (lane_minus (of_z w64 hi) (turn lo))) (zip2 lane_minus (map (of_z w64) xs) (replicate 64 (turn lo))))) % 2 ^ 64 ≡ mask_l (map (is_between lo hi) xs)
+  pub outside_of_lanes : mask_l (map (top (hbits w64)) (zip2 (λ a b. cond (lane_lt a b) (2 ^ bits w64 - 1) 0) (replicate 16 (lane_minus (of_z w64 hi) (turn lo))) (zip2 lane_minus (map (of_z w64) xs) (replicate 16 (turn lo))))) % 2 ^ 64
+      ≡ mask_l (map (is_outside lo hi) xs)
   unfolding turned_lanes past
-  between_lanes =
-      let opposite = map (λ x. not (is_between lo hi x)) xs in
-      let whole : mask_l opposite % 2 ^ 64 ≡ mask_l opposite = mask_l-mod opposite 64 (omega (arith, length-map xs (λ x. not (is_between lo hi x)), size)) in
-      let all : mask_l opposite + mask_l (map (is_between lo hi) xs) + 1 ≡ 2 ^ 64 = opposite_masks (is_between lo hi) xs ∙ ap (λ n. 2 ^ n) size in
-      ap (λ bits. 2 ^ 64 - 1 - mask_l bits % 2 ^ 64) past_are ∙ ap (λ n. 2 ^ 64 - 1 - n) whole ∙ omega (arith, all)
+  outside_of_lanes = ap (λ tests. mask_l tests % 2 ^ 64) past_are ∙ mask_l-mod (map (is_outside lo hi) xs) 64 (omega (arith, length-map xs (is_outside lo hi), size))
 
 -- a chunk of numbers that fit
 pub chunk_fits : (xs : List ℤ) (at n : ℕ) → All (FitsSigned w64) xs → All (FitsSigned w64) (chunk at n xs)

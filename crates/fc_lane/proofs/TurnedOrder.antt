@@ -1,12 +1,12 @@
 -- Signed numbers of 64 bits turned around the ring so that one of them becomes the least.
-use Rattle.std.proofs.Common.{◌≡◌, ℕ, suc, ◌+◌, ◌-◌, ◌%◌, ◌^◌, ◌<◌, ◌≤◌, ◌⊎◌, inl, inr, false, not, ap, ◌∙◌, arith}
+use Rattle.std.proofs.Common.{◌≡◌, ℕ, suc, ◌+◌, ◌-◌, ◌%◌, ◌^◌, ◌<◌, ◌≤◌, ◌⊎◌, inl, inr, false, ap, ◌∙◌, arith}
 use Rattle.std.specs.Prelude.{ℤ, pos, negsuc, int_lt, FitsSigned, ◌≤ℤ◌, ◌<ℤ◌, ◌+ℤ◌}
 use Rattle.std.specs.Int.{w64}
 use Rattle.std.proofs.lemmas.Int.{ints, by_lt_z}
 use Rattle.std.proofs.Math.Facts.{to_z-neg}
 use Rattle.std.proofs.lemmas.Bool.{cases_lt}
 use mir.Val.{to_z, of_z}
-use Rattle.fc_lane.specs.Between.{is_between}
+use Rattle.fc_lane.specs.Between.{is_between, is_outside}
 
 -- how far a number stands after another, around the ring
 abbrev pub gap : ℤ → ℤ → ℕ
@@ -62,7 +62,7 @@ module _ (lo hi x : ℤ) (f : FitsSigned w64 lo) (g : FitsSigned w64 hi) (h : Fi
   above low high = omega (arith, ints, turned_is lo x f h, turned_is lo hi f g, gap_up lo x f h low, gap_up lo hi f g ordered)
 
   -- the numbers up to another are the lowest of the turned ones
-  pub past_is : int_lt (turned lo hi) (turned lo x) ≡ not (is_between lo hi x)
+  pub past_is : int_lt (turned lo hi) (turned lo x) ≡ is_outside lo hi x
   past_is = by_lt_z x lo
       (λ low. let e = below low in grind (arith, ints))
       (λ low. by_lt_z hi x (λ high. let e = above low high in grind (arith, ints)) (λ high. let e = within low high in grind (arith, ints)))

@@ -4,7 +4,7 @@ ghost use Rattle.std.specs.Int.{w64};
 ghost use Rattle.std.specs.List.{All};
 ghost use Rattle.std.specs.Simd.Lanes.{chunk, mask_l};
 ghost use Rattle.fc_spec.specs.documents.Bits.{words_for, HasBits};
-ghost use Rattle.fc_lane.specs.Between.{is_between};
+ghost use Rattle.fc_lane.specs.Between.{is_between, is_outside};
 
 use std::simd::prelude::*;
 
@@ -57,17 +57,43 @@ fn word_from(values: &[i64], at: usize, lo: i64, hi: i64) -> u64
     }
 }
 
-// The word of the 64 integers from a place on. All integers are turned so that `lo` becomes the least: those up to `hi` come first.
+// The word of the 64 integers from a place on.
 fn word_at(values: &[i64], at: usize, lo: i64, hi: i64) -> u64
     requires within { at + 64 ≤ length values.now }
     requires fit { All (FitsSigned w64) values.now }
     requires ordered { lo ≤ℤ hi }
     ensures { result ≡ mask_l (map (is_between lo hi) (chunk at 64 values.now)) }
 {
+    let low = outside_of_half(values, at, lo, hi);
+    let high = outside_of_half(values, at + 32, lo, hi);
+    !(low | high << 32)
+}
+
+// Which of 32 integers from a place on do not lie between.
+fn outside_of_half(values: &[i64], at: usize, lo: i64, hi: i64) -> u64
+    requires within { at + 32 ≤ length values.now }
+    requires fit { All (FitsSigned w64) values.now }
+    requires ordered { lo ≤ℤ hi }
+    ensures { result ≡ mask_l (map (is_outside lo hi) (chunk at 32 values.now)) }
+{
+    let low = outside_of_quarter(values, at, lo, hi);
+    let high = outside_of_quarter(values, at + 16, lo, hi);
+    low | high << 16
+}
+
+// Which of 16 integers from a place on do not lie between. All are turned so that `lo` becomes the least: those up to `hi` come
+// first, and one comparison tells.
+fn outside_of_quarter(values: &[i64], at: usize, lo: i64, hi: i64) -> u64
+    requires within { at + 16 ≤ length values.now }
+    requires fit { All (FitsSigned w64) values.now }
+    requires ordered { lo ≤ℤ hi }
+    ensures { result ≡ mask_l (map (is_outside lo hi) (chunk at 16 values.now)) }
+{
     let turn = lo.wrapping_sub(i64::MIN);
-    let turned = i64x64::from_slice(&values[at..]) - i64x64::splat(turn);
-    let past = turned.simd_gt(i64x64::splat(hi.wrapping_sub(turn)));
-    !past.to_bitmask()
+    let turned = i64x16::from_slice(&values[at..]) - i64x16::splat(turn);
+    turned
+        .simd_gt(i64x16::splat(hi.wrapping_sub(turn)))
+        .to_bitmask()
 }
 
 // The word of at most 64 integers, one by one.
