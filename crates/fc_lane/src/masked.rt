@@ -8,6 +8,8 @@ ghost use Rattle.fc_lane.specs.Masked.{masked};
 mod greatest;
 mod least;
 mod sum;
+#[cfg(test)]
+mod tests;
 
 /// The integers whose bit is 1, added up.
 pub fn masked_sum(values: &[i64], mask: &[u64]) -> i64
