@@ -1,5 +1,5 @@
 -- The buckets of the gaps that are there, by their numbers.
-use Rattle.std.proofs.Common.{◌≡◌, ◌<◌, ℕ, true, List, inl, refl, ap, arith}
+use Rattle.std.proofs.Common.{◌≡◌, ◌<◌, ℕ, true, false, List, inl, refl, ap, arith}
 use Rattle.std.specs.Prelude.{nat_lt}
 use Rattle.std.proofs.lemmas.Bool.{false_from_ne_true, false≢true}
 use Rattle.fc_spec.specs.documents.Document.{Block}
@@ -18,9 +18,12 @@ number_of (gap i) = i
 number_of k = 0
 
 -- different gaps have different keys
-pub gaps_apart : (bound : ℕ) → AreApart gap_key bound
+pub other_gap : (i j : ℕ) → (i ≡ j → ⊥) → same_key (gap i) (gap j) ≡ false
 unfolding number_of
-gaps_apart bound i j first second other = false_from_ne_true (same_key (gap i) (gap j)) (λ e. other (ap number_of (same_key_exact (gap i) (gap j) e)))
+other_gap i j other = false_from_ne_true (same_key (gap i) (gap j)) (λ e. other (ap number_of (same_key_exact (gap i) (gap j) e)))
+
+pub gaps_apart : (bound : ℕ) → AreApart gap_key bound
+gaps_apart bound i j first second other = other_gap i j other
 
 pub gap_there : (g : Range) (bound i : ℕ) → gap_count g ≡ bound → i < bound → nat_lt i (gap_count g) ≡ true
 gap_there g bound i e here = below_is i (gap_count g) (omega (arith, e))

@@ -7,6 +7,7 @@ pub mod Reached
 pub mod GapSteps
 pub mod GapRows
 pub mod GapBuckets
+pub mod GapsBelow
 pub mod BesideGaps
 pub mod CountedOnce
 pub mod GapInside

@@ -1,6 +1,8 @@
 //! The kinds of facet whose keys no dictionary gives: range and query facets.
 #![tactic(auto)]
 
+mod by_sets;
+mod choice;
 mod counting;
 mod ends;
 mod gaps;

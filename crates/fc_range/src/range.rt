@@ -19,6 +19,8 @@ ghost use Rattle.fc_kind.specs.Columns.{FitsColumns, HaveFields};
 ghost use Rattle.fc_kind.specs.declared.name.KindName.TheVariants as name;
 ghost use Rattle.fc_range.specs.GapKeys.{is_gap_of};
 
+use crate::by_sets::{collect_bucket, collect_gaps_by_sets};
+use crate::choice::is_cheap_by_sets;
 use crate::counting::GapNumbers;
 use crate::keys::GapKeys;
 use crate::selecting::select_bucket;
@@ -26,7 +28,7 @@ use fc_base::{Stat, WantMemory};
 use fc_count::{add_cells, counted_cells};
 use fc_docset::DocSet;
 use fc_facet::{Kind, Range};
-use fc_kind::{FacetKind, KindName, add_documents};
+use fc_kind::{FacetKind, KindName};
 use fc_partial::{Key, Tally};
 use fc_request::Node;
 use fc_segment::{Column, Segment};
@@ -37,8 +39,8 @@ use std::alloc::Global;
 #[derive(Debug, Drop)]
 pub struct RangeKind;
 
-// Collects the buckets of the gaps.
-fn collect_gaps(
+// Collects the buckets of the gaps, all side by side.
+fn collect_gaps_side_by_side(
     alloc: Global,
     segment: &Segment,
     docs: &DocSet,
@@ -74,6 +76,37 @@ fn collect_gaps(
     Ok(())
 }
 
+// Collects the buckets of the gaps.
+fn collect_gaps(
+    alloc: Global,
+    segment: &Segment,
+    docs: &DocSet,
+    range: &Range,
+    stats: Vec<Stat>,
+    into: &mut Tally,
+) -> Result<(), WantMemory>
+    requires fits { FitsColumns segment.now.texts (kind.range (range_view range.now)) }
+    requires fields { HaveFields segment.now.texts (map stat_view stats.items) }
+    requires limits { IsWithinLimits (segment.now.blocks ∷ []) }
+    requires length { length docs.now ≡ document_total segment.now.blocks }
+    requires stats { into.old.stats ≡ map stat_view stats.items }
+    requires add_up { (k : bucket.Key) → is_gap_of (range_view range.now) k ≡ true
+        → ForSome (entry_at into.old.entries k) (λ there. AddUp there (stats_over into.old.stats
+        (bucket_places (kind.range (range_view range.now)) k
+        (places_on 0 segment.now.blocks docs.now)))) }
+    ensures { OnOk result (CollectsAmong (is_gap_of (range_view range.now))
+        (kind.range (range_view range.now)) into.old.stats
+        (places_on 0 segment.now.blocks docs.now) into.old into.new) }
+{
+    let Column::Long(column) = segment.column(range.field) else {
+        unreachable!()
+    };
+    if is_cheap_by_sets(column, docs, range) {
+        return collect_gaps_by_sets(alloc, segment, docs, range, &stats, into);
+    }
+    collect_gaps_side_by_side(alloc, segment, docs, range, stats, into)
+}
+
 // Collects a bucket beside the gaps, if it is asked for.
 fn collect_beside(
     alloc: Global,
@@ -101,9 +134,7 @@ fn collect_beside(
         return Ok(());
     }
     let mut own = DocSet::empty(alloc, docs.len())?;
-    select_bucket(segment, docs, range, &key, &mut own);
-    add_documents(alloc, segment, stats, &own, key, into)?;
-    Ok(())
+    collect_bucket(alloc, segment, docs, range, stats, key, &mut own, into)
 }
 
 impl FacetKind for RangeKind {
