@@ -9,3 +9,6 @@ mod words;
 pub use between::mask_between;
 pub use masked::{masked_count, masked_max, masked_min, masked_sum};
 pub use words::{and_not_words, and_words, count_bits, or_words};
+
+#[cfg(test)]
+mod tests;
