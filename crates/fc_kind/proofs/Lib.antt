@@ -7,3 +7,8 @@ pub mod BucketPlaces
 pub mod CollectedParts
 pub mod ValidFacets
 pub mod ReadPlaces
+pub mod SinglePlaces
+pub mod SetValues
+pub mod PutValues
+pub mod MaskedSets
+pub mod PickedValues

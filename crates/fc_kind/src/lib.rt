@@ -6,6 +6,7 @@ mod kind;
 mod kinds;
 mod law;
 mod name;
+mod set_statistics;
 mod statistics;
 
 pub use adding::add_documents;
@@ -13,4 +14,5 @@ pub use kind::FacetKind;
 pub use kinds::{covers, kinds_of, the_kind};
 pub use law::collecting_joins;
 pub use name::{KindName, name_of};
-pub use statistics::{document_value, document_values, set_stats, stats_at, value_at_all};
+pub use set_statistics::set_stats;
+pub use statistics::{document_value, document_values, stats_at, value_at_all};

@@ -1,19 +1,18 @@
 // The statistics of documents of a segment.
-ghost use Rattle.std.specs.Prelude.{◌≡◌, ◌<◌, [], ◌∷◌, length, map, All, IfOk, OnOk};
-ghost use Rattle.fc_spec.specs.documents.Sets.{places_on};
-ghost use Rattle.fc_spec.specs.documents.Totals.{document_total};
+ghost use Rattle.std.specs.Prelude.{◌≡◌, ◌<◌, [], ◌∷◌, length, map, All, IfOk, IfSome, OnOk};
+ghost use Rattle.fc_spec.specs.documents.Columns.{column_of};
+ghost use Rattle.fc_spec.specs.documents.Totals.{document_total, documents_in};
+ghost use Rattle.fc_spec.specs.documents.Val.{long};
 ghost use Rattle.fc_spec.specs.requests.Statistics.{stats_over, value_over};
 ghost use Rattle.fc_spec.specs.scripts.WorldLimits.{IsWithinLimits};
 ghost use Rattle.fc_base.specs.StatisticView.{stat_view};
 ghost use Rattle.fc_partial.specs.Fitting.{StatisticsFit};
 ghost use Rattle.fc_partial.specs.StatsView.{stats_view};
 ghost use Rattle.fc_partial.specs.View.{stat_value_view};
-ghost use Rattle.fc_docset.specs.Positions.{positions};
 ghost use Rattle.fc_kind.specs.Columns.{HaveFields};
 ghost use Rattle.fc_kind.specs.PlaceAt.{place_at};
 
-use fc_base::{Stat, WantMemory};
-use fc_docset::DocSet;
+use fc_base::{FieldId, Stat, WantMemory};
 use fc_partial::{StatValue, Stats};
 use fc_segment::{Column, Segment};
 use std::alloc::Global;
@@ -61,6 +60,33 @@ pub fn value_at_all(segment: &Segment, stat: Stat, positions: &[u32]) -> StatVal
     ensures { stat_value_view result
         ≡ value_over (stat_view stat) (map (place_at segment.now.blocks) positions.now) }
 {
+    match singles_of(segment, stat.field) {
+        Some(values) => StatValue::of_singles(stat.of, values, positions),
+        None => value_by_documents(segment, stat, positions),
+    }
+}
+
+// The integer of each document, where it is known that each has exactly one in the field.
+fn singles_of(segment: &Segment, field: FieldId) -> Option<&[i64]>
+    requires { field.0 < length segment.now.texts }
+    ensures { IfSome result (λ values. column_of field.0 (documents_in segment.now.blocks)
+        ≡ map (λ value. long value ∷ []) values.now) }
+{
+    match segment.column(field) {
+        Column::Long(column) => column.singles(),
+        Column::Text(_) => None,
+    }
+}
+
+// A statistic of the documents at these positions, one document after another.
+fn value_by_documents(segment: &Segment, stat: Stat, positions: &[u32]) -> StatValue
+    requires field { stat.field.0 < length segment.now.texts }
+    requires limits { IsWithinLimits (segment.now.blocks ∷ []) }
+    requires there { All (λ at. at < document_total segment.now.blocks) positions.now }
+    requires fit { StatisticsFit (map (place_at segment.now.blocks) positions.now) }
+    ensures { stat_value_view result
+        ≡ value_over (stat_view stat) (map (place_at segment.now.blocks) positions.now) }
+{
     let mut value = StatValue::neutral(stat);
     for at in positions {
         value = value.combined(stat.of, document_value(segment, stat, *at));
@@ -90,38 +116,4 @@ pub fn stats_at(
         count: positions.len() as u64,
         values,
     })
-}
-
-/// The number of documents in the set, with these statistics of them.
-pub fn set_stats(
-    alloc: Global,
-    segment: &Segment,
-    stats: &[Stat],
-    docs: &DocSet,
-) -> Result<Stats, WantMemory>
-    requires fields { HaveFields segment.now.texts (map stat_view stats.now) }
-    requires limits { IsWithinLimits (segment.now.blocks ∷ []) }
-    requires length { length docs.now ≡ document_total segment.now.blocks }
-    ensures { IfOk result (λ over. stats_view over ≡ stats_over (map stat_view stats.now)
-        (places_on 0 segment.now.blocks docs.now)) }
-{
-    if stats.is_empty() {
-        return Ok(Stats {
-            count: u64::from(docs.count()),
-            values: Vec::new(alloc),
-        });
-    }
-    let positions = listed(alloc, docs)?;
-    stats_at(alloc, segment, stats, &positions)
-}
-
-// The positions in a set.
-fn listed(alloc: Global, docs: &DocSet) -> Result<Vec<u32>, WantMemory>
-    ensures { IfOk result (λ list. list.items ≡ positions docs.now) }
-{
-    let mut list = Vec::with_capacity(alloc, docs.count() as usize)?;
-    for at in docs.iter() {
-        list.push(at)?;
-    }
-    Ok(list)
 }

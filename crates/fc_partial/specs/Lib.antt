@@ -1,4 +1,5 @@
 pub mod View
+pub mod Singles
 pub mod StatsView
 pub mod BucketView
 pub mod KeyLaws

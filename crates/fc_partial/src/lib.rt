@@ -8,6 +8,7 @@ mod document;
 mod entries;
 mod key;
 mod longs;
+mod singles;
 mod statistics;
 mod tally;
 
