@@ -15,7 +15,7 @@ pub(crate) fn is_cheap_by_sets(column: &LongColumn, docs: &DocSet, range: &Range
     requires { HasFewGaps (range_view range.now) }
 {
     let words = u64::from(docs.len() / 64);
-    let integers = column.positions_between(i64::MIN, i64::MAX).len() as u64;
+    let integers = column.flat().len() as u64;
     let reads = (u64::from(range.gaps()) * words).saturating_add(integers);
     reads <= READS_PER_DOCUMENT * u64::from(docs.count())
 }
