@@ -1,6 +1,6 @@
 -- The values of the documents in a set.
-use Rattle.std.proofs.Common.{◌≡◌, ℤ, pos, ℕ, List, [], ◌∷◌, ◌++◌, map, length, Bool, refl, sym, ap, ap₂, ◌∙◌}
-use Rattle.std.specs.List.{flat_map, items_where_true}
+use Rattle.std.proofs.Common.{◌≡◌, ℤ, ℕ, List, [], ◌∷◌, ◌++◌, map, Bool, refl, sym, ap, ◌∙◌}
+use Rattle.std.specs.List.{items_where_true}
 use Rattle.std.proofs.lemmas.List.{map-append}
 use Rattle.std.proofs.lemmas.Simd.{map-map}
 use Rattle.std.proofs.lemmas.List.Folds.{flat_map-map}
@@ -8,7 +8,7 @@ use Rattle.fc_spec.specs.documents.Columns.{column_of, longs_in}
 use Rattle.fc_spec.specs.documents.Document.{Block, values_of}
 use Rattle.fc_spec.specs.documents.Sets.{places_on}
 use Rattle.fc_spec.specs.documents.Totals.{documents_in}
-use Rattle.fc_spec.specs.documents.Val.{Val, long}
+use Rattle.fc_spec.specs.documents.Val.{long}
 use Rattle.fc_spec.specs.documents.World.{shard_places}
 use Rattle.fc_spec.specs.requests.Statistics.{longs_of, pair_values}
 use Rattle.fc_spec.proofs.documents.PlacedDocuments.{documents_at-shard}

@@ -1,4 +1,4 @@
-use Rattle.std.proofs.Common.{◌≡◌, ◌≤◌, ◌<◌, ◌^◌, ◌∙◌, ◌+ℤ◌, ℤ, List, [], map, length, set, w64, sym, ap, subst, rules, arith}
+use Rattle.std.proofs.Common.{◌≡◌, ◌≤◌, ◌<◌, ◌^◌, ◌∙◌, ◌+ℤ◌, ℤ, List, map, length, set, w64, sym, ap, subst, rules, arith}
 use Rattle.std.proofs.lemmas.List.{take_at}
 use Rattle.std.specs.Prelude.{FitsSigned, nat_abs, sum_by}
 use Rattle.fc_spec.specs.documents.Bits.{first_bits, HasBits}

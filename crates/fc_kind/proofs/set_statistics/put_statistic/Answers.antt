@@ -1,4 +1,4 @@
-use Rattle.std.proofs.Common.{◌≡◌, ◌≤◌, ◌∙◌, ℤ, List, [], map, set, OnOk, sym, ap, subst, rules}
+use Rattle.std.proofs.Common.{◌≡◌, ◌≤◌, ◌∙◌, map, set, OnOk, sym, ap, subst, rules}
 use Rattle.std.specs.Prelude.{nat_abs, sum_by, ◌≢◌}
 use Rattle.std.proofs.lemmas.List.{map-set}
 use Rattle.fc_spec.specs.documents.Sets.{places_on}

@@ -1,4 +1,4 @@
-use Rattle.std.proofs.Common.{◌≡◌, ◌∙◌, ◌++◌, ◌+◌, suc, [], map, take, drop, length, set, get_or, sym, ap, ap₂, subst, arith, append-nil, rules, add-one, pos}
+use Rattle.std.proofs.Common.{◌≡◌, ◌∙◌, ◌++◌, [], map, drop, length, sym, ap, ap₂, subst, arith, append-nil, rules, add-one}
 use Rattle.std.proofs.lemmas.List.{drop_all, take_all}
 use Rattle.std.proofs.lemmas.Simd.{map-map}
 use Rattle.fc_spec.specs.documents.Sets.{places_on}
