@@ -134,7 +134,8 @@ fn collect_beside(
         return Ok(());
     }
     let mut own = DocSet::empty(alloc, docs.len())?;
-    collect_bucket(alloc, segment, docs, range, stats, key, &mut own, into)
+    collect_bucket(alloc, segment, docs, range, stats, key, &mut own, into)?;
+    Ok(())
 }
 
 impl FacetKind for RangeKind {

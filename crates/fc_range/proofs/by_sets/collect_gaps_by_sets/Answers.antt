@@ -1,4 +1,4 @@
-use Rattle.std.proofs.Common.{◌≡◌, ◌∙◌, ◌<◌, false, length, List, ap, subst, sym, arith, rules}
+use Rattle.std.proofs.Common.{◌≡◌, ◌∙◌, ◌<◌, false, length, List, ap, subst, arith, rules}
 use Rattle.std.proofs.lemmas.List.{length-replicate}
 use Rattle.fc_spec.specs.documents.Sets.{places_on}
 use Rattle.fc_spec.specs.messages.KeyOrder.{same_key}
@@ -7,7 +7,6 @@ use Rattle.fc_spec.specs.requests.Gaps.{gap_count}
 use Rattle.fc_spec.specs.requests.Request as kind
 use Rattle.fc_facet.specs.KindView.{range_view}
 use Rattle.fc_kind.specs.Collecting.{CollectsAmong}
-use Rattle.fc_range.specs.GapKeys.{is_gap_of}
 use Rattle.fc_range.proofs.BesideGaps.{still_add_up}
 use Rattle.fc_range.proofs.GapsBelow.{all_collected, is_gap_below, more_collected, none_collected, not_below}
 use Rattle.fc_range.proofs.Tests.{below_is}

@@ -7,6 +7,11 @@ use Rattle.fc_partial.specs.View.{key_view}
 use Rattle.fc_kind.proofs.CollectedParts.{among_same}
 use Rattle.fc_range.proofs.range.collect_beside.Goals as goal
 
+pub collect_bucket-requires-clause-add_up : goal.collect_bucket-requires-clause-add_up
+collect_bucket-requires-clause-add_up c =
+    let asked : c.args.asked ≡ true = search rules in
+    c.requires.add_up asked
+
 pub returns : goal.returns
 returns c =
     let k = kind.range (range_view c.args.range.now) in
