@@ -1,6 +1,6 @@
 #!/usr/bin/env python3
 """Measures what kernels take for sets of 200,000 documents beside what stood before them, in one program and one run: two sets joined
-word by word, and the positions of a range marked in the order of their integers. Prints the rows of the table in docs/performance.md.
+word by word, and the positions of a range marked in the order of their integers. Prints a table of both.
 
 The program, bench/lanes.program.txt, stands outside the crates, so that the gate need not prove it: it is put into a copy of the
 libraries that it stands on, and proved and run there by `rt run`, which proves what is not kept too."""

@@ -101,7 +101,7 @@ fn collect_gaps(
     let Column::Long(column) = segment.column(range.field) else {
         unreachable!()
     };
-    if is_cheap_by_sets(column, docs, range) {
+    if is_cheap_by_sets(column, docs, range, &stats) {
         return collect_gaps_by_sets(alloc, segment, docs, range, &stats, into);
     }
     collect_gaps_side_by_side(alloc, segment, docs, range, stats, into)
