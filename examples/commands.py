@@ -34,6 +34,7 @@ NOT_RUN = (
     ("bench/kinds.py", "measures for some minutes", "bench/kinds.py --documents 1000 --runs 1 --searches 1"),
     ("bench/threads.py", "measures for some minutes", "bench/threads.py --documents 2000 --phases 50 --runs 1 --searches 4"),
     ("bench/cliffs.py", "measures for some minutes", "bench/cliffs.py --only faulty-requests small-commits --runs 1"),
+    ("bench/lanes.py", "proves a program where this machine has not kept it, and measures: some minutes", "bench/lanes.py --help"),
     ("bench/sent.py", "makes a program without its proofs, and measures for some minutes", "bench/sent.py --help"),
     ("bench/compare.py", "measures for some minutes", "bench/compare.py --documents 1000 --runs 1 --searches 1"),
 )
