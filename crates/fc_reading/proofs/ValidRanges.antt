@@ -2,7 +2,7 @@
 use Rattle.std.specs.Prelude.{Bool}
 use Rattle.fc_spec.specs.documents.Schema.{Schema}
 use Rattle.fc_spec.specs.requests.Request.{Kind, terms, range, query, Nodes, no_nodes, statistic, facet, Request}
-use Rattle.fc_spec.specs.requests.ValidRequests.{IsValidKind, AreValidNodes, IsValidRequest}
+use Rattle.fc_spec.specs.requests.ValidRequests.{IsValidKind, AreValidNodes, IsSearchable}
 use Rattle.fc_refine.specs.CountableRanges.{IsCountable, AreCountable}
 
 kind_countable : (s : Schema) (inner : Nodes) (k : Kind) → IsValidKind s inner k → IsCountable k
@@ -15,5 +15,5 @@ nodes_countable s unmoved no_nodes valid = tt
 nodes_countable s unmoved (statistic name st rest) valid = nodes_countable s unmoved rest valid.1
 nodes_countable s unmoved (facet f inner rest) valid = (kind_countable s inner f.kind valid.0.kind, nodes_countable s _ inner valid.1, nodes_countable s unmoved rest valid.2)
 
-pub valid_are_countable : (s : Schema) (r : Request) → IsValidRequest s r → AreCountable r.nodes
+pub valid_are_countable : (s : Schema) (r : Request) → IsSearchable s r → AreCountable r.nodes
 valid_are_countable s r valid = nodes_countable s _ r.nodes valid.nodes

@@ -10,6 +10,7 @@ use Rattle.fc_spec.specs.requests.Request.{Request}
 use Rattle.fc_spec.specs.requests.Paths.{at_root}
 use Rattle.fc_spec.specs.requests.Shape.{no_limits}
 use Rattle.fc_spec.specs.requests.ValidRequests.{IsValidRequest}
+use Rattle.fc_spec.proofs.requests.Searchable.{searchable}
 use Rattle.fc_spec.specs.replies.Distributed.{distributed}
 use Rattle.fc_spec.specs.replies.Exact.{exact}
 use Rattle.fc_spec.specs.replies.Reply.{Bucket}
@@ -62,11 +63,11 @@ traced r W s es (sent, told, entries) ready = sym entries ∙ ap (map entry_of) 
 
 -- what a coordinator asks of a request, of one that is valid
 pub begins_well : (laws : AreReplyLaws) (r : Request) → (schema : Schema) × IsValidRequest schema r → AreCountable r.nodes × (terms_depth r.nodes + 1 < 2 ^ 32)
-begins_well laws r (schema, valid) = (laws.countable schema r valid, let few = laws.few schema r valid in omega (arith, few))
+begins_well laws r (schema, valid) = (laws.countable schema r (searchable schema r valid), let few = laws.few schema r (searchable schema r valid) in omega (arith, few))
 
 -- few terms facets stand around each other
 pub few_depths : (laws : AreTellingLaws) (request : code.Request) (gs : List (Arc Generated Global)) → All (λ g. IsValidRequest g.schema (request_view request)) (map (arc_value {X = Generated}) gs) → 1 ≤ length gs → terms_depth (request_view request).nodes ≤ 8
 few_depths laws request gs valid some =
     let long = length-map gs (arc_value {X = Generated}) in
     let schema = some_schema request (map (arc_value {X = Generated}) gs) valid (omega (arith, long, some)) in
-    laws.depths schema.0 (request_view request) schema.1
+    laws.depths schema.0 (request_view request) (searchable schema.0 (request_view request) schema.1)

@@ -1,7 +1,7 @@
 -- The laws that the promises of a search stand on.
 use Rattle.fc_spec.specs.documents.Schema.{Schema}
 use Rattle.fc_spec.specs.requests.Request.{Request}
-use Rattle.fc_spec.specs.requests.ValidRequests.{IsValidRequest}
+use Rattle.fc_spec.specs.requests.ValidRequests.{IsSearchable}
 use Rattle.fc_spec.specs.laws.Merging.{MergesIntoReply}
 use Rattle.fc_spec.specs.laws.RefinedPaths.{AreRefinedPathsExact}
 use Rattle.fc_spec.specs.laws.RequestLaws.{ValidAnswersNestLittle, ValidHaveFewDepths}
@@ -25,9 +25,9 @@ pub record AreTellingLaws : Type 0 where
   pub spelled : HasOneSpelling
   pub depths : ValidHaveFewDepths
 
--- of valid requests, and of what answers merge into
+-- of requests that are valid but for names, and of what answers merge into
 pub record AreReplyLaws : Type 0 where
-  pub countable : (s : Schema) (r : Request) → IsValidRequest s r → AreCountable r.nodes
+  pub countable : (s : Schema) (r : Request) → IsSearchable s r → AreCountable r.nodes
   pub few : ValidHaveFewDepths
   pub merges : MergesIntoReply
   pub refined : AreRefinedPathsExact

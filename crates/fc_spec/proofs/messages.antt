@@ -4,6 +4,10 @@ pub mod HeldAnswers
 pub mod HeldFurther
 pub mod KnownBuckets
 pub mod OfferedHeld
+pub mod ToldCounts
+pub mod TopsTold
+pub mod LeastCounts
+pub mod ReplacedDepth
 pub mod FixedBytes
 pub mod KeySpelling
 pub mod MessageSpelling
@@ -31,3 +35,5 @@ pub mod SearchesTellOnce
 pub mod TraceEntries
 pub mod MessageLengths
 pub mod ListedTraces
+pub mod ExactEntries
+pub mod WholeTraces

@@ -3,8 +3,13 @@ pub mod Unlimited
 pub mod OfferedValues
 pub mod Carried
 pub mod PrintedKeys
+pub mod ByOffers
 pub mod ExactPaths
+pub mod AlikePaths
+pub mod Replaced
+pub mod ReplacedValid
 pub mod NoLimits
+pub mod ExactTops
 pub mod RenumberedReply
 pub mod SingleIndex
 pub mod DistinctKeys

@@ -13,6 +13,8 @@ pub mod Together
 pub mod ValidChanges
 pub mod ValidKinds
 pub mod ValidNodes
+pub mod Searchable
+pub mod OnlyExact
 pub mod ValidStatistics
 pub mod ValidWalk
 pub mod RebuiltPaths

@@ -20,4 +20,7 @@ pub mod SumsLaw
 pub mod TraceLaws
 pub mod LiveLaws
 pub mod LiveSetLaws
+pub mod ReplacedLaw
+pub mod TopsLaw
 pub mod CertificateLaw
+pub mod TopRoundsLaw

@@ -11,4 +11,5 @@ pub mod TopRounds
 pub mod MessageBytes
 pub mod Nesting
 pub mod Trace
+pub mod WholeTrace
 pub mod Lengths

@@ -5,6 +5,8 @@ pub mod Exact
 pub mod Reading
 pub mod Chosen
 pub mod Distributed
+pub mod WithTops
 pub mod Replied
 pub mod Tops
+pub mod Restored
 pub mod Json

@@ -48,13 +48,18 @@ ghost use Rattle.fc_spec.specs.laws.QueryReadingLaw.{HasOneReading};
 ghost use Rattle.fc_spec.specs.laws.QuerySpellingLaw.{HasOneTree};
 ghost use Rattle.fc_spec.specs.laws.RebuiltPaths.{RebuiltArePlaces};
 ghost use Rattle.fc_spec.specs.laws.RefinedPaths.{AreRefinedPathsExact};
+ghost use Rattle.fc_spec.specs.laws.ReplacedLaw.{HasTopBuckets, ReplacedAreSearchable, ReplacedHaveNoExact, RestoresReply};
 ghost use Rattle.fc_spec.specs.laws.RequestLaws.{
   ReadAreValid,
   ReadAreValidWhole,
   ScriptsAskValid,
+  ValidAreNamedApart,
+  ExactAnswersNestLittle,
+  OnlyExactAreSearchable,
   ValidAnswersNestLittle,
   ValidHaveFewDepths,
   ValidHaveFewRounds,
+  ValidSortExactByCount,
 };
 ghost use Rattle.fc_spec.specs.laws.RoundsEnd.{NothingLacksBeyond, RoundsAnswer, RoundsAreFew, RoundsComplete, SearchesEnd};
 ghost use Rattle.fc_spec.specs.laws.ScheduleLaw.{PhasesGoOn, PinsAreLegal, RunsAreLegal};
@@ -64,7 +69,18 @@ ghost use Rattle.fc_spec.specs.laws.ShardAlone.{AnswersFromItsBlocks, ExactFromI
 ghost use Rattle.fc_spec.specs.laws.SortingLaw.{PagesAreCuts, RanksAreFronts, RestsKeepFronts, RestsKeepPages};
 ghost use Rattle.fc_spec.specs.laws.SpellingLaw.{HasOneSpelling};
 ghost use Rattle.fc_spec.specs.laws.SumsLaw.{AnswersFit};
-ghost use Rattle.fc_spec.specs.laws.TraceLaws.{EntriesAreIn, OrderOfWantsIsFree, TracesAscend, ValidTracesAreListed, ValidTracesAreWithin};
+ghost use Rattle.fc_spec.specs.laws.TopRoundsLaw.{LeastsAreSome, OnlyExactHasTops, RoundsTellTops, TopsAreTold};
+ghost use Rattle.fc_spec.specs.laws.TopsLaw.{AreByOffers, AreTopPathsExact, AreTopsExact, IsExactWithTops, IsSingleWithTops};
+ghost use Rattle.fc_spec.specs.laws.TraceLaws.{
+  EntriesAreIn,
+  OrderOfWantsIsFree,
+  TracesAscend,
+  ValidTracesAreListed,
+  ValidTracesAreWithin,
+  ValidWholeTracesAreListed,
+  ValidWholeTracesAreWithin,
+  WholeTracesAscend,
+};
 ghost use Rattle.fc_spec.specs.laws.WithoutLimits.{
   IsExactOverSingle,
   IsExactWithoutLimits,
@@ -97,6 +113,17 @@ pub fn refined_paths_are_exact()
     ensures { AreRefinedPathsExact }
 {}
 
+/// Outermost facets that are exact, or have no limit, print the values, counts and statistics of a single index over their
+/// own domain, and at refined paths buckets are exact over all shards. Where none is exact, that is the distributed reply; and
+/// without limits it is the exact reply over the same world, and that of a single index.
+pub fn tops_are_exact()
+    ensures tops { AreTopsExact }
+    ensures paths { AreTopPathsExact }
+    ensures offers { AreByOffers }
+    ensures same_world { IsExactWithTops }
+    ensures single_index { IsSingleWithTops }
+{}
+
 /// The top values are among those that shards list down to a share of a count that is told, whatever they told first. A
 /// page of values is the same without those that are not listed, where a count certifies that enough are; a share is enough
 /// for that, and the count of a rank is reached. Where the greatest count comes first, nested statistics play no part.
@@ -106,6 +133,26 @@ pub fn top_values_are_certified()
     ensures ranks { RanksAreReached }
     ensures listed { TopsAreListed }
     ensures counts { TopsLookAtCounts }
+{}
+
+/// Three rounds of answers, each asked by what was told before, tell the top values of exact facets, in whatever order the
+/// messages of a round come. The exact facets alone have the top values that they have in the whole request. No count that
+/// shards are asked for is 0, where none was told.
+pub fn rounds_tell_tops()
+    ensures told { TopsAreTold }
+    ensures rounds { RoundsTellTops }
+    ensures alone { OnlyExactHasTops }
+    ensures some { LeastsAreSome }
+{}
+
+/// A request with query facets in the place of exact ones, one for each bucket that they print, has their buckets; none of its
+/// outermost facets is exact. Where no two statistics have one name, the reply can be put together again from its reply. Over
+/// documents of the schema it is valid but for names, where the request is valid.
+pub fn exact_facets_are_replaced()
+    ensures buckets { HasTopBuckets }
+    ensures restored { RestoresReply }
+    ensures no_exact { ReplacedHaveNoExact }
+    ensures searchable { ReplacedAreSearchable }
 {}
 
 /// A shard's answer is made from its own blocks, and its number plays no part.
@@ -218,6 +265,13 @@ pub fn traces_are_maps()
     ensures wants { OrderOfWantsIsFree }
 {}
 
+/// So it is with the rounds that find what exact facets print, of which there are three at most.
+pub fn whole_traces_are_maps()
+    ensures ascend { WholeTracesAscend }
+    ensures within { ValidWholeTracesAreWithin }
+    ensures listed { ValidWholeTracesAreListed }
+{}
+
 /// No two trees of query texts have the same tokens.
 pub fn query_trees_have_one_spelling()
     ensures { HasOneTree }
@@ -247,15 +301,26 @@ pub fn bases_are_rebuilt()
     ensures { RebuiltArePlaces }
 {}
 
-/// A search of a valid request has at most nine rounds, since at most eight terms facets stand around each other.
+/// In a valid request exact facets are sorted by count, the greatest first, and no two statistics of the root have one name; and the request of
+/// its exact facets alone is valid but for names.
+pub fn valid_requests_sort_exact_by_count()
+    ensures sorted { ValidSortExactByCount }
+    ensures apart { ValidAreNamedApart }
+    ensures alone { OnlyExactAreSearchable }
+{}
+
+/// A search has at most nine rounds, since at most eight terms facets stand around each other, where the request is valid but
+/// for names.
 pub fn valid_requests_have_few_rounds()
     ensures depths { ValidHaveFewDepths }
     ensures rounds { ValidHaveFewRounds }
 {}
 
-/// The messages that answer a valid request nest at most nine deep, the depth that bytes of messages can spell.
+/// The messages that answer a request nest at most nine deep, the depth that bytes of messages can spell, where the request is
+/// valid but for names; those of the rounds of exact facets too.
 pub fn valid_answers_nest_little()
-    ensures { ValidAnswersNestLittle }
+    ensures answers { ValidAnswersNestLittle }
+    ensures exact { ExactAnswersNestLittle }
 {}
 
 /// Whatever the schedule of commits and pins, what the searches of a session pin is legal.

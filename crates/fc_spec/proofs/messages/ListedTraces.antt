@@ -5,7 +5,7 @@ use Rattle.std.proofs.lemmas.Bool.{eqb-true}
 use Rattle.fc_spec.specs.words.Lists.{numbers_below}
 use Rattle.fc_spec.specs.messages.Trace.{Sent, trace}
 use Rattle.fc_spec.specs.messages.Lengths.{Lengths, entries_up_to, entry_of_length, is_of, no_lengths, put_all}
-use Rattle.fc_spec.specs.laws.TraceLaws.{StandsBefore, ValidTracesAreListed, AreIn}
+use Rattle.fc_spec.specs.laws.TraceLaws.{Ascend, StandsBefore, ValidTracesAreListed, AreIn}
 use Rattle.fc_spec.proofs.words.Members.{Member, each_member}
 use Rattle.fc_spec.proofs.words.AlikeLists.{member_flat_map}
 use Rattle.fc_spec.proofs.words.NumbersBelow.{member_below}
@@ -133,23 +133,30 @@ found m e at (f ∷ es) each = go (f.round == e.round) (f.shard == e.shard) refl
     go false b r s (inl none) = inl (ap (λ x. x && (f.shard == e.shard)) r, none)
     go false b r s (inr there) = inr (inr there)
 
-pub valid_traces_are_listed : ValidTracesAreListed
-valid_traces_are_listed s r W rounds shards valid high near =
-    one_list (entries_up_to rounds shards m) (trace r W) (listed_ascend rounds shards m) (pairs_differ StandsBefore (trace r W) (traces_ascend r W)) (
-      λ e there. go e there (found m e (listed_is rounds shards m e there).1 (trace r W) all.each),
+-- entries that ascend, of so many rounds and shards
+pub listed_again : (es : List Sent) (rounds shards : ℕ) → Ascend es → AllByRecursion (λ e. (1 ≤ e.round) × (e.round ≤ rounds) × (e.shard < shards)) es → entries_up_to rounds shards (put_all es no_lengths) ≡ es
+listed_again es rounds shards ascend within =
+    one_list (entries_up_to rounds shards m) es (listed_ascend rounds shards m) (pairs_differ StandsBefore es ascend) (
+      λ e there. go e there (found m e (listed_is rounds shards m e there).1 es all.each),
       λ e there.
-          let within = each_member (λ f. (1 ≤ f.round) × (f.round ≤ 9) × (f.shard < length W)) (trace r W) e (valid_traces_are_within s r W valid) there in
-          let few = within.1 in
-          let below = within.2 in
-          is_listed rounds shards m e within.0 (omega (arith, few, high)) (omega (arith, below, near)) (each_member (λ f. m f.round f.shard ≡ Some f.length) (trace r W) e all.each there),
+          let is = each_member (λ f. (1 ≤ f.round) × (f.round ≤ rounds) × (f.shard < shards)) es e within there in
+          is_listed rounds shards m e is.0 is.1 is.2 (each_member (λ f. m f.round f.shard ≡ Some f.length) es e all.each there),
     )
   where
     m : Lengths
-    m = put_all (trace r W) no_lengths
+    m = put_all es no_lengths
 
-    all : AreIn (trace r W) no_lengths m
-    all = entries_are_in (trace r W) no_lengths (traces_ascend r W)
+    all : AreIn es no_lengths m
+    all = entries_are_in es no_lengths ascend
 
-    go : (e : Sent) → Member e (entries_up_to rounds shards m) → AllByRecursion (λ f. is_of e.round e.shard f ≡ false) (trace r W) ⊎ Member e (trace r W) → Member e (trace r W)
+    go : (e : Sent) → Member e (entries_up_to rounds shards m) → AllByRecursion (λ f. is_of e.round e.shard f ≡ false) es ⊎ Member e es → Member e es
     go e there (inr m) = m
-    go e there (inl none) = absurd (let both = sym (listed_is rounds shards (put_all (trace r W) no_lengths) e there).1 ∙ all.others e.round e.shard none in cc)
+    go e there (inl none) = absurd (let both = sym (listed_is rounds shards (put_all es no_lengths) e there).1 ∙ all.others e.round e.shard none in cc)
+
+-- within further bounds
+pub within_more : (es : List Sent) (a b c d : ℕ) → a ≤ c → b ≤ d → AllByRecursion (λ e. (1 ≤ e.round) × (e.round ≤ a) × (e.shard < b)) es → AllByRecursion (λ e. (1 ≤ e.round) × (e.round ≤ c) × (e.shard < d)) es
+within_more [] a b c d h k all = tt
+within_more (e ∷ es) a b c d h k all = ((all.0.0, (let most : e.round ≤ a = all.0.1 in omega arith), (let below : e.shard < b = all.0.2 in omega arith)), within_more es a b c d h k all.1)
+
+pub valid_traces_are_listed : ValidTracesAreListed
+valid_traces_are_listed s r W rounds shards valid high near = listed_again (trace r W) rounds shards (traces_ascend r W) (within_more (trace r W) 9 (length W) rounds shards high near (valid_traces_are_within s r W valid))

@@ -11,6 +11,7 @@ use Rattle.fc_spec.specs.messages.Rounds.{SentMessage, told_in, next_lacks, want
 use Rattle.fc_spec.specs.messages.Trace.{Sent, entry_of, trace}
 use Rattle.fc_spec.specs.messages.Lengths.{Lengths, is_of, put, put_all}
 use Rattle.fc_spec.specs.laws.TraceLaws.{StandsBefore, TracesAscend, ValidTracesAreWithin, EntriesAreIn}
+use Rattle.fc_spec.proofs.requests.Searchable.{searchable}
 use Rattle.fc_spec.proofs.requests.ValidNodes.{valid_have_few_rounds}
 use Rattle.fc_spec.proofs.words.Members.{Member, all_from_members, each_member, filter_member}
 use Rattle.fc_spec.proofs.words.AlikeLists.{member_map}
@@ -70,7 +71,7 @@ traces_ascend r W = differ_pairs StandsBefore (trace r W) (differ_map ComesBefor
 
 -- ---- shards that are there
 
-abbrev IsShard : ℕ → SentMessage → Type 0
+abbrev pub IsShard : ℕ → SentMessage → Type 0
 IsShard n s = s.shard < n
 
 shards_from : (r : Request) (W : World) (left round : ℕ) (sent : List SentMessage) → AllByRecursion (IsShard (length W)) sent → AllByRecursion (IsShard (length W)) (rounds_from r W left round sent)
@@ -91,7 +92,7 @@ shards_from r W (suc left) round sent all = go (is_empty next) (shards_from r W 
     go true ih = all
     go false ih = ih
 
-shards_are_there : (r : Request) (W : World) → AllByRecursion (IsShard (length W)) (search_rounds r W)
+pub shards_are_there : (r : Request) (W : World) → AllByRecursion (IsShard (length W)) (search_rounds r W)
 shards_are_there r W =
     shards_from r W (terms_depth r.nodes) 2 (first_round r W) (all_from_members (IsShard (length W)) (first_round r W) (λ s m.
     let from = member_map (λ i. sent_by r W 1 i first) (numbers_below (length W)) s m in
@@ -104,7 +105,7 @@ both_hold n [] rounds shards = tt
 both_hold n (s ∷ ss) rounds shards = ((rounds.0.0, rounds.0.1, shards.0), both_hold n ss rounds.1 shards.1)
 
 pub valid_traces_are_within : ValidTracesAreWithin
-valid_traces_are_within s r W valid = both_hold (length W) (search_rounds r W) (valid_have_few_rounds s r W valid) (shards_are_there r W)
+valid_traces_are_within s r W valid = both_hold (length W) (search_rounds r W) (valid_have_few_rounds s r W (searchable s r valid)) (shards_are_there r W)
 
 -- ---- entries that are put in
 

@@ -1,26 +1,30 @@
 -- Refined paths are exact: by recursion over the request's nodes.
-use Rattle.std.proofs.Common.{◌≡◌, ℕ, suc, List, [], ◌∷◌, length, Bool, true, false, ◌&&◌, ◌==◌, refl, ◌∙◌, ap, inl, inr, IsTrue}
+use Rattle.std.proofs.Common.{◌≡◌, ℕ, suc, List, [], ◌∷◌, length, Bool, true, false, ◌&&◌, ◌==◌, refl, sym, ◌∙◌, ap, subst, inl, inr, IsTrue}
 use Rattle.std.proofs.lemmas.Bool.{and_parts}
 use Rattle.fc_spec.specs.documents.Val.{Text}
 use Rattle.fc_spec.specs.words.Lists.{is_empty, numbers_below}
 use Rattle.fc_spec.specs.documents.World.{World, Place, places, on_shards}
-use Rattle.fc_spec.specs.requests.Request.{Kind, terms, range, query, DomainChange, Facet, Nodes, no_nodes, statistic, facet, Request}
-use Rattle.fc_spec.specs.requests.Buckets.{Key, whole, is_key_of, bucket_places}
+use Rattle.fc_spec.specs.requests.Request.{Kind, terms, range, query, DomainChange, Facet, Nodes, no_nodes, statistic, facet, Request, stats_of}
+use Rattle.fc_spec.specs.requests.Buckets.{Key, whole, is_key_of, in_bucket, bucket_places}
 use Rattle.fc_spec.specs.requests.Statistics.{value_over, shown}
 use Rattle.fc_spec.specs.replies.Reply.{bucket, Facets, spot_of, val_of, row_of, with_buckets}
 use Rattle.fc_spec.specs.replies.Printed.{statistic_part, facet_part}
-use Rattle.fc_spec.specs.requests.Paths.{Path, at_root, into, domain, path_places, is_refined}
+use Rattle.fc_spec.specs.requests.Paths.{Path, at_root, into, domain, places_inside, path_places, is_refined}
+use Rattle.fc_spec.specs.replies.Exact.{exact_keys}
 use Rattle.fc_spec.specs.replies.Distributed.{carried, printed_keys, dist_buckets, dist_facets}
+use Rattle.fc_spec.specs.replies.WithTops.{root_buckets, root_facets}
+use Rattle.fc_spec.specs.laws.TopsLaw.{AreTopPathsExact}
 use Rattle.fc_spec.specs.laws.RefinedPaths.{IsBucketOf, IsSomeBucketOf, AreBucketsOf, IsFacetOf, AreFacetsOf, AreRefinedPathsExact}
-use Rattle.fc_spec.proofs.replies.PrintedKeys.{every_printed_key}
+use Rattle.fc_spec.proofs.replies.PrintedKeys.{every_exact_key, every_printed_key}
+use Rattle.fc_spec.proofs.replies.ByOffers.{root_inside, exact_root, offered_root}
 use Rattle.fc_spec.specs.requests.Base.{root_domain, meets_base}
-use Rattle.fc_spec.specs.requests.Shape.{is_refining, no_exclusions}
+use Rattle.fc_spec.specs.requests.Shape.{is_exact, is_refining, no_exclusions}
 use Rattle.fc_spec.specs.replies.Reading.{Reading, over_places}
 use Rattle.fc_spec.proofs.words.Members.{Every, every_filter}
 use Rattle.fc_spec.proofs.documents.Shards.{is_on, every_on_shards, on_shards_every}
 use Rattle.fc_spec.proofs.documents.AllShards.{every_place_on}
 use Rattle.fc_spec.proofs.replies.PathBuckets.{at_path, in_path}
-use Rattle.fc_spec.proofs.replies.Carried.{AreAllowed, IsAllowed, domain_is, carries_all, carried_holds}
+use Rattle.fc_spec.proofs.replies.Carried.{AreAllowed, IsAllowed, allowed_domain, domain_is, carries_all, carried_holds}
 
 -- the change of the first facet of allowed nodes, and the nodes after it
 pub first_allowed : (W : World) (H : List ℕ) (f : Facet) (inner rest : Nodes) → AreAllowed W H (facet f inner rest) → IsAllowed W H f.change
@@ -116,6 +120,54 @@ facets_exact r W (facet f inner rest) n m H path X allowed e =
 -- the root's bucket, over all shards
 pub root_is : (r : Request) (W : World) → on_shards (numbers_below (length W)) (root_domain r W) ≡ root_domain r W
 root_is r W = on_shards_every (numbers_below (length W)) (root_domain r W) (every_filter (is_on (numbers_below (length W))) (λ p. meets_base r [] p.document) (places W) (every_place_on W))
+
+-- the facets of the root, exact ones among them
+module _ (r : Request) (W : World) where
+  abbrev H : List ℕ
+  H = numbers_below (length W)
+
+  abbrev X : List Place
+  X = root_domain r W
+
+  -- a bucket of a facet whose domain is the path's, on all shards
+  pub on_all : (f : Facet) (k : Key) → on_shards H (places_inside r W at_root f k X) ≡ places_inside r W at_root f k X
+  on_all f k =
+      let root_on = subst (Every (is_on H)) (root_is r W) (every_on_shards H X) in
+      on_shards_every H (places_inside r W at_root f k X) (every_filter (is_on H) (λ p. in_bucket f.kind k p.document) (domain r W at_root f.change X) (allowed_domain r W at_root f.change H X (inr refl) root_on))
+
+  -- what a facet prints: by cases on its being exact
+  printed_exact : (n : ℕ) (f : Facet) (inner rest : Nodes) (more : Facets) → (b : Bool) → is_exact f.kind ≡ b
+      → IsFacetOf r W at_root f f.kind (λ k facets. AreFacetsOf r W inner (into at_root f k) facets) (root_buckets r W n f inner (root_inside r W inner) more) more
+  printed_exact n f inner rest more true e =
+      let Y = domain r W at_root f.change X in
+      subst (λ printed. IsFacetOf r W at_root f f.kind (λ k facets. AreFacetsOf r W inner (into at_root f k) facets) printed more) (sym (exact_root r W n f inner (root_inside r W inner) more e))
+      (facet_exact r W at_root f.name f.change f.kind (λ k facets. AreFacetsOf r W inner (into at_root f k) facets) (λ k. length (bucket_places f.kind k Y)) (λ k. facets_on r W inner 0 0 H (into at_root f k) (bucket_places f.kind k Y))
+      (exact_keys f.kind (stats_of inner) Y) more (every_exact_key f.kind (stats_of inner) Y)
+      (λ k refined. (refl, facets_exact r W inner 0 0 H (into at_root f k) (bucket_places f.kind k Y) (inr refl) (on_all f k))))
+  printed_exact n f inner rest more false e =
+      let Y = in_path at_root f (dist_domain r W at_root f H X) in
+      let K = λ (k : Key). dist_shards r W at_root f inner H X k in
+      let P = λ (k : Key). bucket_places f.kind k Y.places in
+      let is = part_is r W at_root f inner H X X (inr refl) (root_is r W) in
+      subst (λ printed. IsFacetOf r W at_root f f.kind (λ k facets. AreFacetsOf r W inner (into at_root f k) facets) printed more) (sym (offered_root r W n f inner (root_inside r W inner) more e))
+      (facet_exact r W at_root f.name f.change f.kind (λ k facets. AreFacetsOf r W inner (into at_root f k) facets) (λ k. length (on_shards (K k) (P k))) (λ k. facets_on r W inner 0 0 (K k) (into at_root f k) (P k))
+      (printed_keys (over_places r W) f.kind inner H Y) more (every_printed_key r W f.kind inner H Y)
+      (λ k refining. (ap length (is refining k), facets_exact r W inner 0 0 (K k) (into at_root f k) (P k) (inner_allowed (over_places r W) W H f inner rest Y k refining (inr refl)) (is refining k))))
+
+  root_exact : (nodes : Nodes) (n m : ℕ) → AreFacetsOf r W nodes at_root (root_facets r W nodes n m)
+  root_exact no_nodes n m = refl
+  root_exact (statistic name s rest) n m = (_, ap (λ Q. statistic_part (length Q == 0) name (shown (value_over s Q)) (root_facets r W rest (suc n) (suc m))) (root_is r W), root_exact rest (suc n) (suc m))
+  root_exact (facet f inner rest) n m =
+      let more = root_facets r W rest (suc n) m in (
+        root_buckets r W n f inner (root_inside r W inner) more,
+        more,
+        ap (λ Q. facet_part (length Q == 0) f (root_buckets r W n f inner (root_inside r W inner) more) more) (root_is r W),
+        printed_exact n f inner rest more (is_exact f.kind) refl,
+        root_exact rest (suc n) m,
+      )
+
+pub top_paths : AreTopPathsExact
+top_paths r W = (refl, (ap length (root_is r W), root_exact r W r.nodes 0 0))
 
 pub refined_paths : AreRefinedPathsExact
 refined_paths r W =

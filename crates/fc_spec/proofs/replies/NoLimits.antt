@@ -22,13 +22,13 @@ use Rattle.fc_spec.proofs.replies.Carried.{AreAllowed, no_limit_is_None, domain_
 use Rattle.fc_spec.proofs.replies.PathBuckets.{in_path}
 use Rattle.fc_spec.proofs.replies.ExactPaths.{dist_domain, facets_on, part_is, first_allowed, rest_allowed, inner_allowed, root_is}
 
-unlimited_refines : (kind : Kind) → has_no_limit kind ≡ true → is_refining kind ≡ true
+pub unlimited_refines : (kind : Kind) → has_no_limit kind ≡ true → is_refining kind ≡ true
 unlimited_refines (terms t) h = or_right t.refine (is_none t.limit) h
 unlimited_refines (range g) h = refl
 unlimited_refines (query q) h = refl
 
 -- the keys printed over places on the shards are those of a single index
-keys_are : (r : Request) (W : World) (kind : Kind) (inner : Nodes) (H : List ℕ) (Y : PathDomain) → has_no_limit kind ≡ true → Every (is_on H) Y.places → printed_keys (over_places r W) kind inner H Y ≡ exact_keys kind (stats_of inner) Y.places
+pub keys_are : (r : Request) (W : World) (kind : Kind) (inner : Nodes) (H : List ℕ) (Y : PathDomain) → has_no_limit kind ≡ true → Every (is_on H) Y.places → printed_keys (over_places r W) kind inner H Y ≡ exact_keys kind (stats_of inner) Y.places
 keys_are r W (terms t) inner H Y h on = ap (terms_keys t) (chosen_entries_all r W t inner H Y (no_limit_is_None t.limit h) on)
 keys_are r W (range g) inner H Y h on = refl
 keys_are r W (query q) inner H Y h on = refl

@@ -6,6 +6,8 @@ use Rattle.fc_spec.specs.words.Lists.{joined}
 use Rattle.fc_spec.specs.documents.World.{World}
 use Rattle.fc_spec.specs.requests.Request.{Request}
 use Rattle.fc_spec.specs.replies.Exact.{exact}
+use Rattle.fc_spec.specs.laws.TopsLaw.{IsExactWithTops, IsSingleWithTops}
+use Rattle.fc_spec.proofs.replies.ByOffers.{made_by_offers, no_limits_no_exact}
 use Rattle.fc_spec.specs.laws.WithoutLimits.{IsExactOverSingle, IsSingleWithoutLimits}
 use Rattle.fc_spec.proofs.documents.Renumbered.{Renumbering}
 use Rattle.fc_spec.proofs.replies.RenumberedReply.{exact_renumbered}
@@ -36,3 +38,10 @@ exact_over_single r (A ∷ rest) = first_joined r A rest
 -- without limits the distributed reply is that of the single index
 pub single_without_limits : IsSingleWithoutLimits
 single_without_limits r W unlimited = exact_without_limits r W unlimited ∙ exact_over_single r W
+
+-- so is the reply with top buckets, of which none is exact
+pub exact_with_tops : IsExactWithTops
+exact_with_tops r W unlimited = made_by_offers r W (no_limits_no_exact r.nodes unlimited) ∙ exact_without_limits r W unlimited
+
+pub single_with_tops : IsSingleWithTops
+single_with_tops r W unlimited = made_by_offers r W (no_limits_no_exact r.nodes unlimited) ∙ single_without_limits r W unlimited

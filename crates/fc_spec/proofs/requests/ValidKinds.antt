@@ -1,5 +1,5 @@
 -- The terms and range facets that are read are valid for the schema.
-use Rattle.std.proofs.Common.{◌≡◌, refl, ℕ, ◌<◌, ◌≤◌, ◌^◌, ℤ, pos, negsuc, [], length, Bool, true, false, cond, ◌&&◌, not, Option, None, Some, IfSome, IfOk, ok_or, arith}
+use Rattle.std.proofs.Common.{◌≡◌, refl, sym, ◌∙◌, ℕ, ◌<◌, ◌≤◌, ◌^◌, ℤ, pos, negsuc, [], length, Bool, true, false, cond, ◌&&◌, not, Option, None, Some, IfSome, IfOk, ok_or, arith}
 use Rattle.std.specs.Prelude.{codes, ◌≤ℤ◌, ◌<ℤ◌, int_lt, nat_lt, nat_le, unsigned_abs}
 use Rattle.std.proofs.lemmas.Bool.{leb-true, ltb-false}
 use Rattle.std.proofs.lemmas.Bool.Decides.{nat_tests}
@@ -8,6 +8,7 @@ use Rattle.fc_spec.specs.requests.DomainReading.{text_query}
 use Rattle.serde_json.specs.Data.{Num, unsigned, negative, float, Data, null, boolean, number, string, array, object, Members}
 use Rattle.serde_json.specs.Find.{get_member, as_i64}
 use Rattle.fc_spec.specs.documents.Val.{Text}
+use Rattle.std.proofs.lemmas.Bool.{false≢true}
 use Rattle.fc_spec.specs.documents.Schema.{Schema, field_named, holds_texts}
 use Rattle.fc_spec.specs.documents.IntegerTexts.{is_long}
 use Rattle.fc_spec.specs.requests.Request.{Terms, Sort, Nodes, no_nodes, Kind}
@@ -88,11 +89,15 @@ prefix_in_valid s field d = whatever (IsPrefix s field) (text_in d) _ (λ t. goi
 up_to : (low default : ℤ) (name : Text) (ms : Members) → IsWithin low (pos 1_000_000) default → IfOk (optional name (up_to_a_million low) default ms) (IsWithin low (pos 1_000_000))
 up_to low default name ms h = if_there (IsWithin low (pos 1_000_000)) (up_to_a_million low) default (get_member name ms) h (within low (pos 1_000_000))
 
--- valid by itself, as its sort stands
-pub parts_valid : (s : Schema) (ms : Members) → IfOk (terms_parts s ms) (IsValidTerms s no_nodes)
+-- valid by itself, as its sort stands, and not refined exactly
+pub record AreValidParts (s : Schema) (t : Terms) : Type 0 where
+  pub valid : IsValidTerms s no_nodes t
+  pub not_exact : t.exact ≡ false
+
+pub parts_valid : (s : Schema) (ms : Members) → IfOk (terms_parts s ms) (AreValidParts s)
 unfolding IsPrefix
 parts_valid s ms =
-    let P = IsValidTerms s no_nodes in
+    let P = AreValidParts s in
     going_on P (λ n. n < length s.fields) (required (codes "field") (field_in s) ms) _ (needed (λ n. n < length s.fields) (codes "field") (field_in s) ms (field_in_valid s))
     (λ field h. going_on P (IsWithin (pos 0) (pos 1_000_000)) (optional (codes "offset") (up_to_a_million (pos 0)) (pos 0) ms) _ (up_to (pos 0) (pos 0) (codes "offset") ms refl)
     (λ offset o. going_on P (IsWithin (negsuc 0) (pos 1_000_000)) (optional (codes "limit") (up_to_a_million (negsuc 0)) (pos 10) ms) _ (up_to (negsuc 0) (pos 10) (codes "limit") ms refl)
@@ -104,31 +109,36 @@ parts_valid s ms =
     (λ overrequest a. going_on P (IsWithin (negsuc 0) (pos 1_000_000)) (optional (codes "overrefine") (up_to_a_million (negsuc 0)) (negsuc 0) ms) _ (up_to (negsuc 0) (negsuc 0) (codes "overrefine") ms refl)
     (λ overrefine b. whatever P (optional (codes "method") text_in [] ms) _
     (λ method. record {
-      field = h;
-      offset = from_zero offset o;
-      limit = limit_few limit l;
-      sort = tt;
-      mincount = (from_one mincount m).0;
-      few = (from_one mincount m).1;
-      prefix = p;
-      overrequest = over_few (limit_from limit) overrequest (limit_few limit l) a;
-      overrefine = over_few (limit_from limit) overrefine (limit_few limit l) b;
-      unlimited = λ e. (no_over (limit_from limit) overrequest e, no_over (limit_from limit) overrefine e);
+      not_exact = refl;
+      valid = record {
+        field = h;
+        offset = from_zero offset o;
+        limit = limit_few limit l;
+        sort = tt;
+        mincount = (from_one mincount m).0;
+        few = (from_one mincount m).1;
+        prefix = p;
+        overrequest = over_few (limit_from limit) overrequest (limit_few limit l) a;
+        overrefine = over_few (limit_from limit) overrefine (limit_few limit l) b;
+        unlimited = λ e. (no_over (limit_from limit) overrequest e, no_over (limit_from limit) overrefine e);
+        exact = λ e. absurd (false≢true e);
+      };
     }))))))))))
 
 -- and with a sort by what stands under it
-pub terms_valid : (s : Schema) (inner : Nodes) (t : Terms) (sort : Sort) → IsValidTerms s no_nodes t → NamesItsStatistic inner sort → IsValidTerms s inner (record t { sort = sort })
+pub terms_valid : (s : Schema) (inner : Nodes) (t : Terms) (sort : Sort) → AreValidParts s t → NamesItsStatistic inner sort → IsValidTerms s inner (record t { sort = sort })
 terms_valid s inner t sort h k = record {
-  field = h.field;
-  offset = h.offset;
-  limit = h.limit;
+  field = (h.valid).field;
+  offset = (h.valid).offset;
+  limit = (h.valid).limit;
   sort = k;
-  mincount = h.mincount;
-  few = h.few;
-  prefix = h.prefix;
-  overrequest = h.overrequest;
-  overrefine = h.overrefine;
-  unlimited = h.unlimited;
+  mincount = (h.valid).mincount;
+  few = (h.valid).few;
+  prefix = (h.valid).prefix;
+  overrequest = (h.valid).overrequest;
+  overrefine = (h.valid).overrefine;
+  unlimited = (h.valid).unlimited;
+  exact = λ e. absurd (false≢true (sym h.not_exact ∙ e));
 }
 
 -- ---- ranges

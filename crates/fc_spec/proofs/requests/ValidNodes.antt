@@ -1,19 +1,30 @@
--- The terms facets, answers and rounds of valid nodes are no deeper than they are.
-use Rattle.std.proofs.Common.{ℕ, zero, suc, ◌+◌, ◌≤◌, max, List, [], ◌∷◌, Option, None, Some, arith}
+-- The terms facets, answers and rounds of valid nodes are no deeper than they are; their exact facets are sorted by count, and their names differ.
+use Rattle.std.proofs.Common.{◌≡◌, refl, ap, ℕ, zero, suc, ◌+◌, ◌≤◌, max, List, [], ◌∷◌, Bool, true, false, ◌||◌, Option, None, Some, IsTrue, ◌∙◌, arith}
 use Rattle.std.specs.List.{AllByRecursion}
+use Rattle.std.specs.List.Sorted.{IsStrictlySortedBy}
+use Rattle.std.specs.Ordering.{is_eq}
+use Rattle.std.specs.declared.cmp.Ordering.TheVariants.{Less}
+use Rattle.std.proofs.lemmas.Bool.{and_parts}
+use Rattle.fc_spec.specs.documents.Schema.{Schema}
+use Rattle.fc_spec.specs.documents.Val.{Text, text_cmp}
 use Rattle.fc_spec.specs.documents.World.{World, Place, on_shards}
 use Rattle.fc_spec.specs.requests.Request.{Kind, terms, range, query, Facet, Nodes, no_nodes, statistic, facet, Request, stats_of}
 use Rattle.fc_spec.specs.requests.Buckets.{Key, whole, bucket_places}
 use Rattle.fc_spec.specs.requests.Paths.{Path, at_root, into}
 use Rattle.fc_spec.specs.requests.Statistics.{Stats, stats_over}
-use Rattle.fc_spec.specs.requests.ValidRequests.{node_depth}
+use Rattle.fc_spec.specs.requests.ValidRequests.{IsValidKind, AreValidNodes, node_depth, node_names}
+use Rattle.fc_spec.specs.requests.Shape.{has_limit, is_exact}
 use Rattle.fc_spec.specs.messages.Lacks.{own_depth, terms_depth}
 use Rattle.fc_spec.specs.messages.Message.{Partials, no_partials, Rows, Way, Want, way_of, Ask, first, more}
 use Rattle.fc_spec.specs.messages.Target.{Target, leads_nowhere, leads_to, target_nodes, target_path, target_places, target_in, target_from, target_of, facet_at, nodes_in}
 use Rattle.fc_spec.specs.messages.Answer.{answer_rows, answer, partials_of, answer_keys, answer_domain, answer_bucket, answer_wants}
 use Rattle.fc_spec.specs.messages.Nesting.{nesting, rows_nesting}
+use Rattle.fc_spec.specs.messages.TopRounds.{exact_first, exact_least, exact_more, least_rows, least_keys, first_number, later_numbers}
+use Rattle.fc_spec.specs.requests.Base.{root_domain}
 use Rattle.fc_spec.specs.messages.Rounds.{SentMessage, search_rounds}
-use Rattle.fc_spec.specs.laws.RequestLaws.{ValidHaveFewDepths, ValidHaveFewRounds, ValidAnswersNestLittle}
+use Rattle.fc_spec.specs.laws.ReplacedLaw.{has_statistic, AreNamedApart}
+use Rattle.fc_spec.specs.laws.TopRoundsLaw.{IsTopKind, SortExactByCount}
+use Rattle.fc_spec.specs.laws.RequestLaws.{ValidSortExactByCount, ValidAreNamedApart, ValidHaveFewDepths, ValidHaveFewRounds, ValidAnswersNestLittle, ExactAnswersNestLittle}
 use Rattle.fc_spec.proofs.messages.SearchEnds.{rounds_are_few}
 
 -- ---- rounds
@@ -98,3 +109,52 @@ answers_nest r W i (more wants) shallow = wants_nest r W i wants shallow
 
 pub valid_answers_nest_little : ValidAnswersNestLittle
 valid_answers_nest_little s r W i ask h = answers_nest r W i ask h.depth
+
+-- the values from a count on are in rows that nest no deeper
+leasts_nest : (r : Request) (W : World) (i : ℕ) (nodes : Nodes) (ns : List ℕ) (X : List Place) → rows_nesting (least_rows r W i nodes ns X) ≤ node_depth nodes
+leasts_nest r W i no_nodes ns X = omega arith
+leasts_nest r W i (statistic name st rest) ns X = let h = leasts_nest r W i rest ns X in omega arith
+leasts_nest r W i (facet f inner rest) ns X =
+    let Y = answer_domain r W i at_root f X in
+    both_within _ _ _ _
+    (partials_nest (λ k. stats_over (stats_of inner) (bucket_places f.kind k Y)) (λ k. answer_rows r W i (into at_root f k) inner (bucket_places f.kind k Y)) (node_depth inner) (λ k. rows_nest r W i (into at_root f k) inner (bucket_places f.kind k Y))
+    (least_keys f.kind inner (first_number ns) Y i))
+    (leasts_nest r W i rest (later_numbers ns) X)
+
+pub exact_answers_nest_little : ExactAnswersNestLittle
+exact_answers_nest_little s x W i exact_first h = answers_nest x W i first h.depth
+exact_answers_nest_little s x W i (exact_more wants) h = answers_nest x W i (more wants) h.depth
+exact_answers_nest_little s x W i (exact_least ns) h =
+    let X = on_shards (i ∷ []) (root_domain x W) in
+    let inside : rows_nesting (least_rows x W i x.nodes ns X) ≤ node_depth x.nodes = leasts_nest x W i x.nodes ns X in
+    let d = h.depth in omega arith
+
+-- ---- exact facets
+
+top_kind : (s : Schema) (inner : Nodes) (kind : Kind) → IsValidKind s inner kind → IsTrue (is_exact kind) → IsTopKind kind
+top_kind s inner (terms t) valid h = (h, (valid.exact (and_parts t.exact (has_limit t) h).0).1)
+top_kind s inner (range g) valid h = absurd cc
+top_kind s inner (query q) valid h = absurd cc
+
+sorted_by_count : (s : Schema) (unmoved : Bool) (nodes : Nodes) → AreValidNodes s unmoved nodes → SortExactByCount nodes
+sorted_by_count s unmoved no_nodes h = tt
+sorted_by_count s unmoved (statistic name st rest) h = sorted_by_count s unmoved rest h.1
+sorted_by_count s unmoved (facet f inner rest) h = (top_kind s inner f.kind (h.0).kind, sorted_by_count s unmoved rest h.2)
+
+pub valid_sort_exact_by_count : ValidSortExactByCount
+valid_sort_exact_by_count s r h = sorted_by_count s true r.nodes h.nodes
+
+-- names that ascend differ
+no_statistic : (name : Text) (nodes : Nodes) → AllByRecursion (λ n. text_cmp name n ≡ Less) (node_names nodes) → has_statistic name nodes ≡ false
+no_statistic name no_nodes h = refl
+no_statistic name (statistic other s rest) h = ap (λ o. is_eq o || has_statistic name rest) h.0 ∙ no_statistic name rest h.1
+no_statistic name (facet f inner rest) h = no_statistic name rest h.1
+
+named_apart : (nodes : Nodes) → IsStrictlySortedBy text_cmp (node_names nodes) → AreNamedApart nodes
+unfolding IsStrictlySortedBy
+named_apart no_nodes h = tt
+named_apart (statistic name s rest) h = (no_statistic name rest h.0, named_apart rest h.1)
+named_apart (facet f inner rest) h = named_apart rest h.1
+
+pub valid_are_named_apart : ValidAreNamedApart
+valid_are_named_apart s r h = named_apart r.nodes (h.names).0

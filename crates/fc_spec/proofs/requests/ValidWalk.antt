@@ -21,14 +21,14 @@ use Rattle.fc_spec.specs.scripts.JsonValues.{HasNumbers, MembersHaveNumbers, key
 use Rattle.fc_spec.specs.laws.RequestLaws.{ReadAreValid, ReadAreValidWhole}
 use Rattle.fc_spec.specs.queries.ValidQueries.{IsValidQuery}
 use Rattle.fc_spec.specs.requests.DomainReading.{text_query}
-use Rattle.fc_spec.specs.requests.ValidRequests.{IsValidFilter, IsValidChange, IsValidKind, IsValidTerms, IsValidRange, IsValidStatistic, node_names, AreValidNodes, AreOrderedInside, AreOrderedNodes, node_depth}
+use Rattle.fc_spec.specs.requests.ValidRequests.{IsValidFilter, IsValidChange, IsValidKind, IsValidRange, IsValidStatistic, node_names, AreValidNodes, AreOrderedInside, AreOrderedNodes, node_depth}
 use Rattle.fc_spec.specs.requests.Shape.{stays}
 use Rattle.fc_spec.specs.words.Walks.{◌>>=◌, unless, with_fault}
 use Rattle.fc_spec.proofs.scripts.JsonMembers.{member_numbers, member_keys}
 use Rattle.fc_spec.proofs.words.ReadingWords.{going_on, whatever, seen, if_there}
 use Rattle.fc_spec.proofs.requests.ValidStatistics.{statistic_valid, NamesItsStatistic, sort_in_valid}
 use Rattle.fc_spec.proofs.requests.ValidChanges.{text_query_valid, change_in_valid, filters_in_valid}
-use Rattle.fc_spec.proofs.requests.ValidKinds.{parts_valid, terms_valid, range_valid, IsKindAnywhere, query_part_valid}
+use Rattle.fc_spec.proofs.requests.ValidKinds.{AreValidParts, parts_valid, terms_valid, range_valid, IsKindAnywhere, query_part_valid}
 
 -- nodes that the members of an object give, so deep at most
 record AreReadFrom (s : Schema) (unmoved : Bool) (left : ℕ) (ms : Members) (nodes : Nodes) : Type 0 where
@@ -83,7 +83,7 @@ facet_in ms = get_member (codes "facet") ms
 terms_read_valid : (s : Schema) (unmoved : Bool) (left : ℕ) (deeper : Bool → Reader) → ((b : Bool) → ReadsValid s b left (deeper b)) → (n : ℕ) (ms : Members) → MembersHaveNumbers ms → IfOk (terms_read s unmoved deeper n ms) (IsNodeOf s unmoved left ms)
 terms_read_valid s unmoved left deeper valid n ms numbers =
     let P = IsNodeOf s unmoved left ms in
-    going_on P (IsValidTerms s no_nodes) (own (terms_parts s ms)) _ (seen (IsValidTerms s no_nodes) outside (terms_parts s ms) (parts_valid s ms))
+    going_on P (AreValidParts s) (own (terms_parts s ms)) _ (seen (AreValidParts s) outside (terms_parts s ms) (parts_valid s ms))
     (λ parts h. going_on P (IsValidChange s unmoved) (own (change_in s unmoved ms)) _ (seen (IsValidChange s unmoved) outside (change_in s unmoved ms) (change_in_valid s unmoved ms))
     (λ change k. going_on P (λ w. AreInside s (unmoved && stays change) left (facet_in ms) w.read) (inner_read (deeper (unmoved && stays change)) n (facet_in ms)) _ (inner_valid s (unmoved && stays change) left (deeper (unmoved && stays change)) (valid (unmoved && stays change)) n (facet_in ms) (member_numbers (codes "facet") ms numbers))
     (λ inner i. going_on P (NamesItsStatistic inner.read) (own (sort_in inner.read ms)) _ (seen (NamesItsStatistic inner.read) outside (sort_in inner.read ms) (sort_in_valid inner.read ms))

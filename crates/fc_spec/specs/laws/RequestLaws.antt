@@ -6,7 +6,7 @@ use Rattle.fc_spec.specs.documents.Schema.{Schema}
 use Rattle.fc_spec.specs.documents.World.{World}
 use Rattle.fc_spec.specs.requests.Request.{Request}
 use Rattle.fc_spec.specs.queries.ValidQueries.{IsValidQuery}
-use Rattle.fc_spec.specs.requests.ValidRequests.{IsValidFilter, AreValidNodes, node_depth, IsValidRequest}
+use Rattle.fc_spec.specs.requests.ValidRequests.{IsSearchable, IsValidFilter, AreValidNodes, node_depth, IsValidRequest}
 use Rattle.fc_spec.specs.scripts.JsonValues.{HasNumbers, HasAscendingKeys}
 use Rattle.fc_spec.specs.scripts.Script.{Line, add, delete, commit, sync, asks, Script}
 use Rattle.fc_spec.specs.scripts.ScriptTotals.{Limits}
@@ -17,6 +17,10 @@ use Rattle.fc_spec.specs.messages.Rounds.{search_rounds}
 use Rattle.fc_spec.specs.messages.Message.{Ask}
 use Rattle.fc_spec.specs.messages.Answer.{answer}
 use Rattle.fc_spec.specs.messages.Nesting.{nesting}
+use Rattle.fc_spec.specs.laws.ReplacedLaw.{AreNamedApart}
+use Rattle.fc_spec.specs.laws.TopRoundsLaw.{SortExactByCount}
+use Rattle.fc_spec.specs.replies.Tops.{only_exact}
+use Rattle.fc_spec.specs.messages.TopRounds.{ExactAsk, exact_answer}
 
 -- for data whose numbers are those of JSON, the query, the filters and each node of the request that is read are valid, and nodes nest at most eight deep
 abbrev pub ReadAreValid : Type 0
@@ -38,14 +42,29 @@ AsksValid s sync = Unit {0}
 abbrev pub ScriptsAskValid : Type 0
 ScriptsAskValid = (limits : Limits) (bytes : List ℕ) (S : Script Data) → script_of limits bytes ≡ Ok S → All (AsksValid S.schema) S.lines
 
+-- exact facets are sorted by count, the greatest first, and no two statistics of the root have one name
+abbrev pub ValidSortExactByCount : Type 0
+ValidSortExactByCount = (s : Schema) (r : Request) → IsValidRequest s r → SortExactByCount r.nodes
+
+abbrev pub ValidAreNamedApart : Type 0
+ValidAreNamedApart = (s : Schema) (r : Request) → IsValidRequest s r → AreNamedApart r.nodes
+
 -- at most eight terms facets stand around each other
 abbrev pub ValidHaveFewDepths : Type 0
-ValidHaveFewDepths = (s : Schema) (r : Request) → IsValidRequest s r → terms_depth r.nodes ≤ 8
+ValidHaveFewDepths = (s : Schema) (r : Request) → IsSearchable s r → terms_depth r.nodes ≤ 8
 
 -- so the rounds of a search have the numbers from 1 to 9
 abbrev pub ValidHaveFewRounds : Type 0
-ValidHaveFewRounds = (s : Schema) (r : Request) (W : World) → IsValidRequest s r → AllByRecursion (λ m. (1 ≤ m.round) × (m.round ≤ 9)) (search_rounds r W)
+ValidHaveFewRounds = (s : Schema) (r : Request) (W : World) → IsSearchable s r → AllByRecursion (λ m. (1 ≤ m.round) × (m.round ≤ 9)) (search_rounds r W)
 
 -- buckets nest at most nine deep in each answer of a shard
 abbrev pub ValidAnswersNestLittle : Type 0
-ValidAnswersNestLittle = (s : Schema) (r : Request) (W : World) (i : ℕ) (ask : Ask) → IsValidRequest s r → nesting (answer r W i ask) ≤ 9
+ValidAnswersNestLittle = (s : Schema) (r : Request) (W : World) (i : ℕ) (ask : Ask) → IsSearchable s r → nesting (answer r W i ask) ≤ 9
+
+-- and so do those for exact facets
+abbrev pub ExactAnswersNestLittle : Type 0
+ExactAnswersNestLittle = (s : Schema) (x : Request) (W : World) (i : ℕ) (ask : ExactAsk) → IsSearchable s x → nesting (exact_answer x W i ask) ≤ 9
+
+-- a search can be made of the exact facets alone
+abbrev pub OnlyExactAreSearchable : Type 0
+OnlyExactAreSearchable = (s : Schema) (r : Request) → IsValidRequest s r → IsSearchable s (only_exact r)

@@ -9,6 +9,7 @@ use Rattle.fc_spec.specs.messages.Message.{Want, more}
 use Rattle.fc_spec.specs.messages.Answer.{answer}
 use Rattle.fc_spec.specs.messages.MessageBytes.{message_bytes}
 use Rattle.fc_spec.specs.messages.Trace.{Sent, trace}
+use Rattle.fc_spec.specs.messages.WholeTrace.{whole_trace}
 use Rattle.fc_spec.specs.messages.Lengths.{Lengths, entries_up_to, is_of, no_lengths, put_all}
 
 -- by round, then by shard
@@ -41,3 +42,15 @@ OrderOfWantsIsFree = (r : Request) (W : World) (i : ℕ) (wants others : List Wa
 -- so the trace of a valid request, over shards that are not too many, is listed again from the map that it alone was put in
 abbrev pub ValidTracesAreListed : Type 0
 ValidTracesAreListed = (s : Schema) (r : Request) (W : World) (rounds shards : ℕ) → IsValidRequest s r → 9 ≤ rounds → length W ≤ shards → entries_up_to rounds shards (put_all (trace r W) no_lengths) ≡ trace r W
+
+-- ---- with the rounds of exact facets
+
+abbrev pub WholeTracesAscend : Type 0
+WholeTracesAscend = (r : Request) (W : World) → Ascend (whole_trace r W)
+
+-- three more rounds at most
+abbrev pub ValidWholeTracesAreWithin : Type 0
+ValidWholeTracesAreWithin = (s : Schema) (r : Request) (W : World) → IsValidRequest s r → AllByRecursion (λ e. (1 ≤ e.round) × (e.round ≤ 12) × (e.shard < length W)) (whole_trace r W)
+
+abbrev pub ValidWholeTracesAreListed : Type 0
+ValidWholeTracesAreListed = (s : Schema) (r : Request) (W : World) (rounds shards : ℕ) → IsValidRequest s r → 12 ≤ rounds → length W ≤ shards → entries_up_to rounds shards (put_all (whole_trace r W) no_lengths) ≡ whole_trace r W

@@ -1,4 +1,4 @@
--- The rounds that find the values of exact facets: what shards are asked, what they answer, and what is told. They speak of a request of exact facets alone, in which nothing is nested.
+-- The rounds that find the values of exact facets: what shards are asked, what they answer, and what is told. They speak of a request of exact facets alone, in which nothing is nested. Guide: JSON Facet API, "Terms Facet" (`refine`).
 use Rattle.std.specs.Prelude.{ℕ, suc, List, [], ◌∷◌, ◌++◌, map, length, sum, not, ◌&&◌, ◌==◌, Option, None, Some, is_none, unwrap_or, if◌then◌else◌}
 use Rattle.std.specs.List.{filter, flat_map}
 use Rattle.fc_spec.specs.documents.Val.{Val, same_val, distinct}

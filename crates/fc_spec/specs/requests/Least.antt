@@ -1,4 +1,4 @@
--- Down to which count shards list values, so that the first of all values are among those listed.
+-- Down to which count shards list values, so that the first of all values are among those listed. Guide: JSON Facet API, "Terms Facet" (`refine`).
 use Rattle.std.specs.Prelude.{ℕ, zero, suc, ◌+◌, ◌-◌, ◌/◌, ◌^◌, List, [], ◌∷◌, sum, true, ◌==◌}
 use Rattle.std.specs.List.{filter}
 use Rattle.fc_spec.specs.documents.Val.{Val}

@@ -1,4 +1,4 @@
--- Where a request has limits, refinement, block steps and exclusions, and which of its facets ask again.
+-- Where a request has limits, refinement, exact facets, block steps and exclusions, and which of its facets ask again.
 use Rattle.std.specs.Prelude.{Bool, true, false, not, ◌&&◌, ◌||◌, is_some, if◌then◌else◌}
 use Rattle.fc_spec.specs.words.Lists.{is_empty}
 use Rattle.fc_spec.specs.requests.Request.{BlockStep, stay, DomainChange, Terms, Kind, terms, Nodes, no_nodes, statistic, facet}
@@ -16,6 +16,17 @@ has_no_limit _ = true
 abbrev pub is_refining : Kind → Bool
 is_refining (terms t) = t.refine || has_no_limit (terms t)
 is_refining _ = true
+
+-- it is a terms facet that is refined exactly, which plays a part with a limit alone
+abbrev pub is_exact : Kind → Bool
+is_exact (terms t) = t.exact && has_limit t
+is_exact _ = false
+
+-- of these nodes, those nested in others aside, none is exact
+abbrev pub no_exact : Nodes → Bool
+no_exact no_nodes = true
+no_exact (statistic name s rest) = no_exact rest
+no_exact (facet f inner rest) = not (is_exact f.kind) && no_exact rest
 
 -- no terms facet among the nodes, at any depth, has a limit
 abbrev pub no_limits : Nodes → Bool

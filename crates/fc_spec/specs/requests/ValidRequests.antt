@@ -10,6 +10,7 @@ use Rattle.fc_spec.specs.requests.Request.{Filter, BlockStep, stay, parents, chi
 use Rattle.fc_spec.specs.requests.Gaps.{gap_count, last_end}
 use Rattle.fc_spec.specs.requests.StatisticReading.{takes_texts, has_type}
 use Rattle.fc_spec.specs.requests.Shape.{stays}
+use Rattle.fc_spec.specs.requests.Least.{count_first}
 
 abbrev pub AreTags : List Text → Type 0
 AreTags tags = All (λ t. IsTrue (is_tag t)) tags
@@ -41,7 +42,7 @@ NamesStatistic inner (by_statistic n) = n < length (stats_of inner)
 abbrev pub IsFew : ℕ → Type 0
 IsFew n = n ≤ 1_000_000
 
--- its field is there, of texts where there is a prefix; its numbers are within their limits, and both over-numbers 0 without a limit; its sort names what is there
+-- its field is there, of texts where there is a prefix; its numbers are within their limits, and both over-numbers 0 without a limit; its sort names what is there; what is refined exactly is refined, and sorted by count
 pub record IsValidTerms (s : Schema) (inner : Nodes) (t : Terms) : Type 0 where
   pub field : t.field < length s.fields
   pub offset : IsFew t.offset
@@ -53,6 +54,7 @@ pub record IsValidTerms (s : Schema) (inner : Nodes) (t : Terms) : Type 0 where
   pub overrequest : IsFew t.overrequest
   pub overrefine : IsFew t.overrefine
   pub unlimited : t.limit ≡ None → (t.overrequest ≡ 0) × (t.overrefine ≡ 0)
+  pub exact : t.exact ≡ true → (t.refine ≡ true) × (t.sort ≡ count_first)
 
 -- its field is there, of integers; its numbers fit 64 bits, the last high end too; at most 10,000 gaps
 pub record IsValidRange (s : Schema) (g : Range) : Type 0 where
@@ -116,3 +118,10 @@ pub record IsValidRequest (s : Schema) (r : Request) : Type 0 where
   pub nodes : AreValidNodes s true r.nodes
   pub depth : node_depth r.nodes ≤ 8
   pub names : AreOrderedNodes r.nodes
+
+-- the same but for names, which may repeat: a search can be made of it
+pub record IsSearchable (s : Schema) (r : Request) : Type 0 where
+  pub query : IsValidQuery s r.query
+  pub filters : All (IsValidFilter s) r.filters
+  pub nodes : AreValidNodes s true r.nodes
+  pub depth : node_depth r.nodes ≤ 8

@@ -3,6 +3,7 @@ use Rattle.std.specs.Arc.{arc_value}
 use Rattle.fc_spec.specs.messages.Nesting.{Spells, nesting}
 use Rattle.fc_kind.specs.Names.{Covers}
 use Rattle.fc_refine.specs.AskView.{ask_view}
+use Rattle.fc_spec.proofs.requests.Searchable.{searchable}
 use Rattle.fc_request.specs.RequestView.{request_view}
 use Rattle.fc_search.specs.Hearing.{ShardAnswer}
 use Rattle.fc_search.proofs.SeatTurns.{sat_at_first}
@@ -18,7 +19,7 @@ finish-requires-clause-sat g c =
     let blocks = (arc_value c.args.generation.now).blocks in
     let ask = ask_view c.args.ask.now in
     let message = begun_message c.args.request.now blocks ask c.in_ok-future_of.field-0.progress c.in_ok-future_of.ensures.begun in
-    let nests = c.telling_laws.ensures.nest (arc_value c.args.generation.now).schema (request_view c.args.request.now) (blocks ∷ []) 0 ask c.requires.askable.valid in
+    let nests = c.telling_laws.ensures.nest (arc_value c.args.generation.now).schema (request_view c.args.request.now) (blocks ∷ []) 0 ask (searchable (arc_value c.args.generation.now).schema (request_view c.args.request.now) c.requires.askable.valid) in
     sat_at_first _ refl c.in_ok-future_of.ensures.begun.fresh (subst (λ m. nesting m ≤ 9) (sym message) nests)
 
 pub into_bytes-requires : goal.into_bytes-requires
