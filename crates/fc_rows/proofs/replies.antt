@@ -4,6 +4,10 @@ pub mod Shop
 pub mod ShopReply
 pub mod ShortCount
 pub mod SecondEverywhere
+pub mod ExactWords
+pub mod ExactTop
+pub mod ExactRounds
+pub mod ExactExclusion
 pub mod NestedRefining
 pub mod LeastPrice
 pub mod Pages
