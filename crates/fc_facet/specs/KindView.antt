@@ -1,5 +1,5 @@
 -- What facets of each kind and domain changes stand for in the definitions.
-use Rattle.std.specs.Prelude.{false, map}
+use Rattle.std.specs.Prelude.{map}
 use Rattle.fc_spec.specs.requests.Request as definition
 use Rattle.fc_spec.specs.requests.Request.{its_buckets}
 use Rattle.fc_query.specs.QueryView.{query_view}
@@ -38,7 +38,7 @@ terms_view t = record {
   missing = t.missing;
   prefix = t.prefix;
   refine = t.refine;
-  exact = false;
+  exact = t.exact;
   overrequest = t.overrequest;
   overrefine = t.overrefine;
   show = its_buckets;

@@ -1,3 +1,4 @@
+pub mod Asked
 pub mod FaultView
 pub mod KindView
 pub mod RangeGaps

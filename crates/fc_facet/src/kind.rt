@@ -36,6 +36,8 @@ pub struct Terms {
     pub prefix: Option<Name>,
     /// Whether each shard tells of the chosen buckets that it did not offer.
     pub refine: bool,
+    /// Whether it is refined exactly; only where `refine` is true.
+    pub exact: bool,
     /// How many values each shard offers beyond offset and limit, at most 1,000,000.
     pub overrequest: u32,
     /// How many values are chosen beyond offset and limit, at most 1,000,000.

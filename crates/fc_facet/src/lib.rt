@@ -1,6 +1,7 @@
 //! Kinds of facet and domain changes with their parameters, and how these are read from the JSON of a request.
 #![tactic(auto)]
 
+mod copying;
 mod domain;
 mod fault;
 mod kind;

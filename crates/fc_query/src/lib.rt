@@ -3,6 +3,7 @@
 
 mod characters;
 mod classes;
+mod copying;
 mod descent;
 mod fault;
 mod faults;
@@ -14,6 +15,7 @@ mod text;
 mod tokens;
 mod trees;
 
+pub use copying::{copy_filters, copy_names, copy_queries};
 pub use fault::{FilterFault, QueryFault};
 pub use filter::{Filter, are_tags, names_of, parts_of, read_filter};
 pub use query::{Bound, Clause, Need, Query};

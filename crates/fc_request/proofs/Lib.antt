@@ -5,3 +5,4 @@ pub mod NodeStatistics
 pub mod NodeWalk
 pub mod RequestParts
 pub mod Nodes
+pub mod SameNodes

@@ -1,5 +1,6 @@
 pub mod FaultView
 pub mod NodeView
+pub mod Nested
 pub mod FacetNode
 pub mod RequestView
 pub mod NodeStatistics

@@ -94,7 +94,7 @@ fn head_in(
 }
 
 // The node around the outermost ones.
-fn root(alloc: Global, nodes: Vec<Node>) -> Result<Node, WantMemory>
+pub(crate) fn root(alloc: Global, nodes: Vec<Node>) -> Result<Node, WantMemory>
     ensures { IfOk result (λ root.
         node_view root ≡ ([], of_facet no_change (query all) (nodes_view nodes.items))) }
 {

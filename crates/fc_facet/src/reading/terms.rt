@@ -153,6 +153,7 @@ pub fn terms_in(
         missing,
         prefix,
         refine,
+        exact: false,
         overrequest: over_number(limit, overrequest),
         overrefine: over_number(limit, overrefine),
     })
