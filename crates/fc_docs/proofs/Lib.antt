@@ -7,6 +7,7 @@ pub mod DifferentValues
 pub mod DocumentRead
 pub mod Entries
 pub mod FieldLists
+pub mod FewCounts
 pub mod Gathered
 pub mod GivenDocument
 pub mod GivenMore

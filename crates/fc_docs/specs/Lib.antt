@@ -1,3 +1,4 @@
+pub mod Counts
 pub mod Direct
 pub mod DirectState
 pub mod Fields

@@ -1,4 +1,6 @@
 // Documents.
+mod counts;
+mod few;
 mod fields;
 pub(crate) mod given;
 mod sums;
@@ -12,6 +14,7 @@ ghost use Rattle.fc_docs.specs.Fields.{Ascend, HaveValues, document_of, values_a
 ghost use Rattle.fc_docs.specs.Kept.{ArePartsOf, parts};
 ghost use Rattle.fc_docs.specs.Sums.{absolute_sum};
 
+use counts::Counts;
 use fc_base::{FieldId, Val};
 pub use fields::Fields;
 use std::marker::Model;
@@ -22,7 +25,7 @@ use std::marker::Model;
 pub struct Document {
     fields: u16,
     // The fields that have values, in ascending order, each with how many.
-    counts: Vec<(FieldId, u32)>,
+    counts: Counts,
     // The values of these fields, one field behind the other.
     values: Vec<Val>,
 }
@@ -36,17 +39,17 @@ impl Model for Document {
     ghost Value = { List (List Val) };
 
     ghost view = { λ document.
-        document_of document.fields (parts document.counts.items document.values.items) };
+        document_of document.fields (parts document.counts document.values.items) };
 
     ghost invariant = { λ document.
-        ArePartsOf document.fields document.counts.items document.values.items };
+        ArePartsOf document.fields document.counts document.values.items };
 }
 
 impl Document {
     /// The document of so many fields with so many values in each, one field behind the other.
-    fn of(fields: u16, counts: Vec<(FieldId, u32)>, values: Vec<Val>) -> Document
-        requires { ArePartsOf fields counts.items values.items }
-        ensures { result ≡ document_of fields (parts counts.items values.items) }
+    fn of(fields: u16, counts: Counts, values: Vec<Val>) -> Document
+        requires { ArePartsOf fields counts values.items }
+        ensures { result ≡ document_of fields (parts counts values.items) }
     {
         Document {
             fields,
@@ -75,7 +78,7 @@ impl Document {
         ensures some { HaveValues result }
         ensures values { (n : ℕ) → values_at result n ≡ values_of self.now n }
     {
-        Fields::over(&self.counts, &self.values)
+        Fields::over(self.counts.left(), &self.values)
     }
 
     /// What is left of the room when each value takes one place, where there is enough.

@@ -2,9 +2,11 @@
 ghost use Rattle.std.specs.Prelude.{◌≡◌, length, map};
 ghost use Rattle.std.specs.Iterator.{YieldsFirstBy, item_count};
 ghost use Rattle.fc_base.specs.View.{val_view};
+ghost use Rattle.fc_docs.specs.Counts.{left_in};
 ghost use Rattle.fc_docs.specs.Fields.{values_at};
 ghost use Rattle.fc_docs.specs.Kept.{parts, value_count};
 
+use super::counts::Left;
 use fc_base::{FieldId, Val};
 use std::marker::Model;
 
@@ -12,27 +14,28 @@ use std::marker::Model;
 /// that are left: each field's number with the field's values.
 #[derive(Debug, Drop)]
 pub struct Fields<'a> {
-    counts: &'a [(FieldId, u32)],
+    counts: Left<'a>,
     values: &'a [Val],
 }
 
 impl<'a> Model for Fields<'a> {
     ghost use Rattle.std.specs.Prelude.{◌≡◌, length};
     ghost use Rattle.fc_docs.specs.Fields.{FieldValues};
+    ghost use Rattle.fc_docs.specs.Counts.{left_in};
     ghost use Rattle.fc_docs.specs.Kept.{parts, value_count};
 
     ghost Value = { FieldValues };
 
-    ghost view = { λ left. parts left.counts.now left.values.now };
+    ghost view = { λ left. parts (left_in left.counts) left.values.now };
 
-    ghost invariant = { λ left. value_count left.counts.now ≡ length left.values.now };
+    ghost invariant = { λ left. value_count (left_in left.counts) ≡ length left.values.now };
 }
 
 impl<'a> Fields<'a> {
     /// The fields that have so many values each, which stand one field behind the other.
-    pub(super) fn over(counts: &'a [(FieldId, u32)], values: &'a [Val]) -> Self
-        requires { value_count counts.now ≡ length values.now }
-        ensures { result ≡ parts counts.now values.now }
+    pub(super) fn over(counts: Left<'a>, values: &'a [Val]) -> Self
+        requires { value_count (left_in counts) ≡ length values.now }
+        ensures { result ≡ parts (left_in counts.entry) values.now }
     {
         Fields { counts, values }
     }
@@ -46,10 +49,8 @@ impl<'a> Iterator for Fields<'a> {
     ghost remaining = { item_count (λ left. left) };
 
     fn next(&mut self) -> Option<(FieldId, &'a [Val])> {
-        let (first, counts) = self.counts.split_first()?;
-        let (field, count) = *first;
+        let (field, count) = self.counts.take_first()?;
         let (values, behind) = self.values.split_at(count as usize);
-        self.counts = counts;
         self.values = behind;
         Some((field, values))
     }

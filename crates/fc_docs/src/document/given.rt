@@ -3,9 +3,10 @@ ghost use Rattle.std.specs.Prelude.{◌≡◌, ◌++◌, ◌<◌, ◌≤◌, All
 ghost use Rattle.fc_base.specs.View.{val_view};
 ghost use Rattle.fc_spec.specs.documents.Document.{values_of};
 ghost use Rattle.fc_docs.specs.Direct.{document_given, given_view, giving};
-ghost use Rattle.fc_docs.specs.Runs.{AreGiven, Rise, one_more};
+ghost use Rattle.fc_docs.specs.Runs.{AreGiven, Rise};
 
 use super::Document;
+use super::counts::Counts;
 use fc_base::{FieldId, Val, WantMemory};
 use std::alloc::Global;
 
@@ -49,34 +50,18 @@ pub(crate) fn document_given(
 }
 
 // Each field that has values, with how many, and all the values, one field behind the other.
-fn packed(
-    alloc: Global,
-    pairs: Vec<(FieldId, Val)>,
-) -> Result<(Vec<(FieldId, u32)>, Vec<Val>), WantMemory>
+fn packed(alloc: Global, pairs: Vec<(FieldId, Val)>) -> Result<(Counts, Vec<Val>), WantMemory>
     requires { Rise 0 (given_view pairs.items) }
-    ensures { IfOk result (λ both. AreGiven (given_view pairs.items) both.0.items both.1.items) }
+    ensures { IfOk result (λ both. AreGiven (given_view pairs.items) both.0 both.1.items) }
 {
-    let mut counts: Vec<(FieldId, u32)> = Vec::with_capacity(alloc, fields_in(&pairs))?;
+    let room = fields_in(&pairs);
+    let mut counts = Counts::none();
     let mut values = Vec::with_capacity(alloc, pairs.len())?;
     for (field, val) in pairs {
-        count(&mut counts, field)?;
+        counts.count(alloc, room, field)?;
         values.push(val)?;
     }
     Ok((counts, values))
-}
-
-// One more value of the field, which is the last one that has any, or stands behind it.
-fn count(counts: &mut Vec<(FieldId, u32)>, field: FieldId) -> Result<(), WantMemory>
-    ensures { OnOk result (counts.new.items ≡ one_more counts.old.items field) }
-{
-    if let Some(last) = counts.last_mut() {
-        if last.0 == field {
-            last.1 = last.1.checked_add(1).ok_or(WantMemory)?;
-            return Ok(());
-        }
-    }
-    counts.push((field, 1))?;
-    Ok(())
 }
 
 // How many fields there are among pairs that stand in the order of the fields.

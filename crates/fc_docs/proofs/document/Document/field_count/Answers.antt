@@ -6,5 +6,5 @@ use Rattle.fc_docs.proofs.document.Document.field_count.Goals as goal
 
 pub returns : goal.returns
 returns c =
-    sym (length-document_of c.self.inside.fields (parts c.self.inside.counts.items c.self.inside.values.items))
+    sym (length-document_of c.self.inside.fields (parts c.self.inside.counts c.self.inside.values.items))
     ∙ ap (λ (d : Document). length d) c.self.view_is

@@ -13,7 +13,7 @@ taken (Some left) n room is = grind (arith, nat_tests)
 
 pub returns : goal.returns
 returns c =
-    let counts = c.self.inside.counts.items in
+    let counts = c.self.inside.counts in
     let values = c.self.inside.values.items in
     let are = c.self.invariant.are_values in
     let all = ap (sum_by (λ vs. length vs)) (sym c.self.view_is)

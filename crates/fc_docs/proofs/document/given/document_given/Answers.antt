@@ -16,8 +16,8 @@ packed-requires c =
 
 pub of-requires : goal.of-requires
 of-requires c =
-    are_parts c.args.fields (given_view c.args.given.items) (given_view c.dedup.new.self.items) c.in_ok-counts.counts.items c.in_ok-counts.values.items
-    (are_distinct c.args.fields c.args.given.items c.sort_unstable.new.self.items c.dedup.new.self.items c.in_ok-counts.counts.items c.in_ok-counts.values.items
+    are_parts c.args.fields (given_view c.args.given.items) (given_view c.dedup.new.self.items) c.in_ok-counts.counts c.in_ok-counts.values.items
+    (are_distinct c.args.fields c.args.given.items c.sort_unstable.new.self.items c.dedup.new.self.items c.in_ok-counts.counts c.in_ok-counts.values.items
     c.requires c.sort_unstable.ensures.permutation c.sort_unstable.ensures.sorted c.dedup.ensures.filtered c.in_ok-counts.ensures)
 
 pub returns-then-is_empty-clause-none : goal.returns-then-is_empty-clause-none
@@ -33,8 +33,8 @@ returns-then-is_empty-clause-none c =
 
 pub returns-clause-document : goal.returns-clause-document
 returns-clause-document c =
-    c.of.ensures ∙ is_document c.args.fields (given_view c.args.given.items) (given_view c.dedup.new.self.items) c.in_ok-counts.counts.items c.in_ok-counts.values.items
-    (are_distinct c.args.fields c.args.given.items c.sort_unstable.new.self.items c.dedup.new.self.items c.in_ok-counts.counts.items c.in_ok-counts.values.items
+    c.of.ensures ∙ is_document c.args.fields (given_view c.args.given.items) (given_view c.dedup.new.self.items) c.in_ok-counts.counts c.in_ok-counts.values.items
+    (are_distinct c.args.fields c.args.given.items c.sort_unstable.new.self.items c.dedup.new.self.items c.in_ok-counts.counts c.in_ok-counts.values.items
     c.requires c.sort_unstable.ensures.permutation c.sort_unstable.ensures.sorted c.dedup.ensures.filtered c.in_ok-counts.ensures)
 
 pub returns-clause-id : goal.returns-clause-id
@@ -43,7 +43,7 @@ returns-clause-id c =
     let some : length pairs ≢ 0 = omega (arith, eqb-false (vec_len c.dedup.new.self) 0 (sym c.if-is_empty.ensures)) in
     let id = eqb-true c.index.result.now.0.0 0 (not-false _ (sym c.if-ne.ensures)) in
     rw c.of.ensures
-    (has_id c.args.fields (given_view c.args.given.items) (given_view pairs) c.in_ok-counts.counts.items c.in_ok-counts.values.items
-    (are_distinct c.args.fields c.args.given.items c.sort_unstable.new.self.items pairs c.in_ok-counts.counts.items c.in_ok-counts.values.items
+    (has_id c.args.fields (given_view c.args.given.items) (given_view pairs) c.in_ok-counts.counts c.in_ok-counts.values.items
+    (are_distinct c.args.fields c.args.given.items c.sort_unstable.new.self.items pairs c.in_ok-counts.counts c.in_ok-counts.values.items
     c.requires c.sort_unstable.ensures.permutation c.sort_unstable.ensures.sorted c.dedup.ensures.filtered c.in_ok-counts.ensures)
     (first_given pairs c.index.result.now some c.index.ensures id))

@@ -8,4 +8,4 @@ loop-field-preserved c =
     let before = rw c.in-Some.ensures.steps.0 at c.loop-field.invariant in
     let left = into_iter_items c.next.new.self in
     rw (c.in_ok-count.ensures, c.in_ok-push.ensures.items)
-    (one_more_yet (given_view c.args.pairs.items) (given_view left) c.loop-field.counts.items c.loop-field.values.items c.in-Some.field c.in-Some.val before)
+    (one_more_yet (given_view c.args.pairs.items) (given_view left) c.loop-field.counts c.loop-field.values.items c.in-Some.field c.in-Some.val before)
