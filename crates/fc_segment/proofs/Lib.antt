@@ -2,6 +2,7 @@ pub mod Cutting
 pub mod Transposed
 pub mod Begun
 pub mod AddedBlocks
+pub mod AddedBatches
 pub mod Rows
 pub mod ValidFields
 pub mod WalkedFields

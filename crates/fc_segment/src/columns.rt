@@ -7,15 +7,16 @@ ghost use Rattle.fc_spec.specs.documents.Operations.{blocks_added};
 ghost use Rattle.fc_spec.specs.documents.Totals.{document_total, documents_in, documents_of};
 ghost use Rattle.fc_spec.specs.documents.Schema.{texts_held};
 ghost use Rattle.fc_spec.specs.documents.ValidBlocks.{IsBlockOf};
+ghost use Rattle.fc_spec.specs.words.Lists.{joined};
 ghost use Rattle.fc_base.specs.View.{val_view};
-ghost use Rattle.fc_docs.specs.View.{block_view, op_view};
+ghost use Rattle.fc_docs.specs.View.{batch_view, block_view, op_view};
 ghost use Rattle.fc_segment.specs.Building.{builds_texts, padded, values_built, FitsTexts, IsRow};
 ghost use Rattle.fc_segment.specs.Columns.{column_values, is_text_column};
 
 use crate::Column;
 use crate::builder::Builder;
 use fc_base::{FieldId, Schema, Val, WantMemory};
-use fc_docs::{Block, Document, Op};
+use fc_docs::{Batch, Block, Document, Op};
 use std::alloc::Global;
 use std::marker::Model;
 
@@ -102,6 +103,23 @@ impl Columns {
         }
     }
 
+    // With the documents that a batch adds, of which each is let go when it is copied.
+    fn push_batch(self, batch: Batch) -> Result<Columns, WantMemory>
+        requires fit { All (FitsTexts self.texts)
+            (documents_in (blocks_added (batch_view batch))) }
+        requires few { length self.documents
+            + document_total (blocks_added (batch_view batch)) < 2 ^ 32 }
+        ensures { IfOk result (λ columns. columns ≡ record self {
+          documents = self.documents ++ documents_in (blocks_added (batch_view batch));
+        }) }
+    {
+        let mut columns = self;
+        for op in batch.ops {
+            columns = columns.push_op(&op)?;
+        }
+        Ok(columns)
+    }
+
     // The columns of the documents.
     fn finish(self, alloc: Global) -> Result<Vec<Column>, WantMemory>
         ensures values { IfOk result (λ columns. map column_values columns.items
@@ -182,6 +200,28 @@ pub fn columns_of(alloc: Global, schema: &Schema, ops: &[Op]) -> Result<Vec<Colu
     let mut columns = Columns::new(alloc, schema)?;
     for op in ops {
         columns = columns.push_op(op)?;
+    }
+    let finished = columns.finish(alloc)?;
+    Ok(finished)
+}
+
+/// The column of each field of the schema, of the blocks that batches add. Each document is let go when it is copied.
+pub fn columns_of_batches(
+    alloc: Global,
+    schema: &Schema,
+    batches: Vec<Batch>,
+) -> Result<Vec<Column>, WantMemory>
+    requires valid { All (IsBlockOf schema.now) (blocks_added (joined (map batch_view batches.items))) }
+    requires few { document_total (blocks_added (joined (map batch_view batches.items))) ≤ 1_048_576 }
+    ensures values { IfOk result (λ columns. map column_values columns.items ≡ map
+        (λ field. column_of field (documents_in (blocks_added (joined (map batch_view batches.items)))))
+        (range_with_len 0 (length schema.now.fields))) }
+    ensures kinds { IfOk result (λ columns. map is_text_column columns.items
+        ≡ texts_held schema.now.fields) }
+{
+    let mut columns = Columns::new(alloc, schema)?;
+    for batch in batches {
+        columns = columns.push_batch(batch)?;
     }
     let finished = columns.finish(alloc)?;
     Ok(finished)

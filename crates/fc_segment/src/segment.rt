@@ -8,6 +8,7 @@ ghost use Rattle.fc_spec.specs.documents.Sets.{zip_with};
 ghost use Rattle.fc_spec.specs.documents.Totals.{document_total, documents_in};
 ghost use Rattle.fc_spec.specs.documents.Schema.{texts_held};
 ghost use Rattle.fc_spec.specs.documents.ValidBlocks.{IsBlockOf};
+ghost use Rattle.fc_spec.specs.words.Lists.{joined};
 ghost use Rattle.fc_docs.specs.View.{batch_view};
 ghost use Rattle.fc_segment.specs.BlockPositions.{first_in_block, parent_in_block};
 ghost use Rattle.fc_segment.specs.Columns.{column_values, is_text_column};
@@ -55,6 +56,27 @@ impl Segment {
         }) }
     {
         let core = SegmentCore::build(alloc, schema, batch)?;
+        let segment = Segment::all_live(alloc, core)?;
+        Ok(segment)
+    }
+
+    /// The blocks that batches add, one batch behind the other, all live. Each document is let go when it is copied, so that the
+    /// batches and the segment never stand beside each other whole.
+    pub fn of_batches(
+        alloc: Global,
+        schema: &Schema,
+        batches: Vec<Batch>,
+    ) -> Result<Segment, WantMemory>
+        requires valid { All (IsBlockOf schema.now) (blocks_added (joined (map batch_view batches.items))) }
+        requires few { document_total (blocks_added (joined (map batch_view batches.items))) ≤ 1_048_576 }
+        ensures { IfOk result (λ segment. segment ≡ record {
+          texts = texts_held schema.now.fields;
+          blocks = blocks_added (joined (map batch_view batches.items));
+          live = replicate
+              (document_total (blocks_added (joined (map batch_view batches.items)))) true;
+        }) }
+    {
+        let core = SegmentCore::of_batches(alloc, schema, batches)?;
         let segment = Segment::all_live(alloc, core)?;
         Ok(segment)
     }

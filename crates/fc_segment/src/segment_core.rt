@@ -9,6 +9,7 @@ ghost use Rattle.fc_spec.specs.documents.Val.{has_val, text};
 ghost use Rattle.fc_spec.specs.documents.Totals.{document_total, documents_in};
 ghost use Rattle.fc_spec.specs.documents.Schema.{texts_held};
 ghost use Rattle.fc_spec.specs.documents.ValidBlocks.{IsBlockOf};
+ghost use Rattle.fc_spec.specs.words.Lists.{joined};
 ghost use Rattle.fc_docs.specs.View.{batch_view};
 ghost use Rattle.fc_docset.specs.Positions.{contains, positions};
 ghost use Rattle.fc_segment.specs.BlockPositions.{first_in_block, is_in_block_of, parent_in_block};
@@ -18,11 +19,11 @@ ghost use Rattle.fc_segment.specs.Merged.{live_blocks_of};
 ghost use Rattle.fc_segment.specs.Parents.{parents_in};
 ghost use Rattle.fc_segment.specs.Stored.{columned};
 
-use crate::columns::columns_of;
+use crate::columns::{columns_of, columns_of_batches};
 use crate::ids::parents_by_id;
 use crate::merged_columns::merged_columns;
 use crate::merged_parents::merged_parents;
-use crate::parents::parents_of;
+use crate::parents::{parents_of, parents_of_batches};
 use crate::{Column, Segment};
 use fc_base::{FieldId, Schema, WantMemory};
 use fc_docs::Batch;
@@ -65,6 +66,25 @@ impl SegmentCore {
     {
         let parents = parents_of(alloc, &batch.ops)?;
         let columns = columns_of(alloc, schema, &batch.ops)?;
+        let core = SegmentCore::of(alloc, parents, columns)?;
+        Ok(core)
+    }
+
+    /// The blocks that batches add, one batch behind the other.
+    pub fn of_batches(
+        alloc: Global,
+        schema: &Schema,
+        batches: Vec<Batch>,
+    ) -> Result<SegmentCore, WantMemory>
+        requires valid { All (IsBlockOf schema.now) (blocks_added (joined (map batch_view batches.items))) }
+        requires few { document_total (blocks_added (joined (map batch_view batches.items))) ≤ 1_048_576 }
+        ensures { IfOk result (λ core. core ≡ record {
+          texts = texts_held schema.now.fields;
+          blocks = blocks_added (joined (map batch_view batches.items));
+        }) }
+    {
+        let parents = parents_of_batches(alloc, &batches)?;
+        let columns = columns_of_batches(alloc, schema, batches)?;
         let core = SegmentCore::of(alloc, parents, columns)?;
         Ok(core)
     }

@@ -11,3 +11,4 @@ pub mod PutRanges
 pub mod NamedSets
 pub mod Sizes
 pub mod Leveled
+pub mod LeftBatches

@@ -6,6 +6,8 @@ use Rattle.fc_spec.specs.documents.Val.{Text, Val, text}
 use Rattle.fc_spec.specs.documents.Document.{Block, values_of, Op, adding, deleting}
 use Rattle.fc_spec.specs.documents.Operations.{has_id}
 use Rattle.fc_spec.specs.documents.Totals.{documents_of}
+use Rattle.fc_docs.specs.declared.block.Op as docs
+use Rattle.fc_docs.specs.View.{op_view}
 
 -- a block has one of these ids
 abbrev pub has_one_of : List Text → Block → Bool
@@ -14,6 +16,10 @@ has_one_of ids b = list_any (λ x. has_id x b) ids
 -- the texts of names that are lent
 abbrev pub texts_of : List (Bor Text) → List Text
 texts_of names = map (λ name. name.now) names
+
+-- the operations that are lent
+abbrev pub ops_of : List (Bor docs.Op) → List Op
+ops_of ops = map (λ op. op_view op.now) ops
 
 -- the values are one text
 abbrev pub IsText : List Val → Type 0

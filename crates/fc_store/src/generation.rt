@@ -1,5 +1,6 @@
 // Generations of a shard.
 ghost use Rattle.std.specs.Prelude.{◌≡◌, ◌+◌, ◌<◌, ◌≤◌, ◌++◌, [], ◌∷◌, length, map, All, IfOk, not};
+ghost use Rattle.std.specs.Bool.{OnTrue};
 ghost use Rattle.std.specs.List.{filter};
 ghost use Rattle.std.specs.Arc.{arc_value};
 ghost use Rattle.fc_spec.specs.documents.Live.{left_set, HasWholeBlocks};
@@ -8,14 +9,16 @@ ghost use Rattle.fc_spec.specs.documents.Schema.{texts_held};
 ghost use Rattle.fc_spec.specs.documents.ValidBlocks.{IsBlockOf};
 ghost use Rattle.fc_spec.specs.scripts.WorldLimits.{IsWithinLimits};
 ghost use Rattle.fc_spec.specs.words.Lists.{joined};
-ghost use Rattle.fc_docs.specs.View.{batch_view, op_view};
+ghost use Rattle.fc_docs.specs.View.{batch_view};
 ghost use Rattle.fc_segment.specs.Merged.{blocks_each, live_blocks_of};
 ghost use Rattle.fc_store.specs.Charters.{IsBatchOf};
+ghost use Rattle.fc_store.specs.Named.{ops_of};
 ghost use Rattle.fc_store.specs.OwnIds.{HaveOwnIds};
 ghost use Rattle.fc_store.specs.Segments.{AreDense, AreSegmentsOf};
 ghost use Rattle.fc_store.specs.Tiers.{AreTiered, sizes_of};
 
 use crate::left::{left_segments, only_left};
+use crate::lent::{all_lent, lent};
 use crate::merging::with_added;
 use crate::named::named;
 use fc_base::{Schema, WantMemory};
@@ -104,11 +107,10 @@ impl Generation {
             }) }
     {
         let number = earlier.number + batches.len() as u64;
-        let all = in_one(alloc, batches)?;
         let after = Generation {
             schema: Arc::try_clone(&earlier.schema)?,
             number,
-            segments: behind_batches(alloc, earlier, all)?,
+            segments: behind_batches(alloc, earlier, batches)?,
         };
         Ok(Arc::new(alloc, after)?)
     }
@@ -159,14 +161,14 @@ impl Generation {
 fn left_by(
     alloc: Global,
     earlier: &Generation,
-    ops: &[Op],
+    ops: &[&Op],
 ) -> Result<(Vec<Arc<Segment>>, DocSet), WantMemory>
-    requires { IsBatchOf earlier.now.schema (map op_view ops.now) }
+    requires { IsBatchOf earlier.now.schema (ops_of ops.now) }
     ensures blocks { IfOk result (λ made. live_blocks_of (map arc_value made.0.items)
-        ≡ filter (λ b. not (is_named (map op_view ops.now) b)) earlier.now.blocks) }
+        ≡ filter (λ b. not (is_named (ops_of ops.now) b)) earlier.now.blocks) }
     ensures kept { IfOk result (λ made. AreSegmentsOf earlier.now.schema (map arc_value made.0.items)) }
     ensures tiers { IfOk result (λ made. AreTiered (sizes_of (map arc_value made.0.items))) }
-    ensures left { IfOk result (λ made. made.1 ≡ left_set (map op_view ops.now)) }
+    ensures left { IfOk result (λ made. made.1 ≡ left_set (ops_of ops.now)) }
     ensures ids { HaveOwnIds earlier.now.blocks }
 {
     // its first field holds texts
@@ -175,6 +177,44 @@ fn left_by(
     let (left, ids) = named(alloc, ops)?;
     let kept = left_segments(alloc, segments, &ids)?;
     Ok((kept, left))
+}
+
+// The same of a batch.
+fn left_by_batch(
+    alloc: Global,
+    earlier: &Generation,
+    batch: &Batch,
+) -> Result<(Vec<Arc<Segment>>, DocSet), WantMemory>
+    requires { IsBatchOf earlier.now.schema (batch_view batch.now) }
+    ensures blocks { IfOk result (λ made. live_blocks_of (map arc_value made.0.items)
+        ≡ filter (λ b. not (is_named (batch_view batch.now) b)) earlier.now.blocks) }
+    ensures kept { IfOk result (λ made. AreSegmentsOf earlier.now.schema (map arc_value made.0.items)) }
+    ensures tiers { IfOk result (λ made. AreTiered (sizes_of (map arc_value made.0.items))) }
+    ensures left { IfOk result (λ made. made.1 ≡ left_set (batch_view batch.now)) }
+    ensures ids { IfOk result (λ made. HaveOwnIds earlier.now.blocks) }
+{
+    let ops = lent(alloc, batch)?;
+    let made = left_by(alloc, earlier, &ops)?;
+    Ok(made)
+}
+
+// The same of several batches.
+fn left_by_batches(
+    alloc: Global,
+    earlier: &Generation,
+    batches: &[Batch],
+) -> Result<(Vec<Arc<Segment>>, DocSet), WantMemory>
+    requires { IsBatchOf earlier.now.schema (joined (map batch_view batches.now)) }
+    ensures blocks { IfOk result (λ made. live_blocks_of (map arc_value made.0.items)
+        ≡ filter (λ b. not (is_named (joined (map batch_view batches.now)) b)) earlier.now.blocks) }
+    ensures kept { IfOk result (λ made. AreSegmentsOf earlier.now.schema (map arc_value made.0.items)) }
+    ensures tiers { IfOk result (λ made. AreTiered (sizes_of (map arc_value made.0.items))) }
+    ensures left { IfOk result (λ made. made.1 ≡ left_set (joined (map batch_view batches.now))) }
+    ensures ids { IfOk result (λ made. HaveOwnIds earlier.now.blocks) }
+{
+    let ops = all_lent(alloc, batches)?;
+    let made = left_by(alloc, earlier, &ops)?;
+    Ok(made)
 }
 
 // The segments behind a batch: those of a generation without the blocks that it names, and one of all that it adds, of which those are
@@ -193,31 +233,31 @@ fn after_batch(
     ensures dense { IfOk result (λ made. AreDense (map arc_value made.items)) }
     ensures ids { IfOk result (λ made. HaveOwnIds (live_blocks_of (map arc_value made.items))) }
 {
-    let (kept, left) = left_by(alloc, earlier, &batch.ops)?;
+    let (kept, left) = left_by_batch(alloc, earlier, batch)?;
     let all = Segment::build(alloc, &earlier.schema, batch)?;
     let added = all.with_live(alloc, left)?;
     let made = with_added(alloc, &earlier.schema, kept, added)?;
     Ok(made)
 }
 
-// The segments behind a batch: those of a generation without the blocks that it names, and one of the blocks that it adds and leaves.
+// The segments behind batches: those of a generation without the blocks that they name, and one of the blocks that they add and leave.
 fn after_batches(
     alloc: Global,
     earlier: &Generation,
-    batch: Batch,
+    batches: Vec<Batch>,
 ) -> Result<Vec<Arc<Segment>>, WantMemory>
-    requires batch { IsBatchOf earlier.now.schema (batch_view batch) }
-    requires limits { IsWithinLimits ((earlier.now.blocks ++ blocks_added (batch_view batch)) ∷ []) }
+    requires batch { IsBatchOf earlier.now.schema (joined (map batch_view batches.items)) }
+    requires limits { IsWithinLimits ((earlier.now.blocks ++ blocks_added (joined (map batch_view batches.items))) ∷ []) }
     ensures blocks { IfOk result (λ made. live_blocks_of (map arc_value made.items)
-        ≡ after_ops earlier.now.blocks (batch_view batch)) }
+        ≡ after_ops earlier.now.blocks (joined (map batch_view batches.items))) }
     ensures kept { IfOk result (λ made. AreSegmentsOf earlier.now.schema (map arc_value made.items)) }
     ensures tiers { IfOk result (λ made. AreTiered (sizes_of (map arc_value made.items))) }
     ensures dense { IfOk result (λ made. AreDense (map arc_value made.items)) }
     ensures ids { IfOk result (λ made. HaveOwnIds (live_blocks_of (map arc_value made.items))) }
 {
-    let (kept, left) = left_by(alloc, earlier, &batch.ops)?;
-    let only = only_left(alloc, batch, &left)?;
-    let added = Segment::build(alloc, &earlier.schema, &only)?;
+    let (kept, left) = left_by_batches(alloc, earlier, &batches)?;
+    let only = only_left(alloc, batches, &left)?;
+    let added = Segment::of_batches(alloc, &earlier.schema, only)?;
     let made = with_added(alloc, &earlier.schema, kept, added)?;
     Ok(made)
 }
@@ -258,47 +298,39 @@ fn behind_batch(
     Ok(made)
 }
 
-// The segments behind a batch: the same, shared, where it has no operation.
+// The segments behind batches: the same, shared, where they have no operation.
 fn behind_batches(
     alloc: Global,
     earlier: &Generation,
-    batch: Batch,
+    batches: Vec<Batch>,
 ) -> Result<Vec<Arc<Segment>>, WantMemory>
-    requires batch { IsBatchOf earlier.now.schema (batch_view batch) }
-    requires limits { IsWithinLimits ((earlier.now.blocks ++ blocks_added (batch_view batch)) ∷ []) }
+    requires batch { IsBatchOf earlier.now.schema (joined (map batch_view batches.items)) }
+    requires limits { IsWithinLimits ((earlier.now.blocks ++ blocks_added (joined (map batch_view batches.items))) ∷ []) }
     ensures blocks { IfOk result (λ made. live_blocks_of (map arc_value made.items)
-        ≡ after_ops earlier.now.blocks (batch_view batch)) }
+        ≡ after_ops earlier.now.blocks (joined (map batch_view batches.items))) }
     ensures kept { IfOk result (λ made. AreSegmentsOf earlier.now.schema (map arc_value made.items)) }
     ensures tiers { IfOk result (λ made. AreTiered (sizes_of (map arc_value made.items))) }
     ensures dense { IfOk result (λ made. AreDense (map arc_value made.items)) }
     ensures ids { IfOk result (λ made. HaveOwnIds (live_blocks_of (map arc_value made.items))) }
 {
-    if batch.ops.is_empty() {
+    if are_empty(&batches) {
         let made = same(alloc, earlier)?;
         return Ok(made);
     }
-    let made = after_batches(alloc, earlier, batch)?;
+    let made = after_batches(alloc, earlier, batches)?;
     Ok(made)
 }
 
-// A batch of the operations of all of them.
-fn in_one(alloc: Global, batches: Vec<Batch>) -> Result<Batch, WantMemory>
-    ensures { IfOk result (λ all. batch_view all ≡ joined (map batch_view batches.items)) }
+// Whether batches have no operation.
+fn are_empty(batches: &[Batch]) -> bool
+    ensures { OnTrue result (joined (map batch_view batches.now) ≡ []) }
 {
-    let mut ops = Vec::with_capacity(alloc, room_for(&batches))?;
-    for mut batch in batches {
-        ops.append(&mut batch.ops)?;
-    }
-    Ok(Batch { ops })
-}
-
-// The room that the operations of all of them take.
-fn room_for(batches: &[Batch]) -> usize {
-    let mut room: usize = 0;
     for batch in batches {
-        room = room.saturating_add(batch.ops.len());
+        if !batch.ops.is_empty() {
+            return false;
+        }
     }
-    room
+    true
 }
 
 // Shares segments.

@@ -6,6 +6,7 @@ ghost use Rattle.fc_spec.specs.documents.Live.{blocks_where, live_in, HasWholeBl
 ghost use Rattle.fc_spec.specs.documents.Operations.{blocks_added};
 ghost use Rattle.fc_spec.specs.documents.Sets.{zip_with};
 ghost use Rattle.fc_spec.specs.documents.Totals.{document_total};
+ghost use Rattle.fc_spec.specs.words.Lists.{joined};
 ghost use Rattle.fc_docs.specs.View.{batch_view, op_view};
 ghost use Rattle.fc_store.specs.Named.{has_one_of, op_size, texts_of};
 ghost use Rattle.fc_store.specs.Segments.{without};
@@ -93,29 +94,56 @@ fn push_if_left(kept: &mut Vec<Op>, op: Op, left: &DocSet, at: u32) -> Result<u3
     }
 }
 
-// A batch that adds those of the blocks that a batch adds that are in a set.
-fn left_batch(alloc: Global, batch: Batch, left: &DocSet) -> Result<Batch, WantMemory>
-    requires { length left.now ≡ document_total (blocks_added (batch_view batch)) }
-    ensures { IfOk result (λ only. batch_view only
-        ≡ map adding (live_in (blocks_added (batch_view batch)) left.now)) }
+// A batch that adds those of the blocks that a batch adds that are in a set, where the first of them begins at a position; and where the
+// last one ends.
+fn left_batch(
+    alloc: Global,
+    batch: Batch,
+    left: &DocSet,
+    from: u32,
+) -> Result<(Batch, u32), WantMemory>
+    requires fits { from + document_total (blocks_added (batch_view batch)) ≤ length left.now }
+    ensures only { IfOk result (λ made. batch_view made.0
+        ≡ map adding (live_in (blocks_added (batch_view batch)) (drop from left.now))) }
+    ensures end { IfOk result (λ made. made.1 ≡ from + document_total (blocks_added (batch_view batch))) }
 {
     let mut ops = Vec::new(alloc);
-    let mut at = 0;
+    let mut at = from;
     for op in batch.ops {
         at = push_if_left(&mut ops, op, left, at)?;
     }
-    Ok(Batch { ops })
+    Ok((Batch { ops }, at))
 }
 
-/// A batch that adds those of the blocks that a batch adds that are in a set: the same batch, where all of them are.
-pub fn only_left(alloc: Global, batch: Batch, left: &DocSet) -> Result<Batch, WantMemory>
-    requires { length left.now ≡ document_total (blocks_added (batch_view batch)) }
-    ensures { IfOk result (λ only. blocks_added (batch_view only)
-        ≡ live_in (blocks_added (batch_view batch)) left.now) }
+// Batches that add those of the blocks that batches add that are in a set.
+fn left_batches(alloc: Global, batches: Vec<Batch>, left: &DocSet) -> Result<Vec<Batch>, WantMemory>
+    requires { length left.now ≡ document_total (blocks_added (joined (map batch_view batches.items))) }
+    ensures { IfOk result (λ only. blocks_added (joined (map batch_view only.items))
+        ≡ live_in (blocks_added (joined (map batch_view batches.items))) left.now) }
+{
+    let mut made = Vec::with_capacity(alloc, batches.len())?;
+    let mut at = 0;
+    for batch in batches {
+        let (only, end) = left_batch(alloc, batch, left, at)?;
+        made.push(only)?;
+        at = end;
+    }
+    Ok(made)
+}
+
+/// Batches that add those of the blocks that batches add that are in a set: the same batches, where all of them are.
+pub fn only_left(
+    alloc: Global,
+    batches: Vec<Batch>,
+    left: &DocSet,
+) -> Result<Vec<Batch>, WantMemory>
+    requires { length left.now ≡ document_total (blocks_added (joined (map batch_view batches.items))) }
+    ensures { IfOk result (λ only. blocks_added (joined (map batch_view only.items))
+        ≡ live_in (blocks_added (joined (map batch_view batches.items))) left.now) }
 {
     if left.count() == left.len() {
-        return Ok(batch);
+        return Ok(batches);
     }
-    let only = left_batch(alloc, batch, left)?;
+    let only = left_batches(alloc, batches, left)?;
     Ok(only)
 }

@@ -4,6 +4,7 @@
 mod charter;
 mod generation;
 mod left;
+mod lent;
 mod merging;
 mod named;
 mod reader;

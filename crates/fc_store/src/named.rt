@@ -7,7 +7,7 @@ ghost use Rattle.fc_spec.specs.documents.Totals.{document_total};
 ghost use Rattle.fc_spec.specs.documents.Val.{text};
 ghost use Rattle.fc_base.specs.View.{val_view};
 ghost use Rattle.fc_docs.specs.View.{op_view};
-ghost use Rattle.fc_store.specs.Named.{has_one_of, left_with, op_size, texts_of, IsText, NamesId};
+ghost use Rattle.fc_store.specs.Named.{has_one_of, left_with, op_size, ops_of, texts_of, IsText, NamesId};
 
 use fc_base::{FieldId, Name, Val, WantMemory};
 use fc_docs::Op;
@@ -41,13 +41,13 @@ fn id_of(op: &Op) -> &Name
 }
 
 // How many documents operations add.
-fn document_count(ops: &[Op]) -> u32
-    requires few { document_total (blocks_added (map op_view ops.now)) ≤ 1_048_576 }
-    ensures { result ≡ document_total (blocks_added (map op_view ops.now)) }
+fn document_count(ops: &[&Op]) -> u32
+    requires few { document_total (blocks_added (ops_of ops.now)) ≤ 1_048_576 }
+    ensures { result ≡ document_total (blocks_added (ops_of ops.now)) }
 {
     let mut count = 0;
     for op in ops {
-        if let Op::Add(block) = op {
+        if let Op::Add(block) = *op {
             count += block.children.len() as u32 + 1;
         }
     }
@@ -74,18 +74,18 @@ fn put(left: &mut DocSet, end: u32, op: &Op, is_left: bool) -> u32
 }
 
 /// The positions of the blocks that operations add and that none behind names; and the ids that they name, each once, in ascending order.
-pub fn named<'a>(alloc: Global, ops: &'a [Op]) -> Result<(DocSet, Vec<&'a Name>), WantMemory>
-    requires names { All NamesId (map op_view ops.now) }
-    requires few { document_total (blocks_added (map op_view ops.now)) ≤ 1_048_576 }
-    ensures left { IfOk result (λ made. made.0 ≡ left_set (map op_view ops.now)) }
+pub fn named<'a>(alloc: Global, ops: &[&'a Op]) -> Result<(DocSet, Vec<&'a Name>), WantMemory>
+    requires names { All NamesId (ops_of ops.now) }
+    requires few { document_total (blocks_added (ops_of ops.now)) ≤ 1_048_576 }
+    ensures left { IfOk result (λ made. made.0 ≡ left_set (ops_of ops.now)) }
     ensures ids { IfOk result (λ made. (b : Block)
-        → has_one_of (texts_of made.1.items) b ≡ is_named (map op_view ops.now) b) }
+        → has_one_of (texts_of made.1.items) b ≡ is_named (ops_of ops.now) b) }
 {
     let mut end = document_count(ops);
     let mut left = DocSet::empty(alloc, end)?;
     let mut ids: BTreeSet<&'a Name> = BTreeSet::new(alloc);
     for at in (0..ops.len()).rev() {
-        let op = &ops[at];
+        let op = ops[at];
         let is_left = ids.insert(id_of(op))?;
         end = put(&mut left, end, op, is_left);
     }

@@ -1,12 +1,11 @@
-use Rattle.std.proofs.Common.{◌≡◌, ◌∙◌, ◌++◌, ◌∷◌, [], not, map, ap, sym, subst, subst₂}
+use Rattle.std.proofs.Common.{◌≡◌, ◌∙◌, ◌++◌, ◌∷◌, [], map, ap, sym, subst, subst₂}
 use Rattle.std.specs.Arc.{arc_value}
-use Rattle.std.specs.List.{filter}
 use Rattle.fc_spec.specs.documents.Live.{left_set, HasWholeBlocks}
-use Rattle.fc_spec.specs.documents.Operations.{after_ops, blocks_added, is_named}
+use Rattle.fc_spec.specs.documents.Operations.{after_ops, blocks_added}
 use Rattle.fc_spec.specs.documents.Schema.{Schema, texts_held}
 use Rattle.fc_spec.specs.scripts.WorldLimits.{IsWithinLimits}
 use Rattle.fc_spec.proofs.documents.LiveBlocks.{left_has}
-use Rattle.fc_docs.specs.View.{batch_view, op_view}
+use Rattle.fc_docs.specs.View.{batch_view}
 use Rattle.fc_segment.specs.Merged.{live_blocks, live_blocks_of}
 use Rattle.fc_segment.specs.Segmented.{Segmented}
 use Rattle.fc_store.specs.Generated.{Generated}
@@ -20,7 +19,7 @@ pub with_live-requires : goal.with_live-requires
 with_live-requires c =
     let ops = batch_view c.args.batch.now in
     let blocks : c.in_ok-all.all.blocks ≡ blocks_added ops = ap (λ (z : Segmented). z.blocks) c.in_ok-all.ensures in
-    let left : c.in_ok-kept.left ≡ left_set ops = c.in_ok-kept.ensures.left ∙ ap (λ l. left_set (map op_view l)) c.deref.ensures.value in
+    let left : c.in_ok-kept.left ≡ left_set ops = c.in_ok-kept.ensures.left in
     record { whole = subst₂ HasWholeBlocks (sym blocks) (sym left) (left_has ops) }
 
 pub with_added-requires-clause-added : goal.with_added-requires-clause-added
@@ -28,24 +27,24 @@ with_added-requires-clause-added c =
     let s = c.args.earlier.now.schema in
     let blocks = c.args.earlier.now.blocks in
     let ops = batch_view c.args.batch.now in
-    let left : c.in_ok-kept.left ≡ left_set ops = c.in_ok-kept.ensures.left ∙ ap (λ l. left_set (map op_view l)) c.deref.ensures.value in
-    let schema = c.deref-2.ensures ∙ ap (λ (g : Generated). g.schema) c.earlier.view_is in
+    let left : c.in_ok-kept.left ≡ left_set ops = c.in_ok-kept.ensures.left in
+    let schema = c.deref.ensures ∙ ap (λ (g : Generated). g.schema) c.earlier.view_is in
     let is : c.in_ok-added.added ≡ record { texts = texts_held s.fields; blocks = blocks_added ops; live = left_set ops } =
     c.in_ok-added.ensures ∙ (λ i. record (c.in_ok-all.ensures i) { live = left i }) ∙ ap (λ (z : Schema). record { texts = texts_held z.fields; blocks = blocks_added ops; live = left_set ops }) schema in
     let added : IsAdded s blocks ops c.in_ok-added.added = marked_added s blocks ops c.in_ok-added.added c.requires.batch.valid c.requires.limits is in
-    subst (λ z. AreSegmentsOf z (c.in_ok-added.added ∷ [])) (sym (c.deref-3.ensures ∙ ap (λ (g : Generated). g.schema) c.earlier.view_is)) added.segment
+    subst (λ z. AreSegmentsOf z (c.in_ok-added.added ∷ [])) (sym (c.deref-2.ensures ∙ ap (λ (g : Generated). g.schema) c.earlier.view_is)) added.segment
 
 pub with_added-requires-clause-limits : goal.with_added-requires-clause-limits
 with_added-requires-clause-limits c =
     let s = c.args.earlier.now.schema in
     let blocks = c.args.earlier.now.blocks in
     let ops = batch_view c.args.batch.now in
-    let left : c.in_ok-kept.left ≡ left_set ops = c.in_ok-kept.ensures.left ∙ ap (λ l. left_set (map op_view l)) c.deref.ensures.value in
-    let schema = c.deref-2.ensures ∙ ap (λ (g : Generated). g.schema) c.earlier.view_is in
+    let left : c.in_ok-kept.left ≡ left_set ops = c.in_ok-kept.ensures.left in
+    let schema = c.deref.ensures ∙ ap (λ (g : Generated). g.schema) c.earlier.view_is in
     let is : c.in_ok-added.added ≡ record { texts = texts_held s.fields; blocks = blocks_added ops; live = left_set ops } =
     c.in_ok-added.ensures ∙ (λ i. record (c.in_ok-all.ensures i) { live = left i }) ∙ ap (λ (z : Schema). record { texts = texts_held z.fields; blocks = blocks_added ops; live = left_set ops }) schema in
     let added : IsAdded s blocks ops c.in_ok-added.added = marked_added s blocks ops c.in_ok-added.added c.requires.batch.valid c.requires.limits is in
-    let kept = c.in_ok-kept.ensures.blocks ∙ ap (λ l. filter (λ b. not (is_named (map op_view l) b)) blocks) c.deref.ensures.value in
+    let kept = c.in_ok-kept.ensures.blocks in
     let total : live_blocks_of (map arc_value c.in_ok-kept.kept.items) ++ live_blocks c.in_ok-added.added ≡ after_ops blocks ops = ap (λ l. l ++ live_blocks c.in_ok-added.added) kept ∙ added.left in
     subst (λ l. IsWithinLimits (l ∷ [])) (sym total) (after_within blocks ops c.requires.limits)
 
@@ -54,12 +53,12 @@ returns-clause-blocks c =
     let s = c.args.earlier.now.schema in
     let blocks = c.args.earlier.now.blocks in
     let ops = batch_view c.args.batch.now in
-    let left : c.in_ok-kept.left ≡ left_set ops = c.in_ok-kept.ensures.left ∙ ap (λ l. left_set (map op_view l)) c.deref.ensures.value in
-    let schema = c.deref-2.ensures ∙ ap (λ (g : Generated). g.schema) c.earlier.view_is in
+    let left : c.in_ok-kept.left ≡ left_set ops = c.in_ok-kept.ensures.left in
+    let schema = c.deref.ensures ∙ ap (λ (g : Generated). g.schema) c.earlier.view_is in
     let is : c.in_ok-added.added ≡ record { texts = texts_held s.fields; blocks = blocks_added ops; live = left_set ops } =
     c.in_ok-added.ensures ∙ (λ i. record (c.in_ok-all.ensures i) { live = left i }) ∙ ap (λ (z : Schema). record { texts = texts_held z.fields; blocks = blocks_added ops; live = left_set ops }) schema in
     let added : IsAdded s blocks ops c.in_ok-added.added = marked_added s blocks ops c.in_ok-added.added c.requires.batch.valid c.requires.limits is in
-    let kept = c.in_ok-kept.ensures.blocks ∙ ap (λ l. filter (λ b. not (is_named (map op_view l) b)) blocks) c.deref.ensures.value in
+    let kept = c.in_ok-kept.ensures.blocks in
     let total : live_blocks_of (map arc_value c.in_ok-kept.kept.items) ++ live_blocks c.in_ok-added.added ≡ after_ops blocks ops = ap (λ l. l ++ live_blocks c.in_ok-added.added) kept ∙ added.left in
     c.in_ok-made.ensures.blocks ∙ total
 
@@ -68,11 +67,11 @@ returns-clause-ids c =
     let s = c.args.earlier.now.schema in
     let blocks = c.args.earlier.now.blocks in
     let ops = batch_view c.args.batch.now in
-    let left : c.in_ok-kept.left ≡ left_set ops = c.in_ok-kept.ensures.left ∙ ap (λ l. left_set (map op_view l)) c.deref.ensures.value in
-    let schema = c.deref-2.ensures ∙ ap (λ (g : Generated). g.schema) c.earlier.view_is in
+    let left : c.in_ok-kept.left ≡ left_set ops = c.in_ok-kept.ensures.left in
+    let schema = c.deref.ensures ∙ ap (λ (g : Generated). g.schema) c.earlier.view_is in
     let is : c.in_ok-added.added ≡ record { texts = texts_held s.fields; blocks = blocks_added ops; live = left_set ops } =
     c.in_ok-added.ensures ∙ (λ i. record (c.in_ok-all.ensures i) { live = left i }) ∙ ap (λ (z : Schema). record { texts = texts_held z.fields; blocks = blocks_added ops; live = left_set ops }) schema in
     let added : IsAdded s blocks ops c.in_ok-added.added = marked_added s blocks ops c.in_ok-added.added c.requires.batch.valid c.requires.limits is in
-    let kept = c.in_ok-kept.ensures.blocks ∙ ap (λ l. filter (λ b. not (is_named (map op_view l) b)) blocks) c.deref.ensures.value in
+    let kept = c.in_ok-kept.ensures.blocks in
     let total : live_blocks_of (map arc_value c.in_ok-kept.kept.items) ++ live_blocks c.in_ok-added.added ≡ after_ops blocks ops = ap (λ l. l ++ live_blocks c.in_ok-added.added) kept ∙ added.left in
     subst HaveOwnIds (sym (c.in_ok-made.ensures.blocks ∙ total)) (own_ids_after blocks ops c.in_ok-kept.ensures.ids)
