@@ -9,9 +9,10 @@ use Rattle.fc_spec.specs.documents.Totals.{documents_in, document_total}
 use Rattle.fc_spec.specs.documents.Val.{long}
 use Rattle.fc_spec.specs.documents.World.{shard_places}
 use Rattle.fc_spec.specs.requests.Request.{StatKind, sum, min, max, countvals, missing}
-use Rattle.fc_spec.specs.requests.Statistics.{number, extreme, total_of, least_of, greatest_of, longs_of, pair_values, statistic_in}
+use Rattle.fc_spec.specs.requests.Statistics.{number, longs_of, pair_values, statistic_in}
 use Rattle.fc_spec.specs.words.Lists.{is_empty}
 use Rattle.fc_spec.proofs.documents.PlacedDocuments.{documents_at-shard}
+use Rattle.fc_partial.specs.OneDocument.{statistic_of}
 use Rattle.fc_partial.specs.Singles.{integers_at, statistic_of_singles}
 use Rattle.fc_partial.proofs.ValueLists.{longs_in-longs}
 use Rattle.fc_kind.specs.PlaceAt.{place_at}
@@ -46,8 +47,8 @@ module _ (blocks : List Block) (field : ℕ) (values : List ℤ) (all : column_o
   -- so a statistic is that of the integers
   pub statistic : (of : StatKind) (ps : List ℕ) → All (λ at. at < document_total blocks) ps
       → statistic_in of field (map (place_at blocks) ps) ≡ statistic_of_singles of (integers_at values ps)
-  statistic sum ps there = ap (λ zs. number (total_of zs)) (longs ps there)
-  statistic min ps there = ap (λ zs. extreme (least_of zs)) (longs ps there)
-  statistic max ps there = ap (λ zs. extreme (greatest_of zs)) (longs ps there)
-  statistic countvals ps there = ap (λ vs. number (pos (length vs))) (pairs ps there) ∙ ap (λ n. number (pos n)) (length-map (integers_at values ps) long)
   statistic missing ps there = ap (λ n. number (pos n)) (none_missing ps there)
+  statistic sum ps there = ap (statistic_of sum) (pairs ps there)
+  statistic min ps there = ap (statistic_of min) (pairs ps there)
+  statistic max ps there = ap (statistic_of max) (pairs ps there)
+  statistic countvals ps there = ap (statistic_of countvals) (pairs ps there)

@@ -1,5 +1,5 @@
 // The statistics of a set of documents of a segment.
-ghost use Rattle.std.specs.Prelude.{◌≡◌, ◌≢◌, ◌<◌, ◌≤◌, [], ◌∷◌, length, map, nat_abs, slice_set, sum_by, vec_len, IfOk, IfSome, IsSome, OnOk};
+ghost use Rattle.std.specs.Prelude.{◌≡◌, ◌≢◌, ◌<◌, ◌≤◌, [], ◌∷◌, count_by, length, map, nat_abs, slice_set, sum_by, vec_len, IfOk, IfSome, IsSome, OnOk};
 ghost use Rattle.std.specs.List.{items_where_true};
 ghost use Rattle.fc_spec.specs.documents.Columns.{column_of};
 ghost use Rattle.fc_spec.specs.documents.Sets.{places_on};
@@ -17,7 +17,7 @@ ghost use Rattle.fc_partial.specs.CombinedAt.{value_at};
 ghost use Rattle.fc_partial.specs.OneDocument.{statistic_of};
 ghost use Rattle.fc_partial.specs.StatsView.{stats_view};
 
-use crate::statistics::value_at_all;
+use crate::statistics::{stats_at, value_at_all};
 use fc_base::{Stat, StatKind, WantMemory};
 use fc_column::LongColumn;
 use fc_docset::DocSet;
@@ -38,11 +38,40 @@ pub fn set_stats(
     ensures { IfOk result (λ over. stats_view over ≡ stats_over (map stat_view stats.now)
         (places_on 0 segment.now.blocks docs.now)) }
 {
+    let count = docs.count();
+    if stats.is_empty() {
+        return Ok(Stats {
+            count: u64::from(count),
+            values: Vec::new(alloc),
+        });
+    }
+    if count < docs.len() / 64 {
+        let positions = listed(alloc, docs, count)?;
+        return stats_at(alloc, segment, stats, &positions);
+    }
+    stats_of_many(alloc, segment, stats, docs, count)
+}
+
+// The same of a set with at least as many documents as words, of which the number is known.
+fn stats_of_many(
+    alloc: Global,
+    segment: &Segment,
+    stats: &[Stat],
+    docs: &DocSet,
+    count: u32,
+) -> Result<Stats, WantMemory>
+    requires fields { HaveFields segment.now.texts (map stat_view stats.now) }
+    requires limits { IsWithinLimits (segment.now.blocks ∷ []) }
+    requires length { length docs.now ≡ document_total segment.now.blocks }
+    requires count { count ≡ count_by (λ here. here) docs.now }
+    ensures { IfOk result (λ over. stats_view over ≡ stats_over (map stat_view stats.now)
+        (places_on 0 segment.now.blocks docs.now)) }
+{
     let mut over = Stats::neutral(alloc, stats)?;
-    over.count = u64::from(docs.count());
+    over.count = u64::from(count);
     for (at, stat) in stats.iter().enumerate() {
         let place = u32::try_from(at).map_err(|_| WantMemory)?;
-        put_statistic(alloc, segment, *stat, docs, place, &mut over)?;
+        put_statistic(alloc, segment, *stat, docs, count, place, &mut over)?;
     }
     Ok(over)
 }
@@ -53,12 +82,14 @@ fn put_statistic(
     segment: &Segment,
     stat: Stat,
     docs: &DocSet,
+    count: u32,
     at: u32,
     over: &mut Stats,
 ) -> Result<(), WantMemory>
     requires field { stat.field.0 < length segment.now.texts }
     requires limits { IsWithinLimits (segment.now.blocks ∷ []) }
     requires length { length docs.now ≡ document_total segment.now.blocks }
+    requires count { count ≡ count_by (λ here. here) docs.now }
     requires place { at < vec_len over.old.values }
     requires neutral { value_at (stats_view over.old) at ≡ value_over (stat_view stat) [] }
     ensures { OnOk result (stats_view over.new ≡ record (stats_view over.old) {
@@ -66,10 +97,10 @@ fn put_statistic(
           (value_over (stat_view stat) (places_on 0 segment.now.blocks docs.now));
     }) }
 {
-    match dense_column(segment, stat, docs) {
+    match dense_column(segment, stat, count) {
         Some(column) => add_by_mask(alloc, column, docs, stat.of, at, over),
         None => {
-            let positions = listed(alloc, docs)?;
+            let positions = listed(alloc, docs, count)?;
             over.values[at as usize] = value_at_all(segment, stat, &positions);
             Ok(())
         }
@@ -78,7 +109,7 @@ fn put_statistic(
 
 // The column of the integers that a statistic reads, where a mask over all of them has no more words than there are documents in the
 // set.
-fn dense_column<'a>(segment: &'a Segment, stat: Stat, docs: &DocSet) -> Option<&'a LongColumn>
+fn dense_column(segment: &Segment, stat: Stat, count: u32) -> Option<&LongColumn>
     requires { stat.field.0 < length segment.now.texts }
     ensures values { IfSome result (λ column. map (map long) column.now
         ≡ column_of stat.field.0 (documents_in segment.now.blocks)) }
@@ -88,7 +119,7 @@ fn dense_column<'a>(segment: &'a Segment, stat: Stat, docs: &DocSet) -> Option<&
         return None;
     }
     match segment.column(stat.field) {
-        Column::Long(column) if column.flat().len() / 64 <= docs.count() as usize => Some(column),
+        Column::Long(column) if column.flat().len() / 64 <= count as usize => Some(column),
         _ => None,
     }
 }
@@ -123,11 +154,12 @@ fn add_by_mask(
     Ok(())
 }
 
-// The positions in a set.
-fn listed(alloc: Global, docs: &DocSet) -> Result<Vec<u32>, WantMemory>
+// The positions in a set, of which the number is known.
+fn listed(alloc: Global, docs: &DocSet, count: u32) -> Result<Vec<u32>, WantMemory>
+    requires { count ≡ count_by (λ here. here) docs.now }
     ensures { IfOk result (λ list. list.items ≡ positions docs.now) }
 {
-    let mut list = Vec::with_capacity(alloc, docs.count() as usize)?;
+    let mut list = Vec::with_capacity(alloc, count as usize)?;
     for at in docs.iter() {
         list.push(at)?;
     }

@@ -19,8 +19,9 @@ use fc_lane::{masked_count, masked_max, masked_min, masked_sum};
 impl Stats {
     ghost use Rattle.fc_partial.specs.StatsView.{stats_view};
 
-    /// Combines the statistic at a place, which is of this kind, with that of documents that have the
-    /// integers whose bit is 1 in the mask. The count and the other statistics stay.
+    /// Combines what stands at a place, as statistics of this kind are combined, with the statistic of
+    /// documents that have the integers whose bit is 1 in the mask. The count and the other statistics
+    /// stay.
     pub fn add_longs(&mut self, at: u32, of: StatKind, values: &[i64], mask: &[u64])
         requires place { at < vec_len self.old.values }
         requires kind { stat_kind_view of ≢ missing }

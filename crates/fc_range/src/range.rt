@@ -39,44 +39,7 @@ use std::alloc::Global;
 #[derive(Debug, Drop)]
 pub struct RangeKind;
 
-// Collects the buckets of the gaps, all side by side.
-fn collect_gaps_side_by_side(
-    alloc: Global,
-    segment: &Segment,
-    docs: &DocSet,
-    range: &Range,
-    stats: Vec<Stat>,
-    into: &mut Tally,
-) -> Result<(), WantMemory>
-    requires fits { FitsColumns segment.now.texts (kind.range (range_view range.now)) }
-    requires fields { HaveFields segment.now.texts (map stat_view stats.items) }
-    requires limits { IsWithinLimits (segment.now.blocks ∷ []) }
-    requires length { length docs.now ≡ document_total segment.now.blocks }
-    requires stats { into.old.stats ≡ map stat_view stats.items }
-    requires add_up { (k : bucket.Key) → is_gap_of (range_view range.now) k ≡ true
-        → ForSome (entry_at into.old.entries k) (λ there. AddUp there (stats_over into.old.stats
-        (bucket_places (kind.range (range_view range.now)) k
-        (places_on 0 segment.now.blocks docs.now)))) }
-    ensures { OnOk result (CollectsAmong (is_gap_of (range_view range.now))
-        (kind.range (range_view range.now)) into.old.stats
-        (places_on 0 segment.now.blocks docs.now) into.old into.new) }
-{
-    let Column::Long(column) = segment.column(range.field) else {
-        unreachable!()
-    };
-    let gaps = range.gaps();
-    let bound = gaps as usize;
-    let numbers = GapNumbers {
-        range,
-        gaps,
-        column,
-    };
-    let cells = counted_cells(alloc, segment, docs, stats, bound, &numbers)?;
-    add_cells(alloc, &cells, bound, &GapKeys, into)?;
-    Ok(())
-}
-
-// Collects the buckets of the gaps.
+// Collects the buckets of the gaps, one after another or all side by side.
 fn collect_gaps(
     alloc: Global,
     segment: &Segment,
@@ -104,7 +67,16 @@ fn collect_gaps(
     if is_cheap_by_sets(column, docs, range, &stats) {
         return collect_gaps_by_sets(alloc, segment, docs, range, &stats, into);
     }
-    collect_gaps_side_by_side(alloc, segment, docs, range, stats, into)
+    let gaps = range.gaps();
+    let bound = gaps as usize;
+    let numbers = GapNumbers {
+        range,
+        gaps,
+        column,
+    };
+    let cells = counted_cells(alloc, segment, docs, stats, bound, &numbers)?;
+    add_cells(alloc, &cells, bound, &GapKeys, into)?;
+    Ok(())
 }
 
 // Collects a bucket beside the gaps, if it is asked for.

@@ -1,45 +1,31 @@
-use Rattle.std.proofs.Common.{◌≡◌, ◌∙◌, ◌++◌, [], map, drop, length, sym, ap, ap₂, subst, arith, append-nil, rules, add-one}
-use Rattle.std.proofs.lemmas.List.{drop_all, take_all}
-use Rattle.std.proofs.lemmas.Simd.{map-map}
-use Rattle.fc_spec.specs.documents.Sets.{places_on}
-use Rattle.fc_spec.specs.requests.Statistics.{Stats, value_over}
+use Rattle.std.proofs.Common.{◌≡◌, ◌∙◌, [], length, map, IfOk, sym, ap, ap₂, subst}
+use Rattle.std.proofs.lemmas.Bool.{eqb-true}
+use Rattle.std.proofs.lemmas.List.{nil_from_length}
 use Rattle.fc_base.specs.StatisticView.{stat_view}
+use Rattle.fc_spec.specs.requests.Statistics.{stats_over}
 use Rattle.fc_partial.specs.StatsView.{stats_view}
 use Rattle.fc_partial.specs.View.{stat_value_view}
-use Rattle.fc_kind.specs.Columns.{HaveFields}
-use Rattle.fc_kind.proofs.PutValues.{fields_left, put_one}
-use Rattle.fc_kind.proofs.SetCounts.{places_counted}
+use Rattle.fc_kind.specs.PlaceAt.{place_at}
+use Rattle.fc_kind.proofs.PickedPlaces.{all_below, all_fit, places_picked}
+use Rattle.fc_kind.proofs.SetCounts.{stats_none}
 use Rattle.fc_kind.proofs.set_statistics.set_stats.Goals as goal
 
-pub loop-at-init : goal.loop-at-init
-loop-at-init c =
-    let values = ap (λ (s : Stats). s.values) c.in_ok-over.ensures ∙ map-map (λ s. value_over s []) stat_view c.args.stats.now in
-    let count = c.from.ensures ∙ c.count.ensures ∙ places_counted c.args.segment.now.blocks c.args.docs.now c.requires.length in
-    record {
-      so_far = ap₂ (λ n l. record { count = n; values = l }) count values;
-      fields = c.requires.fields;
-    }
+pub returns-then-is_empty : goal.returns-then-is_empty
+returns-then-is_empty c =
+    let none : c.args.stats.now ≡ [] = nil_from_length c.args.stats.now (eqb-true (length c.args.stats.now) 0 (sym c.is_empty.ensures ∙ c.if-is_empty.true)) in
+    ap₂ (λ n vs. record { count = n; values = vs }) (c.from.ensures ∙ c.count-count.ensures) (ap (map stat_value_view) c.new.ensures.items)
+    ∙ stats_none c.args.segment.now.blocks c.args.docs.now (map stat_view c.args.stats.now) c.requires.length (ap (map stat_view) none)
 
-pub loop-at-preserved : goal.loop-at-preserved
-loop-at-preserved c =
-    let stats = c.args.stats.now in
-    let at = c.loop-at.at in
-    let X = places_on 0 c.args.segment.now.blocks c.args.docs.now in
-    let place : c.in_ok-place.place ≡ at = search rules in
-    record {
-      so_far = put_one (λ s. value_over (stat_view s) X) (λ s. value_over (stat_view s) []) _ stats at c.in_ok-place.place c.loop-at.over.count (length X)
-          (map stat_value_view c.loop-at.over.values.items) (stats_view c.put_statistic.new.over) (omega arith) place c.loop-at.invariant.so_far
-          c.in_ok-put_statistic.ensures;
-      fields = subst (λ n. HaveFields c.args.segment.now.texts (map stat_view (drop n stats))) (sym (add-one at))
-          (fields_left c.args.segment.now.texts stat_view stats at (omega arith) c.loop-at.invariant.fields);
-    }
+pub stats_at-requires-clause-there : goal.stats_at-requires-clause-there
+stats_at-requires-clause-there c =
+    rw (c.deref.ensures.value, c.in_ok-positions.ensures) (all_below c.args.segment.now.blocks c.args.docs.now c.requires.length)
 
-pub returns : goal.returns
-returns c =
-    let stats = c.args.stats.now in
-    let X = places_on 0 c.args.segment.now.blocks c.args.docs.now in
-    let done = ap (map (λ s. value_over (stat_view s) X)) (take_all c.loop-at.at stats (omega arith)) in
-    let left = ap (map (λ s. value_over (stat_view s) [])) (drop_all c.loop-at.at stats (omega arith)) in
-    c.loop-at.invariant.so_far
-    ∙ ap (λ l. record { count = length X; values = l })
-    (ap₂ (λ a b. a ++ b) done left ∙ append-nil (map (λ s. value_over (stat_view s) X) stats) ∙ sym (map-map (λ s. value_over s X) stat_view stats))
+pub stats_at-requires-clause-fit : goal.stats_at-requires-clause-fit
+stats_at-requires-clause-fit c =
+    rw (c.deref.ensures.value, c.in_ok-positions.ensures) (all_fit c.args.segment.now.blocks c.args.docs.now c.requires.length c.requires.limits)
+
+pub returns-then-count-len : goal.returns-then-count-len
+returns-then-count-len c =
+    let blocks = c.args.segment.now.blocks in
+    let places = ap (map (place_at blocks)) (c.deref.ensures.value ∙ c.in_ok-positions.ensures) ∙ places_picked blocks c.args.docs.now c.requires.length in
+    subst (λ X. IfOk c.stats_at.result (λ over. stats_view over ≡ stats_over (map stat_view c.args.stats.now) X)) places c.stats_at.ensures

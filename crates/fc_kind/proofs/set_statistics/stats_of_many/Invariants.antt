@@ -4,7 +4,7 @@ use Rattle.fc_spec.specs.requests.Statistics.{value_over}
 use Rattle.fc_base.specs.StatisticView.{stat_view}
 use Rattle.fc_partial.specs.StatsView.{stats_view}
 use Rattle.fc_kind.specs.Columns.{HaveFields}
-use Rattle.fc_kind.proofs.set_statistics.set_stats.Given as goal
+use Rattle.fc_kind.proofs.set_statistics.stats_of_many.Given as goal
 
 abbrev pub invariant-loop-at : goal.invariant-loop-at
 invariant-loop-at l = record {

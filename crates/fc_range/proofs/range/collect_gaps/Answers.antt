@@ -18,7 +18,7 @@ use Rattle.fc_count.proofs.CountedBuckets.{cell_of_bucket, counted_collects}
 use Rattle.fc_range.specs.GapKeys.{gap_key, is_gap_of}
 use Rattle.fc_range.proofs.BucketRows.{row_in_bucket}
 use Rattle.fc_range.proofs.GapBuckets.{gap_found, gap_there}
-use Rattle.fc_range.proofs.range.collect_gaps_side_by_side.Goals as goal
+use Rattle.fc_range.proofs.range.collect_gaps.Goals as goal
 
 pub add_cells-requires-clause-add_up : goal.add_cells-requires-clause-add_up
 add_cells-requires-clause-add_up c =
