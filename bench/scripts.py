@@ -177,6 +177,13 @@ def statistics(size):
     yield search({"f": terms("n", limit=-1, facet=every)})
 
 
+@script(1000, "60 statistics of the few documents of a brand in each of {:,} integers")
+def statistics_of_few(size):
+    every = {f"s{i}": f"{('sum', 'min')[i % 2]}(price)" for i in range(60)}
+    yield from filled(1, {**PRICE, "brand": "string", "n": "plong"}, ({"n": i % size, "price": i, "brand": f"b{i % 13}"} for i in range(100 * size)))
+    yield search({"f": terms("n", limit=-1, facet={"g": {"type": "query", "q": "brand:b1", "facet": every}})})
+
+
 @script(500, "{:,} texts of 8,000 letters, each with the one before as its front, on four shards, three searches")
 def texts_with_one_front(size):
     yield from filled(4, {"text": "string"}, ({"text": "x" * (8000 + i)} for i in range(size)))
