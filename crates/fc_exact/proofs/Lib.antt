@@ -1,0 +1,14 @@
+pub mod AskLists
+pub mod Askable
+pub mod FacetsTold
+pub mod Heard
+pub mod InOrder
+pub mod LentLists
+pub mod NextAsks
+pub mod NextFacets
+pub mod Shards
+pub mod StateAfter
+pub mod ToldLists
+pub mod TotalLists
+pub mod ValueMaps
+pub mod WantLists
