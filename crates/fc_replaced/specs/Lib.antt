@@ -1,0 +1,3 @@
+pub mod TopsView
+pub mod ExactParts
+pub mod Fronts
