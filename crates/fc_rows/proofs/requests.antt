@@ -4,6 +4,7 @@ pub mod ReadRanges
 pub mod ReadRequests
 pub mod RequestBounds
 pub mod RequestFaults
+pub mod ExactFacets
 pub mod RequestOrder
 pub mod RequestSizes
 pub mod RequestWords

@@ -2,7 +2,7 @@
 use Rattle.std.proofs.Common.{◌≡◌, ℕ, suc, ◌<◌, ◌≤◌, max, List, [], ◌∷◌, length, Bool, true, false, cond, Some, refl, sym, ◌∙◌, ap, subst, arith, get_or, All}
 use Rattle.std.specs.Prelude.{nat_le, slice_get, IsTrue, IsSomeAnd, not, map, ◌+◌}
 use Rattle.std.specs.List.{filter, AllByRecursion}
-use Rattle.std.proofs.lemmas.Bool.{and_parts}
+use Rattle.std.proofs.lemmas.Bool.{and_parts, and_from}
 use Rattle.std.proofs.lemmas.List.Elements.{All-head, All-tail}
 use Rattle.std.proofs.lemmas.Option.{slice_get-get_or}
 use Rattle.fc_spec.specs.documents.Val.{Text, Val, text, long, same_val, has_val, distinct}
@@ -12,7 +12,7 @@ use Rattle.fc_spec.specs.documents.ValidBlocks.{is_of_type, is_value_of, IsDocum
 use Rattle.fc_spec.specs.documents.World.{World, Place, places, places_from, shard_places, block_places}
 use Rattle.fc_spec.specs.queries.ValidQueries.{IsValidQuery}
 use Rattle.fc_spec.specs.requests.Request.{Stat, Terms, Kind, terms, range, query, DomainChange, BlockStep, stay, parents, children, Facet, Nodes, no_nodes, statistic, facet, Request, stats_of}
-use Rattle.fc_spec.specs.requests.Shape.{is_exact, stays}
+use Rattle.fc_spec.specs.requests.Shape.{is_exact, stays, none_says_exact, outermost_exact}
 use Rattle.fc_spec.specs.requests.Base.{meets_base, root_domain}
 use Rattle.fc_spec.specs.requests.Domain.{moved}
 use Rattle.fc_spec.specs.requests.Paths.{at_root, meets_rebuilt, rebuilt, domain}
@@ -23,7 +23,7 @@ use Rattle.fc_spec.specs.requests.ValidRequests.{IsValidChange, IsValidFacet, Ar
 use Rattle.fc_spec.specs.words.Lists.{is_empty}
 use Rattle.fc_spec.specs.replies.Printed.{asked}
 use Rattle.fc_spec.specs.replies.Values.{value_places, values_in, entries_in}
-use Rattle.fc_spec.specs.replies.Tops.{printed_values, tops, tops_in, tops_of, key_query, key_nodes, top_keys, first_list, lists_after, replaced_nodes}
+use Rattle.fc_spec.specs.replies.Tops.{printed_values, tops, tops_in, tops_of, key_query, key_nodes, top_keys, first_list, lists_after, replaced_facet, replaced_nodes}
 use Rattle.fc_spec.specs.laws.ReplacedLaw.{HasBlocksOf, ReplacedAreSearchable}
 use Rattle.fc_spec.proofs.words.Members.{Every, every_from_members, every_filter, every_map, filter_member, passing_member, all_from_members, each_member}
 use Rattle.fc_spec.proofs.documents.ValOrder.{same_val_exact}
@@ -184,7 +184,29 @@ module _ (s : Schema) where
     nodes_valid (statistic name st rest) vss h same = let later = nodes_valid rest vss h.1 same in ((h.0, later.0), (let deep : node_depth (replaced_nodes rest vss) ≤ node_depth rest = later.1 in omega arith))
     nodes_valid (facet f inner rest) vss h same = kind_valid f.name f.change f.kind inner rest vss h.0 h.1 same (λ us e. nodes_valid rest us h.2 e)
 
+-- ---- exact facets stand outermost
+
+keys_stand : (f : Facet) (t : Terms) (inner : Nodes) (ks : List Key) (more : Nodes) → none_says_exact inner ≡ true → outermost_exact more ≡ true → outermost_exact (key_nodes f t inner ks more) ≡ true
+keys_stand f t inner [] more none later = later
+keys_stand f t inner (k ∷ ks) more none later = and_from (none_says_exact inner) (outermost_exact (key_nodes f t inner ks more)) none (keys_stand f t inner ks more none later)
+
+facet_stands : (f : Facet) (kind : Kind) (inner : Nodes) (vs : List Val) (more : Nodes) → none_says_exact inner ≡ true → outermost_exact more ≡ true → outermost_exact (replaced_facet kind f inner vs more) ≡ true
+facet_stands f (terms t) inner vs more none later = go (is_exact (terms t))
+  where
+    go : (b : Bool) → outermost_exact (cond b (key_nodes f t inner (top_keys t vs) more) (facet f inner more)) ≡ true
+    go true = keys_stand f t inner (top_keys t vs) more none later
+    go false = and_from (none_says_exact inner) (outermost_exact more) none later
+facet_stands f (range g) inner vs more none later = and_from (none_says_exact inner) (outermost_exact more) none later
+facet_stands f (query q) inner vs more none later = and_from (none_says_exact inner) (outermost_exact more) none later
+
+replaced_stand : (nodes : Nodes) (vss : List (List Val)) → outermost_exact nodes ≡ true → outermost_exact (replaced_nodes nodes vss) ≡ true
+replaced_stand no_nodes vss h = refl
+replaced_stand (statistic name st rest) vss h = replaced_stand rest vss h
+replaced_stand (facet f inner rest) vss h =
+    let parts = and_parts (none_says_exact inner) (outermost_exact rest) h in
+    facet_stands f f.kind inner (first_list vss) (replaced_nodes rest (lists_after (is_exact f.kind) vss)) parts.0 (replaced_stand rest (lists_after (is_exact f.kind) vss) parts.1)
+
 pub replaced_are_searchable : ReplacedAreSearchable
 replaced_are_searchable s r W h blocks =
     let valid = nodes_valid s r W (world_own s 0 W blocks) r.nodes (tops_of r W) h.nodes refl in
-    record { query = h.query; filters = h.filters; nodes = valid.0; depth = (let d = h.depth in let e : node_depth (replaced_nodes r.nodes (tops_of r W)) ≤ node_depth r.nodes = valid.1 in omega arith) }
+    record { query = h.query; filters = h.filters; nodes = valid.0; exact = replaced_stand r.nodes (tops_of r W) h.exact; depth = (let d = h.depth in let e : node_depth (replaced_nodes r.nodes (tops_of r W)) ≤ node_depth r.nodes = valid.1 in omega arith) }

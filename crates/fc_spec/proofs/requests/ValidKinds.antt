@@ -1,5 +1,5 @@
 -- The terms and range facets that are read are valid for the schema.
-use Rattle.std.proofs.Common.{◌≡◌, refl, sym, ◌∙◌, ℕ, ◌<◌, ◌≤◌, ◌^◌, ℤ, pos, negsuc, [], length, Bool, true, false, cond, ◌&&◌, not, Option, None, Some, IfSome, IfOk, ok_or, arith}
+use Rattle.std.proofs.Common.{◌≡◌, refl, ℕ, ◌<◌, ◌≤◌, ◌^◌, ℤ, pos, negsuc, [], length, Bool, true, false, cond, ◌&&◌, not, Option, None, Some, IfSome, IfOk, ok_or, arith}
 use Rattle.std.specs.Prelude.{codes, ◌≤ℤ◌, ◌<ℤ◌, int_lt, nat_lt, nat_le, unsigned_abs}
 use Rattle.std.proofs.lemmas.Bool.{leb-true, ltb-false}
 use Rattle.std.proofs.lemmas.Bool.Decides.{nat_tests}
@@ -8,15 +8,16 @@ use Rattle.fc_spec.specs.requests.DomainReading.{text_query}
 use Rattle.serde_json.specs.Data.{Num, unsigned, negative, float, Data, null, boolean, number, string, array, object, Members}
 use Rattle.serde_json.specs.Find.{get_member, as_i64}
 use Rattle.fc_spec.specs.documents.Val.{Text}
-use Rattle.std.proofs.lemmas.Bool.{false≢true}
 use Rattle.fc_spec.specs.documents.Schema.{Schema, field_named, holds_texts}
 use Rattle.fc_spec.specs.documents.IntegerTexts.{is_long}
 use Rattle.fc_spec.specs.requests.Request.{Terms, Sort, Nodes, no_nodes, Kind}
 use Rattle.fc_spec.specs.requests.RequestFault.{unknown_field, bad_parameter, wrong_field_type, too_large, missing_parameter}
 use Rattle.fc_spec.specs.requests.RequestWalk.{required, optional, integer_in, whole_in, truth_in, text_in}
 use Rattle.fc_spec.specs.requests.Gaps.{gap_count, last_end}
+use Rattle.fc_spec.specs.requests.Least.{count_first}
+use Rattle.fc_spec.specs.requests.Shape.{says_exact}
 use Rattle.fc_spec.specs.requests.StatisticReading.{has_type}
-use Rattle.fc_spec.specs.requests.FacetReading.{field_in, up_to_a_million, limit_from, prefix_in, terms_parts, over_number, words_in, other_words, include_words, range_of, range_parts, query_part}
+use Rattle.fc_spec.specs.requests.FacetReading.{Refining, not_refined, by_offers, exactly, refines, is_exactly, refining_in, field_in, up_to_a_million, limit_from, prefix_in, terms_parts, over_number, words_in, other_words, include_words, range_of, range_parts, query_part}
 use Rattle.fc_spec.specs.scripts.JsonValues.{is_number, HasNumbers, MembersHaveNumbers}
 use Rattle.fc_spec.specs.queries.ValidQueries.{IsValidQuery}
 use Rattle.fc_spec.specs.requests.ValidRequests.{IsFew, IsValidTerms, IsValidRange, IsValidKind}
@@ -89,56 +90,54 @@ prefix_in_valid s field d = whatever (IsPrefix s field) (text_in d) _ (λ t. goi
 up_to : (low default : ℤ) (name : Text) (ms : Members) → IsWithin low (pos 1_000_000) default → IfOk (optional name (up_to_a_million low) default ms) (IsWithin low (pos 1_000_000))
 up_to low default name ms h = if_there (IsWithin low (pos 1_000_000)) (up_to_a_million low) default (get_member name ms) h (within low (pos 1_000_000))
 
--- valid by itself, as its sort stands, and not refined exactly
-pub record AreValidParts (s : Schema) (t : Terms) : Type 0 where
-  pub valid : IsValidTerms s no_nodes t
-  pub not_exact : t.exact ≡ false
+exactly_refined : (refine : Refining) → is_exactly refine ≡ true → refines refine ≡ true
+exactly_refined not_refined h = absurd cc
+exactly_refined by_offers h = refl
+exactly_refined exactly h = refl
 
-pub parts_valid : (s : Schema) (ms : Members) → IfOk (terms_parts s ms) (AreValidParts s)
+-- valid by itself, as its sort stands
+pub parts_valid : (s : Schema) (ms : Members) → IfOk (terms_parts s ms) (IsValidTerms s no_nodes)
 unfolding IsPrefix
 parts_valid s ms =
-    let P = AreValidParts s in
+    let P = IsValidTerms s no_nodes in
     going_on P (λ n. n < length s.fields) (required (codes "field") (field_in s) ms) _ (needed (λ n. n < length s.fields) (codes "field") (field_in s) ms (field_in_valid s))
     (λ field h. going_on P (IsWithin (pos 0) (pos 1_000_000)) (optional (codes "offset") (up_to_a_million (pos 0)) (pos 0) ms) _ (up_to (pos 0) (pos 0) (codes "offset") ms refl)
     (λ offset o. going_on P (IsWithin (negsuc 0) (pos 1_000_000)) (optional (codes "limit") (up_to_a_million (negsuc 0)) (pos 10) ms) _ (up_to (negsuc 0) (pos 10) (codes "limit") ms refl)
     (λ limit l. going_on P (IsWithin (pos 1) (pos 1_000_000)) (optional (codes "mincount") (up_to_a_million (pos 1)) (pos 1) ms) _ (up_to (pos 1) (pos 1) (codes "mincount") ms refl)
     (λ mincount m. whatever P (optional (codes "missing") truth_in false ms) _
     (λ missing. going_on P (IsPrefix s field) (optional (codes "prefix") (prefix_in s field) None ms) _ (if_there (IsPrefix s field) (prefix_in s field) None (get_member (codes "prefix") ms) tt (prefix_in_valid s field))
-    (λ prefix p. whatever P (optional (codes "refine") truth_in false ms) _
+    (λ prefix p. whatever P (optional (codes "refine") refining_in not_refined ms) _
     (λ refine. going_on P (IsWithin (negsuc 0) (pos 1_000_000)) (optional (codes "overrequest") (up_to_a_million (negsuc 0)) (negsuc 0) ms) _ (up_to (negsuc 0) (negsuc 0) (codes "overrequest") ms refl)
     (λ overrequest a. going_on P (IsWithin (negsuc 0) (pos 1_000_000)) (optional (codes "overrefine") (up_to_a_million (negsuc 0)) (negsuc 0) ms) _ (up_to (negsuc 0) (negsuc 0) (codes "overrefine") ms refl)
     (λ overrefine b. whatever P (optional (codes "method") text_in [] ms) _
     (λ method. record {
-      not_exact = refl;
-      valid = record {
-        field = h;
-        offset = from_zero offset o;
-        limit = limit_few limit l;
-        sort = tt;
-        mincount = (from_one mincount m).0;
-        few = (from_one mincount m).1;
-        prefix = p;
-        overrequest = over_few (limit_from limit) overrequest (limit_few limit l) a;
-        overrefine = over_few (limit_from limit) overrefine (limit_few limit l) b;
-        unlimited = λ e. (no_over (limit_from limit) overrequest e, no_over (limit_from limit) overrefine e);
-        exact = λ e. absurd (false≢true e);
-      };
+      field = h;
+      offset = from_zero offset o;
+      limit = limit_few limit l;
+      sort = tt;
+      mincount = (from_one mincount m).0;
+      few = (from_one mincount m).1;
+      prefix = p;
+      overrequest = over_few (limit_from limit) overrequest (limit_few limit l) a;
+      overrefine = over_few (limit_from limit) overrefine (limit_few limit l) b;
+      unlimited = λ e. (no_over (limit_from limit) overrequest e, no_over (limit_from limit) overrefine e);
+      exact = λ e. (exactly_refined refine e, refl);
     }))))))))))
 
 -- and with a sort by what stands under it
-pub terms_valid : (s : Schema) (inner : Nodes) (t : Terms) (sort : Sort) → AreValidParts s t → NamesItsStatistic inner sort → IsValidTerms s inner (record t { sort = sort })
-terms_valid s inner t sort h k = record {
-  field = (h.valid).field;
-  offset = (h.valid).offset;
-  limit = (h.valid).limit;
+pub terms_valid : (s : Schema) (inner : Nodes) (t : Terms) (sort : Sort) → IsValidTerms s no_nodes t → NamesItsStatistic inner sort → (t.exact ≡ true → sort ≡ count_first) → IsValidTerms s inner (record t { sort = sort })
+terms_valid s inner t sort h k sorted = record {
+  field = h.field;
+  offset = h.offset;
+  limit = h.limit;
   sort = k;
-  mincount = (h.valid).mincount;
-  few = (h.valid).few;
-  prefix = (h.valid).prefix;
-  overrequest = (h.valid).overrequest;
-  overrefine = (h.valid).overrefine;
-  unlimited = (h.valid).unlimited;
-  exact = λ e. absurd (false≢true (sym h.not_exact ∙ e));
+  mincount = h.mincount;
+  few = h.few;
+  prefix = h.prefix;
+  overrequest = h.overrequest;
+  overrefine = h.overrefine;
+  unlimited = h.unlimited;
+  exact = λ e. ((h.exact e).0, sorted e);
 }
 
 -- ---- ranges
@@ -205,9 +204,9 @@ range_valid s ms numbers =
 
 -- ---- queries
 
--- it is valid whatever stands inside it
+-- it is valid whatever stands inside it, and is not refined exactly
 abbrev pub IsKindAnywhere : Schema → Kind → Type 0
-IsKindAnywhere s kind = (inner : Nodes) → IsValidKind s inner kind
+IsKindAnywhere s kind = ((inner : Nodes) → IsValidKind s inner kind) × (says_exact kind ≡ false)
 
 pub query_part_valid : (s : Schema) (ms : Members) → IfOk (query_part s ms) (IsKindAnywhere s)
-query_part_valid s ms = going_on (IsKindAnywhere s) (IsValidQuery s) (required (codes "q") (text_query s) ms) _ (needed (IsValidQuery s) (codes "q") (text_query s) ms (text_query_valid s)) (λ q h inner. h)
+query_part_valid s ms = going_on (IsKindAnywhere s) (IsValidQuery s) (required (codes "q") (text_query s) ms) _ (needed (IsValidQuery s) (codes "q") (text_query s) ms (text_query_valid s)) (λ q h. (λ inner. h, refl))

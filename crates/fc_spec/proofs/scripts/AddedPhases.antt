@@ -9,7 +9,7 @@ use Rattle.std.proofs.lemmas.List.FromFn.{fill_by_all, length-map-range_with_len
 use Rattle.fc_spec.specs.documents.Document.{Batch}
 use Rattle.fc_spec.specs.documents.Operations.{after_ops}
 use Rattle.fc_spec.specs.documents.Val.{Text, same_text}
-use Rattle.fc_spec.specs.messages.Trace.{trace}
+use Rattle.fc_spec.specs.messages.WholeTrace.{whole_trace}
 use Rattle.fc_spec.specs.laws.PhaseLaws.{PhasesAddUp}
 use Rattle.fc_spec.specs.words.Lists.{joined, numbers_below}
 use Rattle.fc_spec.specs.scripts.AskedScripts.{Asked, AskedScript}
@@ -182,9 +182,9 @@ module _ (S : AskedScript) (p : ℕ) where
         text_of ls,
         legal_between (shown_to own seen) (least own) g (was.from own) between (was.each own),
         ap (λ t. t ++ text_of ls) (is ∙ ap (λ W. reply_line (reply r W) g own) here),
-        subst (λ o. AreBooked reply S (seen ++ (own, g) ∷ []) (suc k) qs (text_of ls) (book k (trace r (world S g)) before) (book_all (suc k) (sent_for ls) (book_if k o before)))
-            (sym (sent ∙ ap (λ W. Some (trace r W)) here))
-            (next (seen ++ (own, g) ∷ []) g (book k (trace r (world S g)) before) (open_more least own seen g was between) has),
+        subst (λ o. AreBooked reply S (seen ++ (own, g) ∷ []) (suc k) qs (text_of ls) (book k (whole_trace r (world S g)) before) (book_all (suc k) (sent_for ls) (book_if k o before)))
+            (sym (sent ∙ ap (λ W. Some (whole_trace r W)) here))
+            (next (seen ++ (own, g) ∷ []) g (book k (whole_trace r (world S g)) before) (open_more least own seen g was between) has),
       )
   line_then reply least seen own (Err f) k qs Then l ls before was next (is, sent, has) = (
     text_of ls,

@@ -11,7 +11,7 @@ use Rattle.fc_spec.specs.scripts.Outputs.{Replies}
 use Rattle.fc_spec.specs.scripts.Phases.{Search}
 use Rattle.fc_spec.specs.scripts.PinnedWorlds.{world_at}
 use Rattle.fc_spec.specs.scripts.SearchLines.{least_after, SearchLine, IsLineOver, ArePhaseLines, sent_for}
-use Rattle.fc_spec.proofs.messages.TraceEntries.{traces_ascend}
+use Rattle.fc_spec.proofs.messages.WholeTraces.{whole_traces_ascend}
 
 module _ (reply : Replies) (shards : List (List Batch)) (high : List ℕ) where
   abbrev AscendsIf : Option (List Sent) → Type 0
@@ -19,7 +19,7 @@ module _ (reply : Replies) (shards : List (List Batch)) (high : List ℕ) where
 
   line_ascends : (low : List ℕ) (session : Text) (a : Asked) (Then : List ℕ → Type 0) (l : SearchLine) (more : List (Option (List Sent)))
       → ((g : List ℕ) → Then g → All AscendsIf more) → IsLineOver reply shards low high session a Then l → All AscendsIf (l.sent ∷ more)
-  line_ascends low session (Ok r) Then l more next (g, between, is, sent, then) = All-cons AscendsIf l.sent more (subst AscendsIf (sym sent) (traces_ascend r (world_at shards g))) (next g then)
+  line_ascends low session (Ok r) Then l more next (g, between, is, sent, then) = All-cons AscendsIf l.sent more (subst AscendsIf (sym sent) (whole_traces_ascend r (world_at shards g))) (next g then)
   line_ascends low session (Err f) Then l more next (is, sent, then) = All-cons AscendsIf l.sent more (subst AscendsIf (sym sent) tt) (next low then)
 
   lines_ascend : (least : Text → List ℕ) (qs : List (Search Asked)) (ls : List SearchLine) → ArePhaseLines reply shards high least qs ls → All AscendsIf (sent_for ls)

@@ -1,5 +1,5 @@
 -- What is read is valid; and what holds of valid requests: how deep their terms facets and the messages for them nest.
-use Rattle.std.specs.Prelude.{◌≡◌, ℕ, List, ◌≤◌, true, Ok, All}
+use Rattle.std.specs.Prelude.{◌≡◌, ℕ, List, ◌≤◌, IsTrue, true, Ok, All}
 use Rattle.serde_json.specs.Data.{Data}
 use Rattle.std.specs.List.{AllByRecursion}
 use Rattle.fc_spec.specs.documents.Schema.{Schema}
@@ -12,6 +12,7 @@ use Rattle.fc_spec.specs.scripts.Script.{Line, add, delete, commit, sync, asks, 
 use Rattle.fc_spec.specs.scripts.ScriptTotals.{Limits}
 use Rattle.fc_spec.specs.scripts.ScriptReading.{script_of}
 use Rattle.fc_spec.specs.requests.RequestReading.{request_of}
+use Rattle.fc_spec.specs.requests.Shape.{outermost_exact}
 use Rattle.fc_spec.specs.messages.Lacks.{terms_depth}
 use Rattle.fc_spec.specs.messages.Rounds.{search_rounds}
 use Rattle.fc_spec.specs.messages.Message.{Ask}
@@ -22,9 +23,9 @@ use Rattle.fc_spec.specs.laws.TopRoundsLaw.{SortExactByCount}
 use Rattle.fc_spec.specs.replies.Tops.{only_exact}
 use Rattle.fc_spec.specs.messages.TopRounds.{ExactAsk, exact_answer}
 
--- for data whose numbers are those of JSON, the query, the filters and each node of the request that is read are valid, and nodes nest at most eight deep
+-- for data whose numbers are those of JSON, the query, the filters and each node of the request that is read are valid, only outermost facets are refined exactly, and nodes nest at most eight deep
 abbrev pub ReadAreValid : Type 0
-ReadAreValid = (s : Schema) (d : Data) (r : Request) → HasNumbers d → request_of s d ≡ Ok r → IsValidQuery s r.query × All (IsValidFilter s) r.filters × AreValidNodes s true r.nodes × (node_depth r.nodes ≤ 8)
+ReadAreValid = (s : Schema) (d : Data) (r : Request) → HasNumbers d → request_of s d ≡ Ok r → IsValidQuery s r.query × All (IsValidFilter s) r.filters × AreValidNodes s true r.nodes × IsTrue (outermost_exact r.nodes) × (node_depth r.nodes ≤ 8)
 
 -- where the keys of each object ascend too, the request is valid
 abbrev pub ReadAreValidWhole : Type 0

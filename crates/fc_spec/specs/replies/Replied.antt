@@ -2,7 +2,7 @@
 use Rattle.fc_spec.specs.documents.World.{World}
 use Rattle.fc_spec.specs.requests.Request.{Request}
 use Rattle.fc_spec.specs.replies.Reply.{Bucket}
-use Rattle.fc_spec.specs.replies.Distributed.{distributed}
+use Rattle.fc_spec.specs.replies.WithTops.{with_tops}
 
 abbrev pub replied : Request → World → Bucket
-replied r W = distributed r W
+replied r W = with_tops r W

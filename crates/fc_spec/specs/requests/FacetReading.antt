@@ -1,7 +1,7 @@
 -- The parameters of each type of facet, in their order. Guide: JSON Facet API, "Types of Facets".
-use Rattle.std.specs.Prelude.{ℕ, ◌+◌, ◌/◌, ℤ, pos, negsuc, unsigned_abs, int_lt, List, [], ◌∷◌, codes, Bool, false, not, ◌&&◌, ◌||◌, nat_le, Option, None, Some, ok_or, Result, Ok}
+use Rattle.std.specs.Prelude.{ℕ, ◌+◌, ◌/◌, ℤ, pos, negsuc, unsigned_abs, int_lt, List, [], ◌∷◌, codes, Bool, true, false, not, if◌then◌else◌, ◌&&◌, ◌||◌, nat_le, Option, None, Some, ok_or, Result, Ok}
 use Rattle.std.specs.List.{list_all, list_any}
-use Rattle.serde_json.specs.Data.{Data, Members}
+use Rattle.serde_json.specs.Data.{Data, string, Members}
 use Rattle.fc_spec.specs.documents.Val.{Text, same_text}
 use Rattle.fc_spec.specs.words.Lists.{is_empty}
 use Rattle.fc_spec.specs.documents.Schema.{Schema, field_named, holds_texts}
@@ -45,6 +45,29 @@ over_number None over = 0
 over_number (Some limit) (pos n) = n
 over_number (Some limit) (negsuc n) = limit / 10 + 4
 
+-- the three ways to refine
+pub data Refining : Type 0 where
+  not_refined : Refining
+  by_offers : Refining
+  exactly : Refining
+
+abbrev pub refines : Refining → Bool
+refines not_refined = false
+refines _ = true
+
+abbrev pub is_exactly : Refining → Bool
+is_exactly exactly = true
+is_exactly _ = false
+
+-- a truth value, or the text `exact`
+abbrev pub refining_in : Data → Result Refining QFault
+refining_in (string t) = do
+  _ ← unless (same_text t (codes "exact")) bad_parameter
+  Ok exactly
+refining_in d = do
+  refine ← truth_in d
+  Ok (if refine then by_offers else not_refined)
+
 -- a terms facet; its sort, which is read last, stands as where nothing is said
 abbrev pub terms_parts : Schema → Members → Result Terms QFault
 terms_parts s ms = do
@@ -54,7 +77,7 @@ terms_parts s ms = do
   mincount ← optional (codes "mincount") (up_to_a_million (pos 1)) (pos 1) ms
   missing ← optional (codes "missing") truth_in false ms
   prefix ← optional (codes "prefix") (prefix_in s field) None ms
-  refine ← optional (codes "refine") truth_in false ms
+  refine ← optional (codes "refine") refining_in not_refined ms
   overrequest ← optional (codes "overrequest") (up_to_a_million (negsuc 0)) (negsuc 0) ms
   overrefine ← optional (codes "overrefine") (up_to_a_million (negsuc 0)) (negsuc 0) ms
   _ ← optional (codes "method") text_in [] ms
@@ -66,8 +89,8 @@ terms_parts s ms = do
     mincount = unsigned_abs mincount;
     missing = missing;
     prefix = prefix;
-    refine = refine;
-    exact = false;
+    refine = refines refine;
+    exact = is_exactly refine;
     overrequest = over_number (limit_from limit) overrequest;
     overrefine = over_number (limit_from limit) overrefine;
     show = its_buckets;

@@ -15,7 +15,7 @@ use Rattle.fc_spec.specs.requests.RequestWalk.{query_fault, outside, inside, che
 use Rattle.fc_spec.specs.requests.StatisticReading.{statistic_of}
 use Rattle.fc_spec.specs.requests.DomainReading.{change_in, text_query}
 use Rattle.fc_spec.specs.requests.Shape.{stays}
-use Rattle.fc_spec.specs.requests.SortReading.{sort_in}
+use Rattle.fc_spec.specs.requests.SortReading.{sort_in, allows_exact}
 use Rattle.fc_spec.specs.requests.FacetReading.{terms_parts, range_parts, query_part}
 use Rattle.fc_spec.specs.words.Walks.{◌>>=◌, unless, with_fault}
 
@@ -68,12 +68,13 @@ abbrev pub facet_read : DomainChange → Kind → Walked Nodes → Walked Node
 facet_read change kind inner = record { read = of_facet change kind inner.read; nodes = inner.nodes }
 
 -- the parameters of each type in their order; a terms facet's sort comes last, behind the statistics that it may name
-abbrev pub terms_read : Schema → (unmoved : Bool) → (Bool → Reader) → ℕ → Members → Result (Walked Node) RequestFault
-terms_read s unmoved deeper n ms = do
+abbrev pub terms_read : Schema → (outermost unmoved : Bool) → (Bool → Reader) → ℕ → Members → Result (Walked Node) RequestFault
+terms_read s outermost unmoved deeper n ms = do
   parts ← own (terms_parts s ms)
   change ← own (change_in s unmoved ms)
   inner ← inner_read (deeper (unmoved && stays change)) n (get_member (codes "facet") ms)
   sort ← own (sort_in inner.read ms)
+  _ ← own (unless (allows_exact outermost parts.exact sort) bad_parameter)
   Ok (facet_read change (terms (record parts { sort = sort })) inner)
 
 abbrev pub range_read : Schema → (unmoved : Bool) → (Bool → Reader) → ℕ → Members → Result (Walked Node) RequestFault
@@ -122,36 +123,36 @@ parameters range_type =
 parameters query_type = codes "type" ∷ codes "q" ∷ codes "domain" ∷ codes "facet" ∷ []
 parameters func_type = codes "type" ∷ codes "func" ∷ []
 
-abbrev pub typed_read : FacetType → Schema → (unmoved : Bool) → (Bool → Reader) → ℕ → Members → Result (Walked Node) RequestFault
-typed_read terms_type s unmoved deeper n ms = terms_read s unmoved deeper n ms
-typed_read range_type s unmoved deeper n ms = range_read s unmoved deeper n ms
-typed_read query_type s unmoved deeper n ms = query_read s unmoved deeper n ms
-typed_read func_type s unmoved deeper n ms = func_read s n ms
+abbrev pub typed_read : FacetType → Schema → (outermost unmoved : Bool) → (Bool → Reader) → ℕ → Members → Result (Walked Node) RequestFault
+typed_read terms_type s outermost unmoved deeper n ms = terms_read s outermost unmoved deeper n ms
+typed_read range_type s outermost unmoved deeper n ms = range_read s unmoved deeper n ms
+typed_read query_type s outermost unmoved deeper n ms = query_read s unmoved deeper n ms
+typed_read func_type s outermost unmoved deeper n ms = func_read s n ms
 
 -- the type that a command names
 abbrev pub type_of : Members → Result FacetType QFault
 type_of ms = required (codes "type") (λ d. ok_or (option_and_then type_named (as_str d)) unknown_type) ms
 
 -- a command: a text is a statistic, an object names its type
-abbrev pub command_read : Schema → (unmoved : Bool) → (Bool → Reader) → ℕ → Data → Result (Walked Node) RequestFault
-command_read s unmoved deeper n (string t) = statistic_read s n t
-command_read s unmoved deeper n d = do
+abbrev pub command_read : Schema → (outermost unmoved : Bool) → (Bool → Reader) → ℕ → Data → Result (Walked Node) RequestFault
+command_read s outermost unmoved deeper n (string t) = statistic_read s n t
+command_read s outermost unmoved deeper n d = do
   ms ← own (ok_or (as_object d) bad_command)
   kind ← own (type_of ms)
   _ ← own (check_names (parameters kind) ms)
-  typed_read kind s unmoved deeper n ms
+  typed_read kind s outermost unmoved deeper n ms
 
 -- a node behind n nodes of the walk: at most 64 are read, siblings and nested ones together
-abbrev pub node_read : Schema → (unmoved : Bool) → (Bool → Reader) → ℕ → Text → Data → Result (Walked Node) RequestFault
-node_read s unmoved deeper n name d = do
+abbrev pub node_read : Schema → (outermost unmoved : Bool) → (Bool → Reader) → ℕ → Text → Data → Result (Walked Node) RequestFault
+node_read s outermost unmoved deeper n name d = do
   _ ← own (unless (nat_lt n 64) too_large)
   _ ← own (unless (not (is_reserved name)) reserved_name)
-  command_read s unmoved deeper (n + 1) d
+  command_read s outermost unmoved deeper (n + 1) d
 
--- nodes with so many depths left, under facets without a block step or under one; with none left each node is too deep
-abbrev pub nodes_within : ℕ → Schema → (unmoved : Bool) → Reader
-nodes_within zero s unmoved n ms = members_read (λ m name d. own (Err too_large)) n ms
-nodes_within (suc left) s unmoved n ms = members_read (node_read s unmoved (nodes_within left s)) n ms
+-- nodes with so many depths left, outermost or nested, under facets without a block step or under one; with none left each node is too deep
+abbrev pub nodes_within : ℕ → Schema → (outermost unmoved : Bool) → Reader
+nodes_within zero s outermost unmoved n ms = members_read (λ m name d. own (Err too_large)) n ms
+nodes_within (suc left) s outermost unmoved n ms = members_read (node_read s outermost unmoved (nodes_within left s false)) n ms
 
 -- ---- the request
 
@@ -180,7 +181,7 @@ request_members s ms = do
   q ← own (optional (codes "query") (text_query s) all ms)
   fs ← own (optional (codes "filter") (filters_in s) [] ms)
   _ ← own (optional (codes "limit") zero_in tt ms)
-  nodes ← inner_read (nodes_within 8 s true) 0 (get_member (codes "facet") ms)
+  nodes ← inner_read (nodes_within 8 s true true) 0 (get_member (codes "facet") ms)
   Ok (record { query = q; filters = fs; nodes = nodes.read })
 
 -- the request, or its first fault

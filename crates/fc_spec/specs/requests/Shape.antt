@@ -28,6 +28,23 @@ no_exact no_nodes = true
 no_exact (statistic name s rest) = no_exact rest
 no_exact (facet f inner rest) = not (is_exact f.kind) && no_exact rest
 
+-- it is a terms facet that says so, with a limit or not
+abbrev pub says_exact : Kind → Bool
+says_exact (terms t) = t.exact
+says_exact _ = false
+
+-- no facet among the nodes, at any depth, says so
+abbrev pub none_says_exact : Nodes → Bool
+none_says_exact no_nodes = true
+none_says_exact (statistic name s rest) = none_says_exact rest
+none_says_exact (facet f inner rest) = not (says_exact f.kind) && none_says_exact inner && none_says_exact rest
+
+-- of these nodes, no facet nested in another says so
+abbrev pub outermost_exact : Nodes → Bool
+outermost_exact no_nodes = true
+outermost_exact (statistic name s rest) = outermost_exact rest
+outermost_exact (facet f inner rest) = none_says_exact inner && outermost_exact rest
+
 -- no terms facet among the nodes, at any depth, has a limit
 abbrev pub no_limits : Nodes → Bool
 no_limits no_nodes = true

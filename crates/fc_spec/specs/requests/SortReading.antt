@@ -1,5 +1,5 @@
 -- The sort that a terms facet asks for. Guide: JSON Facet API, "Terms Facet" (`sort`); Sorting Facets By Nested Functions.
-use Rattle.std.specs.Prelude.{ℕ, suc, ◌-◌, length, take, codes, Bool, true, false, not, ◌||◌, ◌==◌, nat_eq, Option, None, Some, option_map, ok_or, unwrap_or, Result, Ok, if◌then◌else◌}
+use Rattle.std.specs.Prelude.{ℕ, suc, ◌-◌, length, take, codes, Bool, true, false, not, ◌||◌, ◌&&◌, ◌==◌, nat_eq, Option, None, Some, option_map, ok_or, unwrap_or, Result, Ok, if◌then◌else◌}
 use Rattle.std.specs.List.{ends_with}
 use Rattle.std.specs.Option.{option_and_then}
 use Rattle.serde_json.specs.Data.{Data, string, Members}
@@ -77,3 +77,15 @@ default_sort = record { by = by_count; descending = true }
 
 abbrev pub sort_in : Nodes → Members → Result Sort QFault
 sort_in inner ms = optional (codes "sort") (sort_of inner) default_sort ms
+
+-- by count, the greatest first
+abbrev pub is_by_count : SortKey → Bool
+is_by_count by_count = true
+is_by_count _ = false
+
+abbrev pub sorts_by_count : Sort → Bool
+sorts_by_count s = is_by_count s.by && s.descending
+
+-- what is refined exactly stands outermost and is sorted so
+abbrev pub allows_exact : (outermost exact : Bool) → Sort → Bool
+allows_exact outermost exact s = not exact || (outermost && sorts_by_count s)

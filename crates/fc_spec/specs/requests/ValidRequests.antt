@@ -9,7 +9,7 @@ use Rattle.fc_spec.specs.queries.FilterReading.{is_tag}
 use Rattle.fc_spec.specs.requests.Request.{Filter, BlockStep, stay, parents, children, DomainChange, SortKey, by_count, by_index, by_statistic, Terms, Range, Stat, Kind, terms, range, query, Facet, Nodes, no_nodes, statistic, facet, Request, stats_of}
 use Rattle.fc_spec.specs.requests.Gaps.{gap_count, last_end}
 use Rattle.fc_spec.specs.requests.StatisticReading.{takes_texts, has_type}
-use Rattle.fc_spec.specs.requests.Shape.{stays}
+use Rattle.fc_spec.specs.requests.Shape.{stays, outermost_exact}
 use Rattle.fc_spec.specs.requests.Least.{count_first}
 
 abbrev pub AreTags : List Text → Type 0
@@ -111,11 +111,12 @@ node_depth no_nodes = 0
 node_depth (statistic name st rest) = max 1 (node_depth rest)
 node_depth (facet f inner rest) = max (suc (node_depth inner)) (node_depth rest)
 
--- its query, filters and nodes are valid, nodes nest at most eight deep, and their names differ and ascend
+-- its query, filters and nodes are valid, only outermost facets are refined exactly, nodes nest at most eight deep, and their names differ and ascend
 pub record IsValidRequest (s : Schema) (r : Request) : Type 0 where
   pub query : IsValidQuery s r.query
   pub filters : All (IsValidFilter s) r.filters
   pub nodes : AreValidNodes s true r.nodes
+  pub exact : IsTrue (outermost_exact r.nodes)
   pub depth : node_depth r.nodes ≤ 8
   pub names : AreOrderedNodes r.nodes
 
@@ -124,4 +125,5 @@ pub record IsSearchable (s : Schema) (r : Request) : Type 0 where
   pub query : IsValidQuery s r.query
   pub filters : All (IsValidFilter s) r.filters
   pub nodes : AreValidNodes s true r.nodes
+  pub exact : IsTrue (outermost_exact r.nodes)
   pub depth : node_depth r.nodes ≤ 8

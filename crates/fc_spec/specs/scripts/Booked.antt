@@ -3,7 +3,8 @@ use Rattle.std.specs.Prelude.{◌≡◌, ℕ, suc, List, [], ◌∷◌, ◌++◌
 use Rattle.fc_spec.specs.documents.Val.{Text}
 use Rattle.fc_spec.specs.requests.Request.{Request}
 use Rattle.fc_spec.specs.requests.RequestFault.{RequestFault}
-use Rattle.fc_spec.specs.messages.Trace.{Sent, trace}
+use Rattle.fc_spec.specs.messages.Trace.{Sent}
+use Rattle.fc_spec.specs.messages.WholeTrace.{whole_trace}
 use Rattle.fc_spec.specs.replies.Replied.{replied}
 use Rattle.fc_spec.specs.scripts.Script.{Script, world}
 use Rattle.fc_spec.specs.scripts.Phases.{Search, searches}
@@ -35,7 +36,7 @@ book_all k (o ∷ os) m = book_all (suc k) os (book_if k o m)
 -- the text is a reply line of the search over some legal generations, and then what the rest is to be, which has seen them and their trace
 abbrev pub IsBookedThen : Replies → Script (Result Request RequestFault) → List Seen → (phase : ℕ) → (session : Text) → Request → (List Seen → List Sent → Text → Type 0) → Text → Type 0
 IsBookedThen reply S seen phase session r Rest t =
-    (g : List ℕ) × (rest : Text) × IsTrue (legal S (shown_to session seen) phase g) × (t ≡ reply_line (reply r (world S g)) g session ++ rest) × Rest (seen ++ (session, g) ∷ []) (trace r (world S g)) rest
+    (g : List ℕ) × (rest : Text) × IsTrue (legal S (shown_to session seen) phase g) × (t ≡ reply_line (reply r (world S g)) g session ++ rest) × Rest (seen ++ (session, g) ∷ []) (whole_trace r (world S g)) rest
 
 -- the same, or an error line, where the request has a fault; which has no trace
 abbrev pub IsBookedLineThen : Replies → Script (Result Request RequestFault) → List Seen → (phase : ℕ) → (session : Text) → Result Request RequestFault → (List Seen → List Sent → Text → Type 0) → (List Seen → Text → Type 0) → Text → Type 0

@@ -3,7 +3,8 @@ use Rattle.std.specs.Prelude.{◌≡◌, ℕ, List, [], ◌∷◌, ◌++◌, map
 use Rattle.std.specs.List.{filter}
 use Rattle.fc_spec.specs.documents.Document.{Batch}
 use Rattle.fc_spec.specs.documents.Val.{Text, same_text}
-use Rattle.fc_spec.specs.messages.Trace.{Sent, trace}
+use Rattle.fc_spec.specs.messages.Trace.{Sent}
+use Rattle.fc_spec.specs.messages.WholeTrace.{whole_trace}
 use Rattle.fc_spec.specs.words.Lists.{joined}
 use Rattle.fc_spec.specs.scripts.AskedScripts.{Asked}
 use Rattle.fc_spec.specs.scripts.Lines.{reply_line, error_line}
@@ -28,7 +29,7 @@ sent_for lines = map (λ l. l.sent) lines
 -- the line of what a session asks, and what holds then: of a request a reply line over some generations between these numbers, which it has shown then, and the trace over them; of a fault its error line: it shows no numbers, and nothing is sent
 abbrev pub IsLineOver : Replies → List (List Batch) → (low high : List ℕ) → (session : Text) → Asked → (List ℕ → Type 0) → SearchLine → Type 0
 IsLineOver reply shards low high session (Ok r) Then l =
-    (g : List ℕ) × AreBetween low high g × (l.text ≡ reply_line (reply r (world_at shards g)) g session) × (l.sent ≡ Some (trace r (world_at shards g))) × Then g
+    (g : List ℕ) × AreBetween low high g × (l.text ≡ reply_line (reply r (world_at shards g)) g session) × (l.sent ≡ Some (whole_trace r (world_at shards g))) × Then g
 IsLineOver reply shards low high session (Err f) Then l = (l.text ≡ error_line f session) × (l.sent ≡ None) × Then low
 
 -- ---- a phase
