@@ -6,3 +6,5 @@ pub mod KeptSets
 pub mod SetAnswers
 pub mod AscendingKeys
 pub mod ListedTallies
+pub mod LeastAnswers
+pub mod LeastTallies

@@ -101,7 +101,7 @@ module _ (stats : Key → Stats) where
 -- ---- what is listed
 
 module _ (kind : Kind) (ss : List Stat) (Y : List Place) (es : List Entry) (ascend : IsStrictlySortedBy key_cmp (keys_of es)) (of : AreOfBuckets kind ss Y es) where
-  buckets_of : (ks : List Key) → IsStrictlySortedBy key_cmp ks → ((k : Key) → list_any (same_key k) ks ≡ is_found kind Y k) → es ≡ map (bucket_entry kind ss Y) ks
+  pub buckets_of : (ks : List Key) → IsStrictlySortedBy key_cmp ks → ((k : Key) → list_any (same_key k) ks ≡ is_found kind Y k) → es ≡ map (bucket_entry kind ss Y) ks
   buckets_of ks up are = entries_of (λ k. stats_over ss (bucket_places kind k Y)) ks es up ascend (λ k. of k ∙ ap (λ b. cond b (Some (stats_over ss (bucket_places kind k Y))) None) (sym (are k)))
 
 module _ (t : Terms) (ss : List Stat) (Y : List Place) where
@@ -110,7 +110,7 @@ module _ (t : Terms) (ss : List Stat) (Y : List Place) where
   made v = record { val = v; stats = stats_over ss (value_places t v Y) }
 
   -- the entry of missing, where it is asked for and not empty
-  abbrev lacking : List Entry
+  abbrev pub lacking : List Entry
   lacking = map (bucket_entry (terms t) ss Y) (not_empty (terms t) Y (asked t.missing missing))
 
   no_values : (b : Bool) → values_of_tally (map (bucket_entry (terms t) ss Y) (not_empty (terms t) Y (asked b missing))) ≡ []
@@ -150,7 +150,7 @@ module _ (t : Terms) (ss : List Stat) (Y : List Place) where
 
 -- an entry of a key of the facet, or that of no place, has the statistics of the key's bucket
 module _ (kind : Kind) (ss : List Stat) (Y : List Place) (es : List Entry) (of : AreOfBuckets kind ss Y es) where
-  filled_entry : (k : Key) → is_key_of kind k ≡ true → entry_or_none ss es k ≡ bucket_entry kind ss Y k
+  pub filled_entry : (k : Key) → is_key_of kind k ≡ true → entry_or_none ss es k ≡ bucket_entry kind ss Y k
   filled_entry k own = ap (λ s. (k, s)) (ap (λ o. unwrap_or o (stats_over ss [])) (of k ∙ ap (λ b. cond (b && not (is_empty (bucket_places kind k Y))) (Some (stats_over ss (bucket_places kind k Y))) None) own) ∙ go (is_empty (bucket_places kind k Y)) refl)
     where
       go : (b : Bool) → is_empty (bucket_places kind k Y) ≡ b → unwrap_or (cond (not b) (Some (stats_over ss (bucket_places kind k Y))) None) (stats_over ss []) ≡ stats_over ss (bucket_places kind k Y)

@@ -45,28 +45,28 @@ length-joined (b ∷ V) (s ∷ sets) e =
 -- ---- a shard
 
 module _ (r : Request) (W : World) (i : ℕ) (V : Pieces) (is_whole : AreWhole V) (at : slice_get W i ≡ Some (joined (live_world V))) where
-  abbrev blocks : List Block
+  abbrev pub blocks : List Block
   blocks = joined (live_world V)
 
   -- the shard's part of X is that of the sets, kept at the live positions
-  abbrev IsOf : Sets → List Place → Type 0
+  abbrev pub IsOf : Sets → List Place → Type 0
   IsOf sets X = IsOnShard i blocks (joined (kept V sets)) X
 
-  again : (sets : Sets) (X : List Place) → IsOf sets X → IsOf sets (on_shards (i ∷ []) X)
+  pub again : (sets : Sets) (X : List Place) → IsOf sets X → IsOf sets (on_shards (i ∷ []) X)
   again sets X on = filter_twice (is_on (i ∷ [])) X ∙ on
 
   -- the sets pick the same documents of all blocks
-  same_places : (sets : Sets) → AreLive V sets → SameBare (places_on i blocks (joined (kept V sets))) (places_at (whole_world V) sets)
+  pub same_places : (sets : Sets) → AreLive V sets → SameBare (places_on i blocks (joined (kept V sets))) (places_at (whole_world V) sets)
   same_places sets are = bare_sets i (live_world V) (kept V sets) ∙ sym (live_places V sets is_whole are)
 
   -- the scope of a path
-  abbrev on : Path → Scope
+  abbrev pub on : Path → Scope
   on path = scope_on r path
 
   base_on : (path : Path) (f : Facet) → IsOnShard i blocks (joined (map (rebuilt_set r path f.change.exclude) (live_world V))) (rebuilt r W path f.change.exclude)
   base_on path f = rebuilt_of_shards r path f.change.exclude W i blocks at ∙ ap (places_on i blocks) (rebuilt_join r path f.change.exclude (live_world V))
 
-  domain_of : (path : Path) (f : Facet) (sets : Sets) (X : List Place) → AreLive V sets → IsOf sets X → IsOf (domain_sets (on path) V f sets) (domain r W path f.change X)
+  pub domain_of : (path : Path) (f : Facet) (sets : Sets) (X : List Place) → AreLive V sets → IsOf sets X → IsOf (domain_sets (on path) V f sets) (domain r W path f.change X)
   domain_of path f sets X are here =
       let bases = map (rebuilt_set r path f.change.exclude) (live_world V) in
       let base_are = are_sets_again.rebuilt r path f.change.exclude (live_world V) in
@@ -75,10 +75,10 @@ module _ (r : Request) (W : World) (i : ℕ) (V : Pieces) (is_whole : AreWhole V
       (length-joined (live_world V) (kept V sets) kept_are) (base_on path f) here
       ∙ ap (places_on i blocks) (changes_join f.change (live_world V) bases (kept V sets) base_are kept_are ∙ ap joined (sym (kept_domains (on path) V f sets is_whole are)))
 
-  domain_are : (path : Path) (f : Facet) (sets : Sets) → AreLive V sets → AreLive V (domain_sets (on path) V f sets)
+  pub domain_are : (path : Path) (f : Facet) (sets : Sets) → AreLive V sets → AreLive V (domain_sets (on path) V f sets)
   domain_are path f sets are = domains_live (on path) V f sets is_whole are
 
-  bucket_of : (kind : Kind) (key : Key) (sets : Sets) (D : List Place) → AreLive V sets → IsOf sets D → IsOf (bucket_sets V kind key sets) (bucket_places kind key D)
+  pub bucket_of : (kind : Kind) (key : Key) (sets : Sets) (D : List Place) → AreLive V sets → IsOf sets D → IsOf (bucket_sets V kind key sets) (bucket_places kind key D)
   bucket_of kind key sets D are here =
       buckets_of_shards kind key i blocks D (joined (kept V sets)) here
       ∙ ap (places_on i blocks) (buckets_join kind key (live_world V) (kept V sets) (kept_are_sets V sets is_whole are) ∙ ap joined (sym (kept_buckets V kind key sets is_whole are)))
@@ -86,13 +86,13 @@ module _ (r : Request) (W : World) (i : ℕ) (V : Pieces) (is_whole : AreWhole V
   -- ---- what is listed
 
   -- the same keys are listed
-  listed_of : (kind : Kind) (inner : Nodes) (sets : Sets) (D : List Place) (keys : List Key) → AreLive V sets → D ≡ places_on i blocks (joined (kept V sets))
+  pub listed_of : (kind : Kind) (inner : Nodes) (sets : Sets) (D : List Place) (keys : List Key) → AreLive V sets → D ≡ places_on i blocks (joined (kept V sets))
       → listed_keys kind inner D keys ≡ listed_keys kind inner (places_at (whole_world V) sets) keys
   listed_of kind inner sets D keys are is =
       ap (λ Y. listed_keys kind inner Y keys) is
       ∙ ap (cond (not (no_exclusions inner)) keys) (bare_not_empty (places_on i blocks (joined (kept V sets))) (places_at (whole_world V) sets) (same_places sets are) kind keys)
 
-  keys_of : (kind : Kind) (inner : Nodes) (sets : Sets) (D : List Place) → AreLive V sets → on_shards (i ∷ []) D ≡ D → D ≡ places_on i blocks (joined (kept V sets))
+  pub keys_of : (kind : Kind) (inner : Nodes) (sets : Sets) (D : List Place) → AreLive V sets → on_shards (i ∷ []) D ≡ D → D ≡ places_on i blocks (joined (kept V sets))
       → answer_keys kind inner D i ≡ own_keys kind inner (places_at (whole_world V) sets)
   keys_of (terms t) inner sets D are own is =
       let entries : entries_in t (stats_of inner) (on_shards (i ∷ []) D) ≡ entries_in t (stats_of inner) (places_at (whole_world V) sets) =
@@ -103,7 +103,7 @@ module _ (r : Request) (W : World) (i : ℕ) (V : Pieces) (is_whole : AreWhole V
   keys_of (range g) inner sets D are own is = listed_of (range g) inner sets D (range_keys g) are is
   keys_of (query q) inner sets D are own is = refl
 
-  rows_of : (path : Path) (nodes : Nodes) (sets : Sets) (X : List Place) → AreLive V sets → IsOf sets X → answer_rows r W i path nodes X ≡ set_rows (on path) V nodes sets
+  pub rows_of : (path : Path) (nodes : Nodes) (sets : Sets) (X : List Place) → AreLive V sets → IsOf sets X → answer_rows r W i path nodes X ≡ set_rows (on path) V nodes sets
   rows_of path no_nodes sets X are here = refl
   rows_of path (statistic name s rest) sets X are here = rows_of path rest sets X are here
   rows_of path (facet f inner rest) sets X are here =
@@ -122,7 +122,7 @@ module _ (r : Request) (W : World) (i : ℕ) (V : Pieces) (is_whole : AreWhole V
   -- ---- where ways lead
 
   -- the target's path and nodes are those of the spot, and the shard's part of its places that of the spot's sets
-  record IsSpot (t : Target) (s : Spot) : Type 0 where
+  pub record IsSpot (t : Target) (s : Spot) : Type 0 where
     pub path : target_path t ≡ s.path
     pub nodes : target_nodes t ≡ s.nodes
     pub places : IsOf s.sets (target_places r W t)
@@ -131,7 +131,7 @@ module _ (r : Request) (W : World) (i : ℕ) (V : Pieces) (is_whole : AreWhole V
   is_nowhere : IsSpot leads_nowhere (nowhere V)
   is_nowhere = record { path = refl; nodes = refl; places = sym (nothing_there V (shard_places i 0 0 blocks)); are_live = nowhere_live V is_whole }
 
-  is_root : IsSpot (leads_to at_root r.nodes) (root r V)
+  pub is_root : IsSpot (leads_to at_root r.nodes) (root r V)
   is_root = record {
     path = refl;
     nodes = refl;

@@ -1,3 +1,5 @@
 pub mod SetAnswer
 pub mod LiveSets
 pub mod Listed
+pub mod LeastSets
+pub mod LeastListed

@@ -3,4 +3,4 @@
 
 mod law;
 
-pub use law::{answers_from_sets, tallies_list};
+pub use law::{answers_from_sets, exact_answers_from_sets, least_tallies_list, tallies_list};
