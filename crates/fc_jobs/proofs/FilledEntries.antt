@@ -19,7 +19,7 @@ use Rattle.fc_partial.specs.Tallying.{entry_at}
 use Rattle.fc_partial.specs.declared.bucket.PartialBucket.{PartialBucket}
 use Rattle.fc_refine.specs.Tops.{others_of_tally, top_of}
 use Rattle.fc_answers.specs.Listed.{entry_or_none, listed_of, top_values}
-use Rattle.fc_jobs.specs.EmptyMissing.{adds_missing}
+use Rattle.fc_answers.specs.LeastListed.{adds_missing}
 use Rattle.fc_jobs.proofs.ListedKeys.{HaveKeysOf}
 
 -- ---- what is no value, in a tally of a terms facet

@@ -3,6 +3,7 @@ pub mod CountedTallies
 pub mod EmptySets
 pub mod FilledEntries
 pub mod GatheredPlaces
+pub mod KeptBuckets
 pub mod KeptLengths
 pub mod ListedKeys
 pub mod NodesThere

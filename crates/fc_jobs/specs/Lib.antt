@@ -3,6 +3,5 @@ pub mod BasesKept
 pub mod FacetFits
 pub mod FilterLists
 pub mod Gathered
-pub mod EmptyMissing
 pub mod Scopes
 pub mod Walked

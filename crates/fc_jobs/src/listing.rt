@@ -14,7 +14,7 @@ ghost use Rattle.fc_partial.specs.Tallying.{IsTally};
 ghost use Rattle.fc_request.specs.FacetNode.{has_buckets, kind_of, kind_view};
 ghost use Rattle.fc_request.specs.NodeView.{inner_view};
 ghost use Rattle.fc_answers.specs.Listed.{listed_of};
-ghost use Rattle.fc_jobs.specs.EmptyMissing.{adds_missing};
+ghost use Rattle.fc_answers.specs.LeastListed.{adds_missing};
 
 use crate::filling::{bucket_of, filled, range_keys};
 use fc_base::WantMemory;
@@ -34,8 +34,8 @@ pub fn tally_of(alloc: Global, node: &Node) -> Result<Tally, WantMemory>
     Ok(tally)
 }
 
-// Whether missing is listed though no document lacks a value.
-fn adds_missing(node: &Node, terms: &Terms, tally: &Tally) -> bool
+/// Whether missing is listed though no document lacks a value.
+pub(crate) fn adds_missing(node: &Node, terms: &Terms, tally: &Tally) -> bool
     ensures adds { result ≡ adds_missing (terms_view terms.now) (inner_view node.now) tally.now.entries }
     ensures tally { IsTally tally.now }
 {

@@ -10,7 +10,7 @@ use Rattle.fc_refine.specs.Tops.{top_of}
 use Rattle.fc_request.specs.FacetNode.{kind_view}
 use Rattle.fc_request.specs.NodeView.{inner_view}
 use Rattle.fc_answers.specs.Listed.{entry_or_none, listed_of}
-use Rattle.fc_jobs.specs.EmptyMissing.{adds_missing}
+use Rattle.fc_answers.specs.LeastListed.{adds_missing}
 use Rattle.fc_jobs.proofs.FilledEntries.{listed_is, pushed}
 use Rattle.fc_jobs.proofs.ListedKeys.{have_keys}
 use Rattle.fc_jobs.proofs.listing.values_listed.Goals as goal
