@@ -7,9 +7,9 @@ use Rattle.fc_answers.specs.SetAnswer.{AreWhole, Pieces, set_answer}
 use Rattle.fc_jobs.proofs.WalkedSets.{by_segment}
 use Rattle.fc_levels.specs.Facets.{Nested, facet_count, nested_view}
 use Rattle.fc_levels.specs.Jobs.{opened, top_buckets}
-use Rattle.fc_phase.specs.Asked.{IsAskedFacet, answer_from, asked_count, asked_key}
-use Rattle.fc_phase.proofs.Begun.{asked_top}
-use Rattle.fc_phase.proofs.FirstCounts.{from_first, one_bucket, past_last}
+use Rattle.fc_units.specs.Asked.{IsAskedFacet, answer_from, asked_count, asked_key}
+use Rattle.fc_units.proofs.Begun.{asked_top}
+use Rattle.fc_units.proofs.FirstCounts.{from_first, one_bucket, past_last}
 
 -- so many are those of the buckets before the one with this number
 abbrev pub IsCountedTo : Request → Pieces → Ask → ℕ → ℕ → Type 0

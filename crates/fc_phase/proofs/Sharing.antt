@@ -5,7 +5,7 @@ use Rattle.fc_spec.specs.documents.Document.{Block}
 use Rattle.fc_spec.specs.documents.Live.{HasWholeBlocks}
 use Rattle.fc_spec.specs.documents.Schema.{Schema, texts_held}
 use Rattle.fc_spec.specs.messages.Message as message
-use Rattle.fc_spec.specs.requests.ValidRequests.{IsValidRequest}
+use Rattle.fc_spec.specs.requests.ValidRequests.{IsSearchable}
 use Rattle.fc_spec.specs.scripts.WorldLimits.{IsWithinLimits}
 use Rattle.fc_spec.specs.words.Lists.{joined}
 use Rattle.fc_request.specs.RequestView.{IsRoot, request_view}
@@ -16,7 +16,7 @@ use Rattle.fc_segment.specs.Segmented.{Segmented}
 use Rattle.fc_store.specs.Generated.{Generated}
 use Rattle.fc_answers.specs.SetAnswer.{AreWhole, Piece, live_world}
 use Rattle.fc_jobs.specs.Pieces.{piece_of, pieces_in}
-use Rattle.fc_phase.specs.Built.{CanAnswer}
+use Rattle.fc_units.specs.Built.{CanAnswer}
 use Rattle.fc_phase.specs.Futures.{IsBegun}
 use Rattle.fc_phase.specs.Phases.{Phase}
 
@@ -34,9 +34,9 @@ are_whole (g ∷ gs) all =
     All-cons (λ (p : Piece). HasWholeBlocks p.blocks p.live) (piece_of g) (pieces_in gs) (All-head (λ (x : Segmented). HasWholeBlocks x.blocks x.live) g gs all)
     (are_whole gs (All-tail (λ (x : Segmented). HasWholeBlocks x.blocks x.live) g gs all))
 
--- over them a valid request can be answered
+-- over them a request can be answered
 pub can_answer : (s : Schema) (gs : List Segmented) (request : Request) (blocks : List Block) → live_blocks_of gs ≡ blocks → All (λ (g : Segmented). g.texts ≡ texts_held s.fields) gs → All (λ (g : Segmented). HasWholeBlocks g.blocks g.live) gs
-    → All (λ (g : Segmented). IsWithinLimits (g.blocks ∷ [])) gs → IsWithinLimits (blocks ∷ []) → IsRoot request.root → IsValidRequest s (request_view request) → CanAnswer s gs request
+    → All (λ (g : Segmented). IsWithinLimits (g.blocks ∷ [])) gs → IsWithinLimits (blocks ∷ []) → IsRoot request.root → IsSearchable s (request_view request) → CanAnswer s gs request
 can_answer s gs request blocks is kinds whole each limits root valid = record {
   columns = kinds;
   whole = are_whole gs whole;
@@ -49,7 +49,7 @@ can_answer s gs request blocks is kinds whole each limits root valid = record {
 -- ---- the segments gs that a generation g, read as h, shares
 
 pub shared_can : (g h : Generated) (gs : List Segmented) (request : Request) → h ≡ g → live_blocks_of gs ≡ h.blocks → All (λ (x : Segmented). x.texts ≡ texts_held h.schema.fields) gs → All (λ (x : Segmented). HasWholeBlocks x.blocks x.live) gs
-    → All (λ (x : Segmented). IsWithinLimits (x.blocks ∷ [])) gs → IsWithinLimits (g.blocks ∷ []) → IsRoot request.root → IsValidRequest g.schema (request_view request) → (s : Schema) × CanAnswer s gs request
+    → All (λ (x : Segmented). IsWithinLimits (x.blocks ∷ [])) gs → IsWithinLimits (g.blocks ∷ []) → IsRoot request.root → IsSearchable g.schema (request_view request) → (s : Schema) × CanAnswer s gs request
 shared_can g h gs request same is kinds whole each limits root valid =
     (g.schema, can_answer g.schema gs request g.blocks (is ∙ ap (λ (x : Generated). x.blocks) same) (subst (λ (y : Generated). All (λ (x : Segmented). x.texts ≡ texts_held y.schema.fields) gs) same kinds) whole each limits root valid)
 

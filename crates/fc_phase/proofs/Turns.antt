@@ -22,22 +22,22 @@ use Rattle.fc_levels.specs.Levels.{put}
 use Rattle.fc_levels.proofs.CountedJobs.{jobs_are_counted}
 use Rattle.fc_refine.specs.Named.{NamesKeys}
 use Rattle.fc_jobs.specs.Pieces.{pieces_in}
-use Rattle.fc_phase.specs.Asked.{FitsTop, answer_from, top_scope}
-use Rattle.fc_phase.specs.Built.{CanAnswer, IsBuilt, IsCountedUp, IsJob, IsTopJob, done_in, ended}
+use Rattle.fc_units.specs.Asked.{FitsTop, answer_from, top_scope}
+use Rattle.fc_units.specs.Built.{CanAnswer, IsBuilt, IsCountedUp, IsJob, IsTopJob, done_in, ended}
 use Rattle.fc_phase.specs.FirstJobs.{FirstJobs}
-use Rattle.fc_phase.specs.Going.{UnitDone, ended_by}
+use Rattle.fc_units.specs.Going.{UnitDone, ended_by}
 use Rattle.fc_phase.specs.Inside.{IsSound, IsUnderWay, IsUnderWayIn, phase_in, segments_in}
 use Rattle.fc_phase.specs.Phases.{Phase, TurnsTo, answer_of, left_of, one_more}
-use Rattle.fc_phase.specs.declared.building.Building.{Building}
-use Rattle.fc_phase.specs.declared.going.Gone.{Gone}
-use Rattle.fc_phase.specs.declared.going.Gone.TheVariants as gone
-use Rattle.fc_phase.specs.declared.jobs.Job.TheVariants.{Top}
-use Rattle.fc_phase.specs.declared.jobs.TopJob.{TopJob}
+use Rattle.fc_units.specs.declared.building.Building.{Building}
+use Rattle.fc_units.specs.declared.going.Gone.{Gone}
+use Rattle.fc_units.specs.declared.going.Gone.TheVariants as gone
+use Rattle.fc_units.specs.declared.jobs.Job.TheVariants.{Top}
+use Rattle.fc_units.specs.declared.jobs.TopJob.{TopJob}
 use Rattle.fc_phase.specs.declared.progress.Progress.TheInside.{Inside}
 use Rattle.fc_phase.specs.declared.turn.Turn.TheVariants.{Done, Pending}
-use Rattle.fc_phase.proofs.Begun.{none_fits}
-use Rattle.fc_phase.proofs.FirstCounts.{from_first, known_from}
-use Rattle.fc_phase.proofs.Turning.{Shows, each_some, ends, left_less}
+use Rattle.fc_units.proofs.Begun.{none_fits}
+use Rattle.fc_units.proofs.FirstCounts.{from_first, known_from}
+use Rattle.fc_units.proofs.Turning.{Shows, each_some, ends, left_less}
 use Rattle.fc_phase.proofs.Underway.{answer_is, counts_on, opens_on, shows}
 
 mul_none : (M : ℕ) → 0 ≡ M * 0 + 0

@@ -22,16 +22,16 @@ use Rattle.fc_levels.specs.declared.level.Level.{Level}
 use Rattle.fc_levels.proofs.CountedJobs.{jobs_are_counted}
 use Rattle.fc_levels.proofs.EndedFronts.{ended_is_front}
 use Rattle.fc_jobs.specs.Pieces.{pieces_in}
-use Rattle.fc_phase.specs.Asked.{answer_from, top_bucket, top_domain, top_scope}
-use Rattle.fc_phase.specs.Built.{IsBuilt, IsCountedUp, IsJob, done_in, ended, row_under_way, zeroed}
-use Rattle.fc_phase.specs.Going.{IsFurther, IsPast, ended_by}
-use Rattle.fc_phase.specs.declared.building.Building.{Building}
-use Rattle.fc_phase.specs.declared.jobs.Job.{Job}
-use Rattle.fc_phase.specs.declared.jobs.Job.TheVariants.{Top, Facet}
-use Rattle.fc_phase.proofs.FirstCounts.{known_from}
-use Rattle.fc_phase.proofs.JobEnds.{some_ended}
-use Rattle.fc_phase.proofs.Opening.{openings-followed, openings-put, zeroed-append}
-use Rattle.fc_phase.proofs.Turning.{Shows, each_some, shown}
+use Rattle.fc_units.specs.Asked.{answer_from, top_bucket, top_domain, top_scope}
+use Rattle.fc_units.specs.Built.{IsBuilt, IsCountedUp, IsJob, done_in, ended, row_under_way, zeroed}
+use Rattle.fc_units.specs.Going.{IsFurther, IsPast, ended_by}
+use Rattle.fc_units.specs.declared.building.Building.{Building}
+use Rattle.fc_units.specs.declared.jobs.Job.{Job}
+use Rattle.fc_units.specs.declared.jobs.Job.TheVariants.{Top, Facet}
+use Rattle.fc_units.proofs.FirstCounts.{known_from}
+use Rattle.fc_units.proofs.JobEnds.{some_ended}
+use Rattle.fc_units.proofs.Opening.{openings-followed, openings-put, zeroed-append}
+use Rattle.fc_units.proofs.Turning.{Shows, each_some, shown}
 
 -- the answer of the live blocks, however they are cut into segments
 pub answer_is : (r : definition.Request) (V : Pieces) (ask : Ask) → AreWhole V → answer r (joined (live_world V) ∷ []) 0 ask ≡ set_answer r V ask

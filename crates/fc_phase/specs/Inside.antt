@@ -10,9 +10,9 @@ use Rattle.fc_answers.specs.SetAnswer.{live_world}
 use Rattle.fc_jobs.specs.BasesKept.{AreBases}
 use Rattle.fc_refine.specs.Named.{NamesKeys}
 use Rattle.fc_jobs.specs.Pieces.{pieces_in}
-use Rattle.fc_phase.specs.Built.{IsBuilt, IsCountedUp}
+use Rattle.fc_units.specs.Built.{IsBuilt, IsCountedUp}
 use Rattle.fc_phase.specs.Phases.{Phase, left_of}
-use Rattle.fc_phase.specs.declared.building.Building.{Building}
+use Rattle.fc_units.specs.declared.building.Building.{Building}
 use Rattle.fc_phase.specs.declared.progress.Progress.TheInside.{Inside}
 
 abbrev pub segments_in : Inside → List Segmented

@@ -1,7 +1,3 @@
-pub mod Asked
-pub mod Built
-pub mod Stepping
-pub mod Going
 pub mod FirstJobs
 pub mod Phases
 pub mod Inside

@@ -2,18 +2,17 @@
 ghost use Rattle.std.specs.Prelude.{◌≡◌, ◌<◌, ◌∷◌, [], IfOk, false, map};
 ghost use Rattle.std.specs.Arc.{arc_value};
 ghost use Rattle.fc_spec.specs.messages.Message as message;
-ghost use Rattle.fc_spec.specs.requests.ValidRequests.{IsValidRequest};
+ghost use Rattle.fc_spec.specs.requests.ValidRequests.{IsSearchable};
 ghost use Rattle.fc_spec.specs.scripts.WorldLimits.{IsWithinLimits};
 ghost use Rattle.fc_request.specs.RequestView.{IsRoot, request_view};
 ghost use Rattle.fc_refine.specs.AskView.{ask_view};
 ghost use Rattle.fc_kind.specs.Names.{Covers};
 ghost use Rattle.fc_refine.specs.Named.{NamesKeys};
-ghost use Rattle.fc_phase.specs.Asked.{asked_count};
+ghost use Rattle.fc_units.specs.Asked.{asked_count};
 ghost use Rattle.fc_phase.specs.Futures.{IsBegun, phase_of};
 ghost use Rattle.fc_phase.specs.Phases.{Turned, left_of};
 
 use crate::Turn;
-use crate::asked::shared;
 use crate::progress::Progress;
 use fc_base::WantMemory;
 use fc_kind::FacetKind;
@@ -21,6 +20,7 @@ use fc_partial::Message;
 use fc_refine::Ask;
 use fc_request::Request;
 use fc_store::Generation;
+use fc_units::shared;
 use futures::Future;
 use futures::task::{Context, Poll};
 use std::alloc::Global;
@@ -46,7 +46,7 @@ impl<'a> PhaseFuture<'a> {
     ) -> Result<PhaseFuture<'a>, WantMemory>
         requires covers { Covers (map name kinds.now) }
         requires root { IsRoot request.now.root }
-        requires valid { IsValidRequest (arc_value generation).schema (request_view request.now) }
+        requires valid { IsSearchable (arc_value generation).schema (request_view request.now) }
         requires limits { IsWithinLimits ((arc_value generation).blocks ∷ []) }
         ensures begun { IfOk result (λ future. IsBegun request.now (arc_value generation).blocks message.first (phase_of future)) }
         ensures kinds { IfOk result (λ future. future.kinds.now ≡ kinds.now) }
@@ -72,7 +72,7 @@ impl<'a> PhaseFuture<'a> {
     ) -> Result<PhaseFuture<'a>, WantMemory>
         requires covers { Covers (map name kinds.now) }
         requires root { IsRoot request.now.root }
-        requires valid { IsValidRequest (arc_value generation).schema (request_view request.now) }
+        requires valid { IsSearchable (arc_value generation).schema (request_view request.now) }
         requires limits { IsWithinLimits ((arc_value generation).blocks ∷ []) }
         requires some { 0 < asked_count (ask_view ask.now) }
         requires names { NamesKeys (request_view request.now).nodes (ask_view ask.now) }

@@ -17,7 +17,7 @@ use Rattle.fc_spec.proofs.messages.Ways.{none_not_some, some_exact}
 use Rattle.fc_coord.specs.State.{State, ask_at, ask_for, asks_for, lacks_next}
 use Rattle.fc_coord.specs.Keeps.{Keeps}
 use Rattle.fc_coord.proofs.Hearing.{want_there}
-use Rattle.fc_phase.specs.Asked.{asked_count}
+use Rattle.fc_units.specs.Asked.{asked_count}
 
 -- what holds of all asks holds of those that are left
 pub kept_asked : (P : Ask → Type 0) (asks : List (Option Ask)) (i : ℕ) → ((j : ℕ) (ask : Ask) → ask_at asks j ≡ Some ask → P ask) → (j : ℕ) (ask : Ask) → ask_at (slice_set asks i None) j ≡ Some ask → P ask

@@ -15,7 +15,7 @@ use Rattle.fc_spec.proofs.messages.Ways.{some_exact}
 use Rattle.fc_coord.specs.State.{State, at_start, begun, lacks_next}
 use Rattle.fc_coord.specs.Keeps.{Keeps}
 use Rattle.fc_coord.proofs.Beginning.{HasBegun, has_begun}
-use Rattle.fc_phase.specs.Asked.{asked_count}
+use Rattle.fc_units.specs.Asked.{asked_count}
 use Rattle.fc_search.specs.Hearing.{HasHeard, WasTold, rounds_left}
 use Rattle.fc_search.proofs.AskedAgain.{made_asked}
 use Rattle.fc_search.proofs.TraceRounds.{at_first}

@@ -15,7 +15,7 @@ use Rattle.fc_refine.specs.Named.{NamesKeys}
 use Rattle.fc_request.specs.RequestView.{request_view}
 use Rattle.fc_request.specs.declared.request.Request as asked
 use Rattle.fc_coord.specs.State.{ask_at}
-use Rattle.fc_phase.specs.Asked.{asked_count}
+use Rattle.fc_units.specs.Asked.{asked_count}
 use Rattle.fc_phase.specs.Futures.{IsBegun}
 use Rattle.fc_phase.specs.Phases.{Phase, answer_of}
 use Rattle.fc_store.specs.Generated.{Generated}

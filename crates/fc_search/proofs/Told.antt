@@ -27,7 +27,7 @@ use Rattle.fc_coord.proofs.Beginning.{has_begun, length-asks_for}
 use Rattle.fc_coord.proofs.Hearing.{asks_name_keys, fits_is_exact, heard_keeps, length-heard, once_told}
 use Rattle.fc_coord.proofs.Kept.{waits}
 use Rattle.fc_refine.specs.Named.{NamesKeys}
-use Rattle.fc_phase.specs.Asked.{asked_count}
+use Rattle.fc_units.specs.Asked.{asked_count}
 use Rattle.fc_search.specs.Hearing.{HasHeard, IsHearing, ShardAnswer, WasTold, all_messages, answers_from, awaited_answers, awaited_messages, messages_from, rounds_left}
 use Rattle.fc_search.specs.SearchLaws.{AreTellingLaws}
 use Rattle.fc_search.proofs.AskedAgain.{kept_asked, made_asked, round_asks, some_wanted}

@@ -12,7 +12,7 @@ use Rattle.fc_spec.specs.messages.Lengths.{Lengths, put_all}
 use Rattle.fc_spec.specs.laws.Merging.{IsAnswer}
 use Rattle.fc_coord.specs.State.{State, ask_at}
 use Rattle.fc_coord.specs.Keeps.{Keeps}
-use Rattle.fc_phase.specs.Asked.{asked_count}
+use Rattle.fc_units.specs.Asked.{asked_count}
 
 -- the answer of a shard
 pub record ShardAnswer : Type 0 where

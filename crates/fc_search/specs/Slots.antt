@@ -7,7 +7,7 @@ use Rattle.fc_request.specs.RequestView.{request_view}
 use Rattle.fc_request.specs.declared.request.Request as asked
 use Rattle.fc_refine.specs.AskView.{ask_view}
 use Rattle.fc_refine.specs.Named.{NamesKeys}
-use Rattle.fc_phase.specs.Asked.{asked_count}
+use Rattle.fc_units.specs.Asked.{asked_count}
 use Rattle.fc_search.specs.Askable.{IsAskable}
 use Rattle.fc_search.specs.Hearing.{ShardAnswer}
 use Rattle.fc_search.specs.Spelled.{AreBytesOf}

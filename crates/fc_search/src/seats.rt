@@ -6,7 +6,7 @@ ghost use Rattle.fc_refine.specs.AskView.{ask_view};
 ghost use Rattle.fc_coord.specs.CoordView.{state_view};
 ghost use Rattle.fc_kind.specs.Names.{Covers};
 ghost use Rattle.fc_refine.specs.Named.{NamesKeys};
-ghost use Rattle.fc_phase.specs.Asked.{asked_count};
+ghost use Rattle.fc_units.specs.Asked.{asked_count};
 ghost use Rattle.fc_phase.specs.Futures.{IsBegun, phase_of};
 ghost use Rattle.fc_search.specs.Askable.{AreAskable, IsAskable, world_of};
 ghost use Rattle.fc_search.specs.Hearing.{IsHearing, awaited_answers};

@@ -4,7 +4,7 @@ ghost use Rattle.std.specs.Arc.{arc_value};
 ghost use Rattle.fc_spec.specs.messages.Answer.{answer};
 ghost use Rattle.fc_spec.specs.messages.Nesting.{Spells};
 ghost use Rattle.fc_kind.specs.Names.{Covers};
-ghost use Rattle.fc_phase.specs.Asked.{asked_count};
+ghost use Rattle.fc_units.specs.Asked.{asked_count};
 ghost use Rattle.fc_refine.specs.AskView.{ask_view};
 ghost use Rattle.fc_refine.specs.Named.{NamesKeys};
 ghost use Rattle.fc_request.specs.RequestView.{request_view};

@@ -1,0 +1,15 @@
+pub mod Turning
+pub mod Opening
+pub mod AskedTops
+pub mod FirstCounts
+pub mod Around
+pub mod AskedNodes
+pub mod Fronts
+pub mod Begun
+pub mod Ending
+pub mod JobEnds
+pub mod Following
+pub mod Segments
+pub mod TopSteps
+pub mod FacetSteps
+pub mod WantedWays

@@ -1,0 +1,4 @@
+pub mod Asked
+pub mod Built
+pub mod Stepping
+pub mod Going
