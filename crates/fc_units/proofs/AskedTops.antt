@@ -97,12 +97,12 @@ and_true : (b : Bool) → (b && true) ≡ b
 and_true true = refl
 and_true false = refl
 
-in_whole : (t : Document → Bool) (live : List Bool) (ds : List Document) → zip_with ◌&&◌ (zip_with ◌&&◌ live (map t ds)) (map (in_bucket (query all) whole) ds) ≡ zip_with ◌&&◌ live (map t ds)
+pub in_whole : (t : Document → Bool) (live : List Bool) (ds : List Document) → zip_with ◌&&◌ (zip_with ◌&&◌ live (map t ds)) (map (in_bucket (query all) whole) ds) ≡ zip_with ◌&&◌ live (map t ds)
 in_whole t [] ds = refl
 in_whole t (here ∷ live) [] = refl
 in_whole t (here ∷ live) (d ∷ ds) = ap₂ (λ b l. b ∷ l) (and_true (here && t d)) (in_whole t live ds)
 
-whole_base : (r : Request) (V : Pieces) → bucket_sets V (query all) whole (map (base_of r []) V) ≡ map (base_of r []) V
+pub whole_base : (r : Request) (V : Pieces) → bucket_sets V (query all) whole (map (base_of r []) V) ≡ map (base_of r []) V
 whole_base r [] = refl
 whole_base r (p ∷ V) = ap₂ (λ a l. a ∷ l) (in_whole (meets_base r []) p.live (documents_in p.blocks)) (whole_base r V)
 

@@ -101,22 +101,22 @@ within_unit m k at f h = (grind (arith, f.more, f.none, h), omega (arith, h))
 
 -- ---- a top bucket's job has ended
 module _ (s : Schema) (segments : List Segmented) (request : Request) (ask : Ask) (i : ℕ) (roots : Sets) (job : TopJob) (st : StandsAtTop s segments request ask i roots job) (past : length segments ≤ job.at) where
-  abbrev r : definition.Request
+  abbrev pub r : definition.Request
   r = request_view request
 
-  abbrev V : Pieces
+  abbrev pub V : Pieces
   V = pieces_in segments
 
   abbrev o : Scope
   o = top_scope r ask i
 
-  abbrev n : Nested
+  abbrev pub n : Nested
   n = nested_view job.node.now
 
   abbrev key : Key
   key = key_view job.key
 
-  abbrev D : Sets
+  abbrev pub D : Sets
   D = top_domain r V ask i n.0
 
   sets : AreLive V D
@@ -125,7 +125,7 @@ module _ (s : Schema) (segments : List Segmented) (request : Request) (ask : Ask
   count : length D ≡ length segments
   count = sets_count V D sets ∙ length-map segments piece_of
 
-  whole : job.domain.items ≡ D
+  pub whole : job.domain.items ≡ D
   whole = all_there D job.domain.items st.is_job.domain (omega (arith, count, past, st.is_job.reached))
 
   pub top_sets : AreLive V job.domain.items

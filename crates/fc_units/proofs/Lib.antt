@@ -13,3 +13,8 @@ pub mod Segments
 pub mod TopSteps
 pub mod FacetSteps
 pub mod WantedWays
+pub mod LeastUnits
+pub mod LeastLists
+pub mod LeastSteps
+pub mod LeastRoots
+pub mod LeastFollowing

@@ -102,10 +102,10 @@ no_further segments at h = record { more = λ g. absurd (omega (arith, h, g)); n
 -- ---- a segment
 
 module _ (s : Schema) (gs : List Segmented) (request : Request) (at : ℕ) (g : Segmented) (rest : List Segmented) (here : drop at gs ≡ g ∷ rest) (can : CanAnswer s gs request) where
-  abbrev r : definition.Request
+  abbrev pub r : definition.Request
   r = request_view request
 
-  abbrev V : Pieces
+  abbrev pub V : Pieces
   V = pieces_in gs
 
   pub piece_here : drop at V ≡ piece_of g ∷ pieces_in rest
@@ -136,10 +136,10 @@ module _ (s : Schema) (gs : List Segmented) (request : Request) (at : ℕ) (g : 
   pub facet_here : (n : Node) → IsValidNode s n → FacetFits g.texts n
   facet_here n v = facet_fits s v.valid.0 v.inner.0 g.texts n texts_here v.facet v.valid.1 v.inner.1
 
-  abbrev bases : Sets
+  abbrev pub bases : Sets
   bases = map (base_of r []) V
 
-  base_stands : drop at bases ≡ base_of r [] (piece_of g) ∷ map (base_of r []) (pieces_in rest)
+  pub base_stands : drop at bases ≡ base_of r [] (piece_of g) ∷ map (base_of r []) (pieces_in rest)
   base_stands = map_stands (base_of r []) at (piece_of g) V (pieces_in rest) piece_here
 
   -- what is there of the bases, and what is put behind them

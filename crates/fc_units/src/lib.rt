@@ -6,10 +6,11 @@ mod building;
 mod enclosing;
 mod going;
 mod jobs;
+mod leasts;
 mod units;
 
 pub use asked::{asked_count, asked_node, shared};
 pub use building::Building;
 pub use going::{Gone, top_job, unit_done};
 pub use jobs::{FacetJob, Job, TopJob};
-pub use units::{segment_at, top_segment};
+pub use leasts::{LeastBuilding, LeastGone, ListJob, Lists, least_unit};

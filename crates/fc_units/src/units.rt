@@ -156,7 +156,7 @@ fn look_at<'a>(
 }
 
 /// The segment with a number.
-pub fn segment_at(segments: &[Arc<Segment>], at: usize) -> Option<&Segment>
+pub(crate) fn segment_at(segments: &[Arc<Segment>], at: usize) -> Option<&Segment>
     ensures { MatchOption result (length (map arc_value segments.now) ≤ at)
         (λ segment. drop at (map arc_value segments.now) ≡ segment.now ∷ drop (at + 1) (map arc_value segments.now)) }
 {
@@ -175,7 +175,7 @@ fn innermost<'a, 'b>(levels: &'b [Level<'a>]) -> &'b Level<'a>
 }
 
 /// One segment of a top bucket's job, where there is one left.
-pub fn top_segment<'a>(
+pub(crate) fn top_segment<'a>(
     alloc: Global,
     kinds: &[Box<dyn FacetKind>],
     request: &'a Request,
