@@ -2,3 +2,5 @@ pub mod Underway
 pub mod Turns
 pub mod Sharing
 pub mod CountedTops
+pub mod LeastShown
+pub mod LeastTurns

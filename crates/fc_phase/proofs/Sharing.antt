@@ -1,5 +1,5 @@
 -- Segments that a generation shares.
-use Rattle.std.proofs.Common.{◌≡◌, List, [], ◌∷◌, map, All, false, sym, ◌∙◌, ap, subst, refl}
+use Rattle.std.proofs.Common.{◌≡◌, ℕ, List, [], ◌∷◌, map, All, false, None, Some, sym, ◌∙◌, ap, subst, refl}
 use Rattle.std.proofs.lemmas.List.Elements.{All-cons, All-head, All-nil, All-tail}
 use Rattle.fc_spec.specs.documents.Document.{Block}
 use Rattle.fc_spec.specs.documents.Live.{HasWholeBlocks}
@@ -17,7 +17,7 @@ use Rattle.fc_store.specs.Generated.{Generated}
 use Rattle.fc_answers.specs.SetAnswer.{AreWhole, Piece, live_world}
 use Rattle.fc_jobs.specs.Pieces.{piece_of, pieces_in}
 use Rattle.fc_units.specs.Built.{CanAnswer}
-use Rattle.fc_phase.specs.Futures.{IsBegun}
+use Rattle.fc_phase.specs.Futures.{IsBegun, IsLeastBegun}
 use Rattle.fc_phase.specs.Phases.{Phase}
 
 each_live : (gs : List Segmented) → live_world (pieces_in gs) ≡ map live_blocks gs
@@ -55,10 +55,21 @@ shared_can g h gs request same is kinds whole each limits root valid =
 
 -- nothing is done over them
 pub shared_begun : (g h : Generated) (gs : List Segmented) (request : Request) (ask : message.Ask) (p q : Phase) → h ≡ g → live_blocks_of gs ≡ h.blocks → p ≡ q → q.request ≡ request → ask_view q.ask ≡ ask → q.blocks ≡ joined (live_world (pieces_in gs))
-    → q.done ≡ 0 → q.spent ≡ false → IsBegun request g.blocks ask p
-shared_begun g h gs request ask p q same is e r a b d s = record {
+    → q.done ≡ 0 → q.spent ≡ false → q.least ≡ None → IsBegun request g.blocks ask p
+shared_begun g h gs request ask p q same is e r a b d s l = record {
   request_is = ap (λ (x : Phase). x.request) e ∙ r;
   ask_is = ap (λ (x : Phase). ask_view x.ask) e ∙ a;
+  least_is = ap (λ (x : Phase). x.least) e ∙ l;
+  blocks_are = ap (λ (x : Phase). x.blocks) e ∙ b ∙ shared_blocks gs g.blocks (is ∙ ap (λ (x : Generated). x.blocks) same);
+  done = ap (λ (x : Phase). x.done) e ∙ d;
+  fresh = ap (λ (x : Phase). x.spent) e ∙ s;
+}
+
+pub shared_least_begun : (g h : Generated) (gs : List Segmented) (request : Request) (ns ms : List ℕ) (p q : Phase) → h ≡ g → live_blocks_of gs ≡ h.blocks → p ≡ q → q.request ≡ request → q.least ≡ Some ms → ms ≡ ns → q.blocks ≡ joined (live_world (pieces_in gs))
+    → q.done ≡ 0 → q.spent ≡ false → IsLeastBegun request g.blocks ns p
+shared_least_begun g h gs request ns ms p q same is e r l copied b d s = record {
+  request_is = ap (λ (x : Phase). x.request) e ∙ r;
+  least_is = ap (λ (x : Phase). x.least) e ∙ l ∙ ap Some copied;
   blocks_are = ap (λ (x : Phase). x.blocks) e ∙ b ∙ shared_blocks gs g.blocks (is ∙ ap (λ (x : Generated). x.blocks) same);
   done = ap (λ (x : Phase). x.done) e ∙ d;
   fresh = ap (λ (x : Phase). x.spent) e ∙ s;

@@ -19,7 +19,7 @@ abbrev pub segments_in : Inside → List Segmented
 segments_in p = map arc_value p.segments.items
 
 abbrev pub phase_in : Inside → Phase
-phase_in p = record { request = p.request.now; ask = p.ask; blocks = joined (live_world (pieces_in (segments_in p))); segments = length p.segments.items; done = p.done; spent = is_none p.building }
+phase_in p = record { request = p.request.now; ask = p.ask; least = None; blocks = joined (live_world (pieces_in (segments_in p))); segments = length p.segments.items; done = p.done; spent = is_none p.building }
 
 -- the answer is partly built, and its units that are done are counted
 pub record IsUnderWay (p : Inside) (b : Building) : Type 0 where

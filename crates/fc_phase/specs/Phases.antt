@@ -1,8 +1,11 @@
 -- What a shard's future shows.
-use Rattle.std.specs.Prelude.{◌≡◌, ℕ, ◌+◌, ◌<◌, List, [], ◌∷◌, Bool, true, Result, Ok, Err}
+use Rattle.std.specs.Prelude.{◌≡◌, ℕ, ◌+◌, ◌<◌, List, [], ◌∷◌, Bool, true, Option, None, Some, Result, Ok, Err}
 use Rattle.fc_spec.specs.documents.Document.{Block}
 use Rattle.fc_spec.specs.messages.Answer.{answer}
+use Rattle.fc_spec.specs.messages.Message as message
 use Rattle.fc_spec.specs.messages.Message.{Partials}
+use Rattle.fc_spec.specs.messages.TopRounds.{exact_answer, exact_least}
+use Rattle.fc_spec.specs.requests.Request as definition
 use Rattle.fc_request.specs.RequestView.{request_view}
 use Rattle.fc_request.specs.declared.request.Request.{Request}
 use Rattle.fc_refine.specs.AskView.{ask_view}
@@ -16,18 +19,24 @@ use Rattle.futures.specs.declared.task.Poll.TheVariants.{Ready, Pending as Waiti
 use Rattle.fc_phase.specs.declared.turn.Turn.{Turn}
 use Rattle.fc_phase.specs.declared.turn.Turn.TheVariants.{Done, Pending}
 
--- the request and the ask, the shard's blocks and how many segments they stand in; how many units are done, and whether it is over
+-- the request and the ask, or the counts from which on values are asked for; the shard's blocks and how many segments they stand in; how many units are done, and whether it is over
 pub record Phase : Type 0 where
   pub request : Request
   pub ask : Ask
+  pub least : Option (List ℕ)
   pub blocks : List Block
   pub segments : ℕ
   pub done : ℕ
   pub spent : Bool
 
+-- the answer of a shard with these blocks to an ask, or from counts on where there are some
+abbrev pub message_for : definition.Request → List Block → message.Ask → Option (List ℕ) → Partials
+message_for r blocks ask None = answer r (blocks ∷ []) 0 ask
+message_for r blocks ask (Some ns) = exact_answer r (blocks ∷ []) 0 (exact_least ns)
+
 -- the message that comes: the shard's answer, which its blocks alone determine
 abbrev pub answer_of : Phase → Partials
-answer_of p = answer (request_view p.request) (p.blocks ∷ []) 0 (ask_view p.ask)
+answer_of p = message_for (request_view p.request) p.blocks (ask_view p.ask) p.least
 
 abbrev pub units_of : Phase → ℕ
 units_of p = units p.segments (answer_of p)

@@ -9,10 +9,13 @@ ghost use Rattle.fc_refine.specs.AskView.{ask_view};
 ghost use Rattle.fc_kind.specs.Names.{Covers};
 ghost use Rattle.fc_refine.specs.Named.{NamesKeys};
 ghost use Rattle.fc_units.specs.Asked.{asked_count};
-ghost use Rattle.fc_phase.specs.Futures.{IsBegun, phase_of};
+ghost use Rattle.fc_units.specs.LeastLists.{NestNothing};
+ghost use Rattle.fc_phase.specs.Futures.{IsBegun, IsLeastBegun, phase_of};
 ghost use Rattle.fc_phase.specs.Phases.{Turned, left_of};
 
 use crate::Turn;
+use crate::course::Course;
+use crate::least_progress::LeastProgress;
 use crate::progress::Progress;
 use fc_base::WantMemory;
 use fc_kind::FacetKind;
@@ -33,7 +36,7 @@ use std::sync::Arc;
 pub struct PhaseFuture<'a> {
     pub(crate) alloc: Global,
     pub(crate) kinds: &'a [Box<dyn FacetKind>],
-    pub(crate) progress: Progress<'a>,
+    pub(crate) course: Course<'a>,
 }
 
 impl<'a> PhaseFuture<'a> {
@@ -56,7 +59,7 @@ impl<'a> PhaseFuture<'a> {
         Ok(PhaseFuture {
             alloc,
             kinds,
-            progress,
+            course: Course::Asked(progress),
         })
     }
 
@@ -85,7 +88,36 @@ impl<'a> PhaseFuture<'a> {
         Ok(PhaseFuture {
             alloc,
             kinds,
-            progress,
+            course: Course::Asked(progress),
+        })
+    }
+
+    /// The answer from counts on: the root's bucket, and below it in each facet what the shard lists from its count on; of a terms
+    /// facet the values of at least that count, and those without a value. There is one count for each facet of the request,
+    /// statistics passed over; a facet without one lists each value. Nothing may be nested in a facet. Its units are those of the
+    /// answer to the first ask.
+    pub fn least(
+        alloc: Global,
+        generation: Arc<Generation>,
+        request: &'a Request,
+        kinds: &'a [Box<dyn FacetKind>],
+        least: &[u64],
+    ) -> Result<PhaseFuture<'a>, WantMemory>
+        requires covers { Covers (map name kinds.now) }
+        requires root { IsRoot request.now.root }
+        requires valid { IsSearchable (arc_value generation).schema (request_view request.now) }
+        requires limits { IsWithinLimits ((arc_value generation).blocks ∷ []) }
+        requires bare { NestNothing (request_view request.now).nodes }
+        ensures begun { IfOk result (λ future. IsLeastBegun request.now (arc_value generation).blocks least.now (phase_of future)) }
+        ensures kinds { IfOk result (λ future. future.kinds.now ≡ kinds.now) }
+    {
+        let segments = generation.share(alloc)?;
+        let own = least.to_vec(alloc)?;
+        let progress = LeastProgress::begin(alloc, request, segments, own)?;
+        Ok(PhaseFuture {
+            alloc,
+            kinds,
+            course: Course::Least(progress),
         })
     }
 
@@ -97,21 +129,21 @@ impl<'a> PhaseFuture<'a> {
         ensures turned { Turned (phase_of self.old) (phase_of self.new) result }
         ensures kinds { self.new.kinds.now ≡ self.old.kinds.now }
     {
-        self.progress.turn(self.alloc, self.kinds)
+        self.course.turn(self.alloc, self.kinds)
     }
 
     /// Whether the answer was given, or memory was wanting: there is no further turn.
     pub fn spent(&self) -> bool
         ensures { result ≡ (phase_of self.now).spent }
     {
-        self.progress.spent()
+        self.course.spent()
     }
 
     /// How many units are done.
     pub fn done(&self) -> u64
         ensures { result ≡ (phase_of self.now).done }
     {
-        self.progress.done()
+        self.course.done()
     }
 
     /// How many units of jobs that are known are not done. A job is known from the end of the job of the facet around it
@@ -119,7 +151,7 @@ impl<'a> PhaseFuture<'a> {
     pub fn left(&self) -> u64
         ensures { result ≡ left_of (phase_of self.now) }
     {
-        self.progress.left()
+        self.course.left()
     }
 }
 

@@ -1,7 +1,9 @@
 //! One shard's answer to what it is asked, made in turns of one segment of one job each.
 #![tactic(auto)]
 
+mod course;
 mod future;
+mod least_progress;
 mod progress;
 mod turn;
 

@@ -1,5 +1,5 @@
 // How far a shard has come with its answer.
-ghost use Rattle.std.specs.Prelude.{◌≡◌, ◌<◌, ◌+◌, ◌*◌, ◌-◌, IfOk, IfSome, false, length, map};
+ghost use Rattle.std.specs.Prelude.{◌≡◌, ◌<◌, ◌+◌, ◌*◌, ◌-◌, IfOk, IfSome, None, false, length, map};
 ghost use Rattle.std.specs.Arc.{arc_value};
 ghost use Rattle.fc_spec.specs.documents.Schema.{Schema};
 ghost use Rattle.fc_spec.specs.words.Lists.{joined};
@@ -58,8 +58,8 @@ impl<'a> Model for Progress<'a> {
     ghost invariant = { IsSound };
 }
 
-// How many units a job has.
-fn units_each(segments: usize) -> u64
+/// How many units a job has.
+pub(crate) fn units_each(segments: usize) -> u64
     ensures { result ≡ units_each segments }
 {
     (segments as u64).max(1)
@@ -117,6 +117,7 @@ impl<'a> Progress<'a> {
         ensures { IfOk result (λ progress. progress ≡ record {
           request = request.now;
           ask = ask;
+          least = None;
           blocks = joined (live_world (pieces_in (map arc_value segments.items)));
           segments = length segments.items;
           done = 0;

@@ -56,6 +56,18 @@ module _ (s : Schema) (r : definition.Request) (V : Pieces) (ns : List ℕ) (bas
   pub all_counted : length done ≡ facet_count r.nodes
   all_counted = sym (length-map done node_view) ∙ ap length all_lists ∙ lists_count r V (facets_of r.nodes) ns
 
+pub lists_left : (s : Schema) (r : definition.Request) (V : Pieces) (ns : List ℕ) (base : Sets) (stats : Stats) (done : List PartialNode) (left : List Nested) → AreFirstLists s r V ns base stats done left → length done + length left ≡ facet_count r.nodes
+lists_left s r V ns base stats done left are =
+    let all = ap length are.lists in
+    omega (
+      arith,
+      all,
+      length-append (map node_view done) (least_lists r V left (drop (length done) ns)),
+      length-map done node_view,
+      lists_count r V left (drop (length done) ns),
+      lists_count r V (facets_of r.nodes) ns,
+    )
+
 -- ---- the next one begins
 
 pub next_begins : (s : Schema) (cut : List Segmented) (request : Request) (ns : List ℕ) (l : Lists) (nodes : Nodes) → CanAnswer s cut request

@@ -11,4 +11,4 @@ begin-requires-clause-can g c =
 
 pub returns-clause-begun : goal.returns-clause-begun
 returns-clause-begun g c =
-    shared_begun (arc_value c.args.generation) c.deref.result.now (map arc_value c.in_ok-segments.segments.items) c.args.request.now (ask_view c.args.ask.now) c.in_ok-progress.progress _ c.deref.ensures c.in_ok-segments.ensures.blocks c.in_ok-progress.ensures refl c.in_ok-own.ensures refl refl refl
+    shared_begun (arc_value c.args.generation) c.deref.result.now (map arc_value c.in_ok-segments.segments.items) c.args.request.now (ask_view c.args.ask.now) c.in_ok-progress.progress _ c.deref.ensures c.in_ok-segments.ensures.blocks c.in_ok-progress.ensures refl c.in_ok-own.ensures refl refl refl refl
