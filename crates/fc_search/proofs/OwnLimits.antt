@@ -10,7 +10,8 @@ use Rattle.fc_spec.specs.words.Lists.{joined}
 use Rattle.fc_spec.specs.documents.Schema.{Schema}
 use Rattle.fc_spec.specs.documents.Totals.{documents_in}
 use Rattle.fc_spec.specs.documents.World.{World}
-use Rattle.fc_spec.specs.requests.ValidRequests.{IsValidRequest}
+use Rattle.fc_spec.proofs.requests.Searchable.{searchable}
+use Rattle.fc_spec.specs.requests.ValidRequests.{IsSearchable, IsValidRequest}
 use Rattle.fc_spec.specs.scripts.ScriptTotals.{absolute_total, are_few, script_limits, total_limit}
 use Rattle.fc_spec.specs.scripts.WorldLimits.{IsWithinLimits}
 use Rattle.fc_jobs.proofs.SegmentLimits.{each_within}
@@ -45,8 +46,12 @@ blocks_at [] k d below = absurd (omega (arith, below))
 blocks_at (g ∷ gs) zero d below = refl
 blocks_at (g ∷ gs) (suc k) d below = blocks_at gs k d (omega (arith, below))
 
--- where there is a generation, the request is valid for a schema
-pub some_schema : (request : Request) (gs : List Generated) → All (λ g. IsValidRequest g.schema (request_view request)) gs → 1 ≤ length gs → (s : Schema) × IsValidRequest s (request_view request)
+-- of a valid request a search can be made
+pub all_searchable : (request : Request) (gs : List Generated) → All (λ g. IsValidRequest g.schema (request_view request)) gs → All (λ g. IsSearchable g.schema (request_view request)) gs
+all_searchable request gs valid = λ k d below. searchable _ (request_view request) (valid k d below)
+
+-- where there is a generation, it can by some schema
+pub some_schema : (request : Request) (gs : List Generated) → All (λ g. IsSearchable g.schema (request_view request)) gs → 1 ≤ length gs → (s : Schema) × IsSearchable s (request_view request)
 some_schema request [] valid some = absurd (omega (arith, some))
 some_schema request (g ∷ gs) valid some = (g.schema, valid 0 g (omega (arith, some)))
 

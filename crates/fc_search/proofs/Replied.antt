@@ -9,8 +9,7 @@ use Rattle.fc_spec.specs.documents.World.{World, single}
 use Rattle.fc_spec.specs.requests.Request.{Request}
 use Rattle.fc_spec.specs.requests.Paths.{at_root}
 use Rattle.fc_spec.specs.requests.Shape.{no_limits}
-use Rattle.fc_spec.specs.requests.ValidRequests.{IsValidRequest}
-use Rattle.fc_spec.proofs.requests.Searchable.{searchable}
+use Rattle.fc_spec.specs.requests.ValidRequests.{IsSearchable}
 use Rattle.fc_spec.specs.replies.Distributed.{distributed}
 use Rattle.fc_spec.specs.replies.Exact.{exact}
 use Rattle.fc_spec.specs.replies.Reply.{Bucket}
@@ -46,7 +45,7 @@ pub record IsReply (r : Request) (W : World) (b : Bucket) : Type 0 where
   pub refined : IsBucketOf r W at_root (AreFacetsOf r W r.nodes at_root) b
   pub single_index : IsTrue (no_limits r.nodes) → b ≡ exact r (single W)
 
-pub replied : (laws : AreReplyLaws) (r : Request) (W : World) (s : State) (b : Bucket) → (schema : Schema) × IsValidRequest schema r → IsHearing r W s → s.ready ≡ true → ((A : List Told) → Keeps s A → b ≡ merged s.request (length s.asks) A) → IsReply r W b
+pub replied : (laws : AreReplyLaws) (r : Request) (W : World) (s : State) (b : Bucket) → (schema : Schema) × IsSearchable schema r → IsHearing r W s → s.ready ≡ true → ((A : List Told) → Keeps s A → b ≡ merged s.request (length s.asks) A) → IsReply r W b
 replied laws r W s b (schema, valid) (sent, told) ready is =
     let whole : b ≡ distributed r W = is (told_in r.nodes sent) told.kept ∙ merges_whole laws r W s sent told ready in
     let refined = laws.refined r W in
@@ -61,13 +60,13 @@ replied laws r W s b (schema, valid) (sent, told) ready is =
 pub traced : (r : Request) (W : World) (s : State) (es : List Sent) → HasHeard r W s es → s.ready ≡ true → es ≡ trace r W
 traced r W s es (sent, told, entries) ready = sym entries ∙ ap (map entry_of) (sym (ap (λ b. cond b sent (rounds_from r W (terms_depth r.nodes + 1 - s.round) (suc s.round) (sent ++ awaited_messages r W s))) ready) ∙ told.rounds)
 
--- what a coordinator asks of a request, of one that is valid
-pub begins_well : (laws : AreReplyLaws) (r : Request) → (schema : Schema) × IsValidRequest schema r → AreCountable r.nodes × (terms_depth r.nodes + 1 < 2 ^ 32)
-begins_well laws r (schema, valid) = (laws.countable schema r (searchable schema r valid), let few = laws.few schema r (searchable schema r valid) in omega (arith, few))
+-- what a coordinator asks of a request, of one of which a search can be made
+pub begins_well : (laws : AreReplyLaws) (r : Request) → (schema : Schema) × IsSearchable schema r → AreCountable r.nodes × (terms_depth r.nodes + 1 < 2 ^ 32)
+begins_well laws r (schema, valid) = (laws.countable schema r valid, let few = laws.few schema r valid in omega (arith, few))
 
 -- few terms facets stand around each other
-pub few_depths : (laws : AreTellingLaws) (request : code.Request) (gs : List (Arc Generated Global)) → All (λ g. IsValidRequest g.schema (request_view request)) (map (arc_value {X = Generated}) gs) → 1 ≤ length gs → terms_depth (request_view request).nodes ≤ 8
+pub few_depths : (laws : AreTellingLaws) (request : code.Request) (gs : List (Arc Generated Global)) → All (λ g. IsSearchable g.schema (request_view request)) (map (arc_value {X = Generated}) gs) → 1 ≤ length gs → terms_depth (request_view request).nodes ≤ 8
 few_depths laws request gs valid some =
     let long = length-map gs (arc_value {X = Generated}) in
     let schema = some_schema request (map (arc_value {X = Generated}) gs) valid (omega (arith, long, some)) in
-    laws.depths schema.0 (request_view request) (searchable schema.0 (request_view request) schema.1)
+    laws.depths schema.0 (request_view request) schema.1

@@ -13,7 +13,7 @@ use Rattle.fc_request.specs.RequestView.{request_view}
 use Rattle.fc_request.specs.declared.request.Request.{Request}
 use Rattle.fc_coord.specs.State.{ask_at}
 use Rattle.fc_phase.specs.Futures.{IsBegun}
-use Rattle.fc_phase.specs.Phases.{Phase, answer_of}
+use Rattle.fc_phase.specs.Phases.{Phase, answer_of, message_for}
 use Rattle.fc_search.specs.Hearing.{ShardAnswer, answers_from}
 use Rattle.fc_search.specs.Seats.{HasTold, IsSat, phase_in, seat_answer}
 use Rattle.fc_search.specs.declared.seat.Seat.{Seat}
@@ -24,7 +24,7 @@ use Rattle.fc_search.proofs.Awaited.{next_answer, no_answer}
 -- what a future that has not begun will answer: its shard's answer
 pub begun_answer : (request : Request) (W : World) (i : ℕ) (blocks : List Block) (ask : Ask) (p : Phase) → AnswersFromItsBlocks → IsBegun request blocks ask p → slice_get W i ≡ Some blocks → answer_of p ≡ answer (request_view request) W i ask
 begun_answer request W i blocks ask p alone begun there =
-    (λ j. answer (request_view (begun.request_is j)) (begun.blocks_are j ∷ []) 0 (begun.ask_is j)) ∙ alone (request_view request) (blocks ∷ []) W 0 i (sym there) ask
+    (λ j. message_for (request_view (begun.request_is j)) (begun.blocks_are j) (begun.ask_is j) (begun.least_is j)) ∙ alone (request_view request) (blocks ∷ []) W 0 i (sym there) ask
 
 -- a seat more, for a shard that is asked
 pub seat_more : {B : Type 0} {Q : B → Type 0} (r : definition.Request) (W : World) (asks : List (Option Ask)) (i : ℕ) (ask : Ask) (seats : List (Seat B Q)) (seat : Seat B Q) (all : List ShardAnswer) → ask_at asks i ≡ Some ask → seat.shard ≡ i → answer_of (phase_in seat) ≡ answer r W i ask

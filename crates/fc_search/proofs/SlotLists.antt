@@ -17,7 +17,7 @@ use Rattle.fc_request.specs.declared.request.Request as asked
 use Rattle.fc_coord.specs.State.{ask_at}
 use Rattle.fc_units.specs.Asked.{asked_count}
 use Rattle.fc_phase.specs.Futures.{IsBegun}
-use Rattle.fc_phase.specs.Phases.{Phase, answer_of}
+use Rattle.fc_phase.specs.Phases.{Phase, answer_of, message_for}
 use Rattle.fc_store.specs.Generated.{Generated}
 use Rattle.fc_search.specs.Askable.{IsAskable}
 use Rattle.fc_search.specs.Hearing.{ShardAnswer, answers_from}
@@ -46,7 +46,7 @@ can_answer request slot own ask is asked askable some names = record {
 
 -- what a future that has not begun will answer
 pub begun_message : (request : asked.Request) (blocks : List Block) (ask : Ask) (p : Phase) → IsBegun request blocks ask p → answer_of p ≡ answer (request_view request) (blocks ∷ []) 0 ask
-begun_message request blocks ask p begun = λ j. answer (request_view (begun.request_is j)) (begun.blocks_are j ∷ []) 0 (begun.ask_is j)
+begun_message request blocks ask p begun = λ j. message_for (request_view (begun.request_is j)) (begun.blocks_are j) (begun.ask_is j) (begun.least_is j)
 
 -- one more, for a shard that is asked
 pub slot_more : (r : Request) (W : World) (asks : List (Option Ask)) (i : ℕ) (ask : Ask) (slots : List Slot) (slot : Slot) (all : List ShardAnswer) → ask_at asks i ≡ Some ask → slot_answer r slot ≡ record { shard = i; message = answer r W i ask }

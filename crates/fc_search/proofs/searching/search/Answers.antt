@@ -9,19 +9,19 @@ use Rattle.fc_coord.specs.CoordView.{state_view}
 use Rattle.fc_search.specs.Askable.{world_of}
 use Rattle.fc_search.proofs.Begun.{hearing_at_start}
 use Rattle.fc_search.proofs.Heard.{traced_hears, traced_more, traced_none}
-use Rattle.fc_search.proofs.OwnLimits.{length-world, some_schema}
+use Rattle.fc_search.proofs.OwnLimits.{all_searchable, length-world, some_schema}
 use Rattle.fc_search.proofs.Replied.{begins_well, replied, traced}
 use Rattle.fc_search.proofs.searching.search.Goals as goal
 
 pub begin-requires-clause-countable : goal.begin-requires-clause-countable
 begin-requires-clause-countable g c =
     let long = length-map c.args.generations.now arc_value in
-    (begins_well c.reply_laws.ensures (request_view c.args.request.now) (some_schema c.args.request.now (map arc_value c.args.generations.now) c.requires.valid (omega (arith, long, c.requires.some)))).0
+    (begins_well c.reply_laws.ensures (request_view c.args.request.now) (some_schema c.args.request.now (map arc_value c.args.generations.now) (all_searchable c.args.request.now (map arc_value c.args.generations.now) c.requires.valid) (omega (arith, long, c.requires.some)))).0
 
 pub begin-requires-clause-depth : goal.begin-requires-clause-depth
 begin-requires-clause-depth g c =
     let long = length-map c.args.generations.now arc_value in
-    (begins_well c.reply_laws.ensures (request_view c.args.request.now) (some_schema c.args.request.now (map arc_value c.args.generations.now) c.requires.valid (omega (arith, long, c.requires.some)))).1
+    (begins_well c.reply_laws.ensures (request_view c.args.request.now) (some_schema c.args.request.now (map arc_value c.args.generations.now) (all_searchable c.args.request.now (map arc_value c.args.generations.now) c.requires.valid) (omega (arith, long, c.requires.some)))).1
 
 pub loop-alloc-init : goal.loop-alloc-init
 loop-alloc-init g c =
@@ -31,23 +31,26 @@ loop-alloc-init g c =
 pub returns-clause-distributed : goal.returns-clause-distributed
 returns-clause-distributed g c =
     let long = length-map c.args.generations.now arc_value in
-    let schema = some_schema c.args.request.now (map arc_value c.args.generations.now) c.requires.valid (omega (arith, long, c.requires.some)) in
+    let schema = some_schema c.args.request.now (map arc_value c.args.generations.now) (all_searchable c.args.request.now (map arc_value c.args.generations.now) c.requires.valid) (omega (arith, long, c.requires.some)) in
     let ready = sym c.ready.ensures ∙ c.loop-alloc-test.false in
     (replied c.reply_laws.ensures (request_view c.args.request.now) (world_of (map arc_value c.args.generations.now)) (state_view c.loop-alloc.coord) (reply_view c.in_ok-reply.reply) schema (traced_hears (request_view c.args.request.now) (world_of (map arc_value c.args.generations.now)) (state_view c.loop-alloc.coord) (g.P.Probe.lengths c.args.probe.now) (g.P.Probe.lengths c.loop-alloc.probe) c.loop-alloc.invariant) ready c.in_ok-reply.ensures).distributed_is
 
 pub returns-clause-refined : goal.returns-clause-refined
 returns-clause-refined g c =
     let long = length-map c.args.generations.now arc_value in
-    let schema = some_schema c.args.request.now (map arc_value c.args.generations.now) c.requires.valid (omega (arith, long, c.requires.some)) in
+    let schema = some_schema c.args.request.now (map arc_value c.args.generations.now) (all_searchable c.args.request.now (map arc_value c.args.generations.now) c.requires.valid) (omega (arith, long, c.requires.some)) in
     let ready = sym c.ready.ensures ∙ c.loop-alloc-test.false in
     (replied c.reply_laws.ensures (request_view c.args.request.now) (world_of (map arc_value c.args.generations.now)) (state_view c.loop-alloc.coord) (reply_view c.in_ok-reply.reply) schema (traced_hears (request_view c.args.request.now) (world_of (map arc_value c.args.generations.now)) (state_view c.loop-alloc.coord) (g.P.Probe.lengths c.args.probe.now) (g.P.Probe.lengths c.loop-alloc.probe) c.loop-alloc.invariant) ready c.in_ok-reply.ensures).refined
 
 pub returns-clause-single_index : goal.returns-clause-single_index
 returns-clause-single_index g c =
     let long = length-map c.args.generations.now arc_value in
-    let schema = some_schema c.args.request.now (map arc_value c.args.generations.now) c.requires.valid (omega (arith, long, c.requires.some)) in
+    let schema = some_schema c.args.request.now (map arc_value c.args.generations.now) (all_searchable c.args.request.now (map arc_value c.args.generations.now) c.requires.valid) (omega (arith, long, c.requires.some)) in
     let ready = sym c.ready.ensures ∙ c.loop-alloc-test.false in
     (replied c.reply_laws.ensures (request_view c.args.request.now) (world_of (map arc_value c.args.generations.now)) (state_view c.loop-alloc.coord) (reply_view c.in_ok-reply.reply) schema (traced_hears (request_view c.args.request.now) (world_of (map arc_value c.args.generations.now)) (state_view c.loop-alloc.coord) (g.P.Probe.lengths c.args.probe.now) (g.P.Probe.lengths c.loop-alloc.probe) c.loop-alloc.invariant) ready c.in_ok-reply.ensures).single_index
+
+pub run_round-requires-clause-askable : goal.run_round-requires-clause-askable
+run_round-requires-clause-askable g c κs within = record { root = c.requires.root; valid = all_searchable c.args.request.now (map arc_value c.args.generations.now) c.requires.valid; limits = c.requires.limits }
 
 pub run_round-requires-clause-hearing : goal.run_round-requires-clause-hearing
 run_round-requires-clause-hearing g c κs within =

@@ -2,11 +2,11 @@ use Rattle.std.proofs.Common.{◌≡◌, ◌<◌, ◌≤◌, length, map, false,
 use Rattle.std.specs.Arc.{arc_value}
 use Rattle.std.proofs.lemmas.List.Elements.{All-push}
 use Rattle.fc_spec.specs.messages.Nesting.{nesting}
-use Rattle.fc_spec.proofs.requests.Searchable.{searchable}
 use Rattle.fc_request.specs.RequestView.{request_view}
 use Rattle.fc_refine.specs.AskView.{ask_view}
 use Rattle.fc_coord.specs.CoordView.{state_view}
 use Rattle.fc_coord.specs.State.{ask_at}
+use Rattle.fc_phase.specs.Futures.{phase_of}
 use Rattle.fc_search.specs.Askable.{world_of}
 use Rattle.fc_search.specs.Hearing.{awaited_answers}
 use Rattle.fc_search.specs.Seats.{IsSat}
@@ -46,9 +46,9 @@ loop-number-preserved g c =
     let begun = c.in_ok-future.ensures.begun in
     let ask = ask_view c.ask.result.now in
     let own = own_blocks c.args.generations.now c.loop-number.number c.index-generations-number.result c.loop-number-test.true c.index-generations-number.is in
-    let answers = begun_answer c.args.request.now W c.loop-number.number (arc_value c.index-generations-number.result).blocks ask c.in_ok-future.future.progress c.telling_laws.ensures.alone begun own in
+    let answers = begun_answer c.args.request.now W c.loop-number.number (arc_value c.index-generations-number.result).blocks ask (phase_of c.in_ok-future.future) c.telling_laws.ensures.alone begun own in
     let askable = own_askable c.args.request.now c.args.generations.now c.loop-number.number c.index-generations-number.result c.requires.askable c.loop-number-test.true c.index-generations-number.is in
-    let nests = subst (λ m. nesting m ≤ 9) (sym answers) (c.telling_laws.ensures.nest (arc_value c.index-generations-number.result).schema r W c.loop-number.number ask (searchable (arc_value c.index-generations-number.result).schema r askable.valid)) in
+    let nests = subst (λ m. nesting m ≤ 9) (sym answers) (c.telling_laws.ensures.nest (arc_value c.index-generations-number.result).schema r W c.loop-number.number ask askable.valid) in
     record {
       kinds = rw c.in_ok-push.ensures.items (All-push (λ seat. seat.future.kinds.now ≡ c.args.kinds.now) _ _ was.kinds c.in_ok-future.ensures.kinds);
       sat = rw c.in_ok-push.ensures.items (All-push IsSat _ _ was.sat (sat_at_first _ refl begun.fresh nests));

@@ -3,8 +3,8 @@ use Rattle.std.specs.Arc.{arc_value}
 use Rattle.fc_spec.specs.messages.Nesting.{Spells, nesting}
 use Rattle.fc_kind.specs.Names.{Covers}
 use Rattle.fc_refine.specs.AskView.{ask_view}
-use Rattle.fc_spec.proofs.requests.Searchable.{searchable}
 use Rattle.fc_request.specs.RequestView.{request_view}
+use Rattle.fc_phase.specs.Futures.{phase_of}
 use Rattle.fc_search.specs.Hearing.{ShardAnswer}
 use Rattle.fc_search.proofs.SeatTurns.{sat_at_first}
 use Rattle.fc_search.proofs.SlotLists.{begun_message}
@@ -18,8 +18,8 @@ pub finish-requires-clause-sat : goal.finish-requires-clause-sat
 finish-requires-clause-sat g c =
     let blocks = (arc_value c.args.generation.now).blocks in
     let ask = ask_view c.args.ask.now in
-    let message = begun_message c.args.request.now blocks ask c.in_ok-future_of.field-0.progress c.in_ok-future_of.ensures.begun in
-    let nests = c.telling_laws.ensures.nest (arc_value c.args.generation.now).schema (request_view c.args.request.now) (blocks ∷ []) 0 ask (searchable (arc_value c.args.generation.now).schema (request_view c.args.request.now) c.requires.askable.valid) in
+    let message = begun_message c.args.request.now blocks ask (phase_of c.in_ok-future_of.field-0) c.in_ok-future_of.ensures.begun in
+    let nests = c.telling_laws.ensures.nest (arc_value c.args.generation.now).schema (request_view c.args.request.now) (blocks ∷ []) 0 ask c.requires.askable.valid in
     sat_at_first _ refl c.in_ok-future_of.ensures.begun.fresh (subst (λ m. nesting m ≤ 9) (sym message) nests)
 
 pub into_bytes-requires : goal.into_bytes-requires
@@ -28,5 +28,5 @@ into_bytes-requires g c = c.finish.ensures.told c.if-is_none.ensures
 pub returns : goal.returns
 returns g c =
     let message = ap (λ (a : ShardAnswer). a.message) c.finish.ensures.answer
-    ∙ begun_message c.args.request.now (arc_value c.args.generation.now).blocks (ask_view c.args.ask.now) c.in_ok-future_of.field-0.progress c.in_ok-future_of.ensures.begun in
+    ∙ begun_message c.args.request.now (arc_value c.args.generation.now).blocks (ask_view c.args.ask.now) (phase_of c.in_ok-future_of.field-0) c.in_ok-future_of.ensures.begun in
     subst (Spells c.into_bytes.result.items) message c.into_bytes.ensures

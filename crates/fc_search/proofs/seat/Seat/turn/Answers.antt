@@ -1,4 +1,5 @@
 use Rattle.std.proofs.Common.{Some, refl}
+use Rattle.fc_phase.specs.Futures.{phase_of}
 use Rattle.fc_search.proofs.SeatTurns.{done_nests, finished_over, on_err, turned_on, turned_over}
 use Rattle.fc_search.proofs.seat.Seat.turn.Goals as goal
 
@@ -6,7 +7,7 @@ pub returns-in-Pending-clause-turned : goal.returns-in-Pending-clause-turned
 returns-in-Pending-clause-turned g c = turned_on c.args.self.now (record c.args.self.now { future = c.turn.new.self }) c.in_ok-turn.turn c.in-Pending.is refl refl c.requires.waits c.requires.fresh c.requires.nests c.in_ok-turn.ensures.turned
 
 pub encode-requires : goal.encode-requires
-encode-requires g c = done_nests c.args.self.now.future.progress c.turn.new.self.progress c.in_ok-turn.turn c.in-Done.message c.in-Done.is c.in_ok-turn.ensures.turned c.requires.nests
+encode-requires g c = done_nests (phase_of c.args.self.now.future) (phase_of c.turn.new.self) c.in_ok-turn.turn c.in-Done.message c.in-Done.is c.in_ok-turn.ensures.turned c.requires.nests
 
 pub returns-in_ok-bytes-in-Done-clause-turned : goal.returns-in_ok-bytes-in-Done-clause-turned
 returns-in_ok-bytes-in-Done-clause-turned g c =
