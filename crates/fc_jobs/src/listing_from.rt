@@ -25,7 +25,7 @@ use std::alloc::Global;
 fn is_of_least(bucket: &PartialBucket, least: u64) -> bool
     ensures { result ≡ is_of_least least ((bucket_view bucket.now).key, (bucket_view bucket.now).stats) }
 {
-    !matches!(bucket.key, Key::Value(_)) || bucket.stats.count >= least
+    !matches!(&bucket.key, Key::Value(_)) || bucket.stats.count >= least
 }
 
 // Those of the buckets, in their order.

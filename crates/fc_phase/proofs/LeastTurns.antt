@@ -56,7 +56,7 @@ at_end M e k jobs done last end count = omega (arith, end, count, ap (λ n. M * 
 ended_less : (s : Schema) (segments : List Segmented) (request : Request) (ns : List ℕ) (b : LeastBuilding) → IsLeastBuilt s segments request ns b → jobs_ended b < least_jobs (request_view request)
 ended_less s segments request ns (Root job) built = omega arith
 ended_less s segments request ns (Facets l) built =
-    let count = lists_left s (request_view request) (pieces_in segments) ns l.base.items l.stats l.done.items (nested_view l.job.node.now ∷ facets_of (nodes_view l.left.now)) (built.job).first in
+    let count = lists_left s (request_view request) (pieces_in segments) ns l.base.items l.stats l.done.items (nested_view l.job.node.now ∷ facets_of (nodes_view l.left.now)) (built.job).so_far in
     omega (arith, count)
 
 module _ (p : Inside) where

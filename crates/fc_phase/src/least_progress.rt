@@ -4,7 +4,7 @@ ghost use Rattle.std.specs.Arc.{arc_value};
 ghost use Rattle.fc_spec.specs.documents.Schema.{Schema};
 ghost use Rattle.fc_spec.specs.words.Lists.{joined};
 ghost use Rattle.fc_request.specs.RequestView.{request_view};
-ghost use Rattle.fc_refine.specs.declared.ask.Ask.TheVariants as ask;
+ghost use Rattle.fc_refine.specs.declared.ask.Ask.TheVariants as asks;
 ghost use Rattle.fc_kind.specs.Names.{Covers};
 ghost use Rattle.fc_answers.specs.SetAnswer.{live_world};
 ghost use Rattle.fc_jobs.specs.Pieces.{pieces_in};
@@ -103,7 +103,7 @@ impl<'a> LeastProgress<'a> {
         requires bare { NestNothing (request_view request.now).nodes }
         ensures { IfOk result (λ progress. progress ≡ record {
           request = request.now;
-          ask = ask.First;
+          ask = asks.First;
           least = Some least.items;
           blocks = joined (live_world (pieces_in (map arc_value segments.items)));
           segments = length segments.items;

@@ -105,7 +105,7 @@ pub list_goes : (l : Lists) (least : ℕ) (list : PartialNode) (more : List Part
     → (r : Result LeastGone WantMemory) → IfOk r (NextGoes l.base.items l.stats more (nodes_view l.left.now)) → IfOk r (ListGoes least l)
 list_goes l least list more is listed (Ok g) goes = λ s cut request ns can are past count.
     let view = listed.view ∙ list_is s cut request l.job can are.job past listed.buckets (first_number (drop (length l.done.items) ns)) listed.ascends (listed.listed ∙ ap (λ n. bare (least_of (kind_view (kind_of l.job.node.now)) (inner_view l.job.node.now) n l.job.tally.entries)) count) in
-    let one = one_list_more s (request_view request) (pieces_in cut) ns l.base.items l.stats l.done.items more (nested_view l.job.node.now) (facets_of (nodes_view l.left.now)) list is view are.first in
+    let one = one_list_more s (request_view request) (pieces_in cut) ns l.base.items l.stats l.done.items more (nested_view l.job.node.now) (facets_of (nodes_view l.left.now)) list is view are.so_far in
     let up : length more + 1 ≡ length l.done.items + 2 = omega (arith, one.1) in
     subst (λ e. LeastGoesOn s cut request ns e g) up (goes s cut request ns can one.0 are.left)
 list_goes l least list more is listed (Err x) goes = goes
@@ -125,7 +125,7 @@ list_past n ns l least past is (Err x) goes = goes
 -- the same lists, with the job a segment further
 stepped_lists : (s : Schema) (r : definition.Request) (V : Pieces) (ns : List ℕ) (l : Lists) (job : ListJob) → job.node.now ≡ l.job.node.now → AreLists s r V ns l → IsListJob s r V job → AreLists s r V ns (record l { job = job })
 stepped_lists s r V ns l job same are is = record {
-  first = subst (λ (n : Node). AreFirstLists s r V ns l.base.items l.stats l.done.items (nested_view n ∷ facets_of (nodes_view l.left.now))) (sym same) are.first;
+  so_far = subst (λ (n : Node). AreFirstLists s r V ns l.base.items l.stats l.done.items (nested_view n ∷ facets_of (nodes_view l.left.now))) (sym same) are.so_far;
   left = are.left;
   job = is;
 }

@@ -51,7 +51,7 @@ module _ (s : Schema) (r : definition.Request) (V : Pieces) (ns : List ℕ) (bas
   all_lists = sym (append-nil (map node_view done)) ∙ ap (λ fs. map node_view done ++ least_lists r V fs (drop (length done) ns)) (sym none) ∙ are.lists
 
   pub lists_answer : partial whole (stats_view stats) (linked_rows (map node_view done)) no_partials ≡ least_answer r V ns
-  lists_answer = λ j. partial whole (are.stats j) (linked_rows (all_lists j)) no_partials
+  lists_answer = λ j. partial whole (are.stats_are j) (linked_rows (all_lists j)) no_partials
 
   pub all_counted : length done ≡ facet_count r.nodes
   all_counted = sym (length-map done node_view) ∙ ap length all_lists ∙ lists_count r V (facets_of r.nodes) ns
@@ -83,7 +83,7 @@ next_begins s cut request ns l nodes can are valid e has none at =
       record {
         can = can;
         job = record {
-          first = subst (AreFirstLists s (request_view request) V ns l.base.items l.stats l.done.items) e are;
+          so_far = subst (AreFirstLists s (request_view request) V ns l.base.items l.stats l.done.items) e are;
           left = rest_valid s nodes (nodes_view l.left.now) n e valid;
           job = record {
             node = first_valid s nodes (nodes_view l.left.now) n e has valid;
@@ -102,8 +102,8 @@ next_begins s cut request ns l nodes can are valid e has none at =
 later_are : (k : ℕ) (ns : List ℕ) → later_numbers (drop k ns) ≡ drop (k + 1) ns
 later_are zero [] = refl
 later_are zero (n ∷ ns) = refl
-later_are (suc k) [] = refl
-later_are (suc k) (n ∷ ns) = later_are k ns ∙ ap (λ m. drop m (n ∷ ns)) (omega arith)
+later_are (suc k) [] = let up : suc (k + 1) ≡ suc k + 1 = omega arith in ap (λ m. drop m []) up
+later_are (suc k) (n ∷ ns) = let up : suc (k + 1) ≡ suc k + 1 = omega arith in later_are k ns ∙ ap (λ m. drop m (n ∷ ns)) up
 
 module _ (s : Schema) (cut : List Segmented) (request : Request) (job : ListJob) (can : CanAnswer s cut request) (is : IsListJob s (request_view request) (pieces_in cut) job) (past : length cut ≤ job.at) where
   abbrev r : definition.Request
@@ -138,8 +138,8 @@ one_list_more s r V ns base stats done more n left list is view are =
     let count : length more ≡ length done + 1 = ap length is ∙ length-append done (list ∷ []) in
     let rest = least_lists r V left in (
       record {
-        base = are.base;
-        stats = are.stats;
+        base_is = are.base_is;
+        stats_are = are.stats_are;
         lists = (λ j. map node_view (is j) ++ rest (drop (count j) ns))
             ∙ ap (λ xs. xs ++ rest (drop (length done + 1) ns)) (map-append node_view done (list ∷ []))
             ∙ append_assoc (map node_view done) (node_view list ∷ []) (rest (drop (length done + 1) ns))

@@ -68,7 +68,7 @@ module _ (s : Schema) (segments : List Segmented) (request : Request) (job : Top
       ∙ ap (λ D. stats_over (stats_of r.nodes) (places_at (whole_world V) D)) (whole_base r V)
 
   pub root_lists : (ns : List ℕ) → AreFirstLists s r V ns job.domain.items job.over [] (facets_of (inner_view job.node.now))
-  root_lists ns = record { base = base; stats = stats; lists = ap (λ nodes. least_lists r V (facets_of nodes) ns) inner }
+  root_lists ns = record { base_is = base; stats_are = stats; lists = ap (λ nodes. least_lists r V (facets_of nodes) ns) inner }
 
   pub root_facets : AreValidFacets s (inner_view job.node.now)
   root_facets = valid_facets s (inner_view job.node.now) st.is_job.node.inner

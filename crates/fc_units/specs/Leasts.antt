@@ -37,12 +37,12 @@ pub record IsListJob (s : Schema) (r : definition.Request) (V : Pieces) (job : L
 
 -- the root's bucket is whole, and so are the first of its lists; those of these facets are left
 pub record AreFirstLists (s : Schema) (r : definition.Request) (V : Pieces) (ns : List ℕ) (base : Sets) (stats : Stats) (done : List PartialNode) (left : List Nested) : Type 0 where
-  pub base : base ≡ root_sets r V
-  pub stats : stats_view stats ≡ root_stats r V
+  pub base_is : base ≡ root_sets r V
+  pub stats_are : stats_view stats ≡ root_stats r V
   pub lists : map node_view done ++ least_lists r V left (drop (length done) ns) ≡ least_lists r V (facets_of r.nodes) ns
 
 pub record AreLists (s : Schema) (r : definition.Request) (V : Pieces) (ns : List ℕ) (l : Lists) : Type 0 where
-  pub first : AreFirstLists s r V ns l.base.items l.stats l.done.items (nested_view l.job.node.now ∷ facets_of (nodes_view l.left.now))
+  pub so_far : AreFirstLists s r V ns l.base.items l.stats l.done.items (nested_view l.job.node.now ∷ facets_of (nodes_view l.left.now))
   pub left : AreValidFacets s (nodes_view l.left.now)
   pub job : IsListJob s r V l.job
 
