@@ -3,3 +3,4 @@ pub mod FaultView
 pub mod KindView
 pub mod RangeGaps
 pub mod RangeParts
+pub mod RefiningView

@@ -4,6 +4,7 @@ mod fields;
 mod filters;
 mod query;
 mod range;
+mod refining;
 mod statistic;
 mod terms;
 mod words;

@@ -1,5 +1,5 @@
 -- What is answered for a node, from what its steps answered.
-use Rattle.std.proofs.Common.{◌≡◌, ℕ, ◌+◌, ◌-◌, ◌∙◌, ap, sym, subst, List, [], ◌∷◌, ◌++◌, Bool, map, Option, Result, Ok, Err, MatchResult}
+use Rattle.std.proofs.Common.{◌≡◌, ℕ, ◌+◌, ◌-◌, ◌∙◌, ap, sym, subst, List, [], ◌∷◌, ◌++◌, Bool, false, map, Option, Result, Ok, Err, MatchResult}
 use Rattle.std.proofs.lemmas.List.{map-append}
 use Rattle.serde_json.specs.Data.{Data, Members, member}
 use Rattle.fc_spec.specs.documents.Val.{Text}
@@ -26,15 +26,15 @@ pub refused : {A B V W : Type 0} (first : A → V) (view : B → W) (refusal : R
 refused first view Memory r next h = tt
 refused first view (Fault f) r next h = ap (λ r. r >>= next) h
 
-pub refused_node : {A B : Type 0} (first : A → Head) (view : B → Walked Node) (refusal : Refused) (left n : ℕ) (s : Schema) (unmoved : Bool) (name : Text) (d : Data) → Answers first request_fault_view (Err refusal) (own (node_head left n s unmoved name d)) → Answers view request_fault_view (Err refusal) (node_within left s unmoved n name d)
-refused_node first view refusal left n s unmoved name d h =
-    rw (of_node left n s unmoved name d) (refused first view refusal (own (node_head left n s unmoved name d)) (resumed (under (nodes_within (left - 1) s) unmoved) (n + 1)) h)
+pub refused_node : {A B : Type 0} (first : A → Head) (view : B → Walked Node) (refusal : Refused) (left n : ℕ) (s : Schema) (outermost unmoved : Bool) (name : Text) (d : Data) → Answers first request_fault_view (Err refusal) (own (node_head left n s unmoved name d)) → Answers view request_fault_view (Err refusal) (node_within left s outermost unmoved n name d)
+refused_node first view refusal left n s outermost unmoved name d h =
+    rw (of_node left n s outermost unmoved name d) (refused first view refusal (own (node_head left n s unmoved name d)) (resumed outermost (under (nodes_within (left - 1) s false) unmoved) (n + 1)) h)
 
 -- a statistic
-pub statistic_within : (left n : ℕ) (s : Schema) (unmoved : Bool) (name : Text) (d : Data) (st : Stat) (p : Part) → own (node_head left n s unmoved name d) ≡ Ok (statistic_head st) → p ≡ (name, of_statistic st) → node_within left s unmoved n name d ≡ Ok (walked p.1 (n + 1))
-statistic_within left n s unmoved name d st p h e =
-    of_node left n s unmoved name d
-    ∙ ap (λ r. r >>= resumed (under (nodes_within (left - 1) s) unmoved) (n + 1)) h
+pub statistic_within : (left n : ℕ) (s : Schema) (outermost unmoved : Bool) (name : Text) (d : Data) (st : Stat) (p : Part) → own (node_head left n s unmoved name d) ≡ Ok (statistic_head st) → p ≡ (name, of_statistic st) → node_within left s outermost unmoved n name d ≡ Ok (walked p.1 (n + 1))
+statistic_within left n s outermost unmoved name d st p h e =
+    of_node left n s outermost unmoved name d
+    ∙ ap (λ r. r >>= resumed outermost (under (nodes_within (left - 1) s false) unmoved) (n + 1)) h
     ∙ ap (λ q. Ok (walked q.1 (n + 1))) (sym e)
 
 -- a facet over nodes that were read
@@ -46,32 +46,32 @@ of_kind view (Err (Fault f)) name change (Ok k) inner m h = ap (λ r. r >>= (λ 
 of_kind view (Err (Fault f)) name change (Err e) inner m h = ap (λ r. r >>= (λ p. Ok (walked p.1 m))) h
 
 -- what follows the nested nodes
-abbrev rest : KindHead → DomainChange → Result (Walked Nodes) RequestFault → Result (Walked Node) RequestFault
-rest kind change r = r >>= (λ w. own (kind_behind kind w.read) >>= (λ k. Ok (facet_read change k w)))
+abbrev rest : (outermost : Bool) → KindHead → DomainChange → Result (Walked Nodes) RequestFault → Result (Walked Node) RequestFault
+rest outermost kind change r = r >>= (λ w. own (kind_behind outermost kind w.read) >>= (λ k. Ok (facet_read change k w)))
 
-with_nodes : {B : Type 0} (inner_view : B → Nodes) (m : ℕ) (name : Text) (change : DomainChange) (kind : KindHead) (whole : Result (Walked Node) RequestFault) (deeper : Result (Walked Nodes) RequestFault) (nodes : Result B Refused) (result : Result code_node.Node Refused)
-    → whole ≡ rest kind change deeper
+with_nodes : {B : Type 0} (inner_view : B → Nodes) (m : ℕ) (outermost : Bool) (name : Text) (change : DomainChange) (kind : KindHead) (whole : Result (Walked Node) RequestFault) (deeper : Result (Walked Nodes) RequestFault) (nodes : Result B Refused) (result : Result code_node.Node Refused)
+    → whole ≡ rest outermost kind change deeper
     → Answers (λ nodes. walked (inner_view nodes) m) request_fault_view nodes deeper
-    → MatchResult nodes (λ nodes. Answers node_view request_fault_view result (own (facet_behind name change kind (inner_view nodes)))) (λ refusal. result ≡ Err refusal)
+    → MatchResult nodes (λ nodes. Answers node_view request_fault_view result (own (facet_behind outermost name change kind (inner_view nodes)))) (λ refusal. result ≡ Err refusal)
     → Answers (λ node. walked (node_view node).1 m) request_fault_view result whole
-with_nodes inner_view m name change kind whole deeper (Ok nodes) result cut inner with_them =
-    let e : whole ≡ rest kind change (Ok (walked (inner_view nodes) m)) = cut ∙ ap (rest kind change) inner in
+with_nodes inner_view m outermost name change kind whole deeper (Ok nodes) result cut inner with_them =
+    let e : whole ≡ rest outermost kind change (Ok (walked (inner_view nodes) m)) = cut ∙ ap (rest outermost kind change) inner in
     subst (λ w. Answers (λ node. walked (node_view node).1 m) request_fault_view result w) (sym e)
-    (of_kind node_view result name change (kind_behind kind (inner_view nodes)) (inner_view nodes) m with_them)
-with_nodes inner_view m name change kind whole deeper (Err Memory) result cut inner with_them =
+    (of_kind node_view result name change (kind_behind outermost kind (inner_view nodes)) (inner_view nodes) m with_them)
+with_nodes inner_view m outermost name change kind whole deeper (Err Memory) result cut inner with_them =
     subst (λ r. Answers (λ node. walked (node_view node).1 m) request_fault_view r whole) (sym with_them) tt
-with_nodes inner_view m name change kind whole deeper (Err (Fault f)) result cut inner with_them =
-    subst (λ r. Answers (λ node. walked (node_view node).1 m) request_fault_view r whole) (sym with_them) (cut ∙ ap (rest kind change) inner)
+with_nodes inner_view m outermost name change kind whole deeper (Err (Fault f)) result cut inner with_them =
+    subst (λ r. Answers (λ node. walked (node_view node).1 m) request_fault_view r whole) (sym with_them) (cut ∙ ap (rest outermost kind change) inner)
 
 -- a facet, whose nested nodes were read or refused
-pub facet_within : {B : Type 0} (inner_view : B → Nodes) (left n m : ℕ) (s : Schema) (unmoved : Bool) (name : Text) (d : Data) (change : DomainChange) (kind : KindHead) (members : Option Members) (nodes : Result B Refused) (result : Result code_node.Node Refused)
+pub facet_within : {B : Type 0} (inner_view : B → Nodes) (left n m : ℕ) (s : Schema) (outermost unmoved : Bool) (name : Text) (d : Data) (change : DomainChange) (kind : KindHead) (members : Option Members) (nodes : Result B Refused) (result : Result code_node.Node Refused)
     → own (node_head left n s unmoved name d) ≡ Ok (facet_head change kind members)
-    → Answers (λ nodes. walked (inner_view nodes) m) request_fault_view nodes (inner_nodes (under (nodes_within (left - 1) s) unmoved change) (n + 1) members)
-    → MatchResult nodes (λ nodes. Answers node_view request_fault_view result (own (facet_behind name change kind (inner_view nodes)))) (λ refusal. result ≡ Err refusal)
-    → Answers (λ node. walked (node_view node).1 m) request_fault_view result (node_within left s unmoved n name d)
-facet_within inner_view left n m s unmoved name d change kind members nodes result h inner with_them =
-    with_nodes inner_view m name change kind (node_within left s unmoved n name d) (inner_nodes (under (nodes_within (left - 1) s) unmoved change) (n + 1) members) nodes result
-    (of_node left n s unmoved name d ∙ ap (λ r. r >>= resumed (under (nodes_within (left - 1) s) unmoved) (n + 1)) h)
+    → Answers (λ nodes. walked (inner_view nodes) m) request_fault_view nodes (inner_nodes (under (nodes_within (left - 1) s false) unmoved change) (n + 1) members)
+    → MatchResult nodes (λ nodes. Answers node_view request_fault_view result (own (facet_behind outermost name change kind (inner_view nodes)))) (λ refusal. result ≡ Err refusal)
+    → Answers (λ node. walked (node_view node).1 m) request_fault_view result (node_within left s outermost unmoved n name d)
+facet_within inner_view left n m s outermost unmoved name d change kind members nodes result h inner with_them =
+    with_nodes inner_view m outermost name change kind (node_within left s outermost unmoved n name d) (inner_nodes (under (nodes_within (left - 1) s false) unmoved change) (n + 1) members) nodes result
+    (of_node left n s outermost unmoved name d ∙ ap (λ r. r >>= resumed outermost (under (nodes_within (left - 1) s false) unmoved) (n + 1)) h)
     inner with_them
 
 -- one more node behind those that were read

@@ -1,5 +1,5 @@
 -- The walk of a node is its head and what is read behind it; nodes are read one behind another.
-use Rattle.std.proofs.Common.{◌≡◌, ℕ, zero, suc, ◌+◌, ◌-◌, ap, sym, refl, arith, List, [], ◌∷◌, ◌++◌, Bool, true, not, Option, None, Some, Result, Ok, Err, ok_or}
+use Rattle.std.proofs.Common.{◌≡◌, ℕ, zero, suc, ◌+◌, ◌-◌, ap, sym, refl, arith, List, [], ◌∷◌, ◌++◌, Bool, true, false, not, Option, None, Some, Result, Ok, Err, ok_or}
 use Rattle.std.specs.Prelude.{codes, nat_lt}
 use Rattle.std.proofs.lemmas.Bool.{lt-ltb}
 use Rattle.serde_json.specs.Data.{Data, null, boolean, number, string, array, object, Members, member}
@@ -7,11 +7,11 @@ use Rattle.serde_json.specs.Find.{as_object, get_member}
 use Rattle.fc_spec.specs.documents.Val.{Text}
 use Rattle.fc_spec.specs.documents.Schema.{Schema}
 use Rattle.fc_spec.specs.requests.Request.{DomainChange, Sort, Terms, Kind, terms, range, Nodes, no_nodes}
-use Rattle.fc_spec.specs.requests.RequestFault.{QFault, not_an_object, reserved_name, too_large, RequestFault}
+use Rattle.fc_spec.specs.requests.RequestFault.{QFault, not_an_object, bad_parameter, reserved_name, too_large, RequestFault}
 use Rattle.fc_spec.specs.requests.RequestWalk.{inside, check_names, required, said_or, text_in}
 use Rattle.fc_spec.specs.requests.StatisticReading.{statistic_of}
 use Rattle.fc_spec.specs.requests.DomainReading.{change_in}
-use Rattle.fc_spec.specs.requests.SortReading.{sort_in}
+use Rattle.fc_spec.specs.requests.SortReading.{sort_in, allows_exact}
 use Rattle.fc_spec.specs.requests.FacetReading.{terms_parts, range_parts, query_part}
 use Rattle.fc_spec.specs.requests.RequestReading.{Node, Walked, Reader, members_read, with_node, is_reserved, inner_read, own, facet_read, terms_read, statistic_read, FacetType, terms_type, range_type, query_type, func_type, parameters, type_of, typed_read, command_read, nodes_within}
 use Rattle.fc_spec.specs.words.Walks.{◌>>=◌, unless}
@@ -31,81 +31,88 @@ same_steps (Ok a) f g h = h a
 same_steps (Err e) f g h = refl
 
 -- the nested nodes, and what follows them
-inner_step : (reader : Reader) (deeper : DomainChange → Reader) (n : ℕ) (o : Option Data) (k : Walked Nodes → Result (Walked Node) RequestFault) (c : Option Members → Head) → ((i : Option Members) → resumed deeper n (c i) ≡ (inner_nodes reader n i >>= k))
-    → (inner_read reader n o >>= k) ≡ (own (said_or some_object None o >>= (λ i. Ok (c i))) >>= resumed deeper n)
-inner_step reader deeper n None k c h = sym (h None)
-inner_step reader deeper n (Some d) k c h = of_object (as_object d)
+inner_step : (outermost : Bool) (reader : Reader) (deeper : DomainChange → Reader) (n : ℕ) (o : Option Data) (k : Walked Nodes → Result (Walked Node) RequestFault) (c : Option Members → Head) → ((i : Option Members) → resumed outermost deeper n (c i) ≡ (inner_nodes reader n i >>= k))
+    → (inner_read reader n o >>= k) ≡ (own (said_or some_object None o >>= (λ i. Ok (c i))) >>= resumed outermost deeper n)
+inner_step outermost reader deeper n None k c h = sym (h None)
+inner_step outermost reader deeper n (Some d) k c h = of_object (as_object d)
   where
-    of_object : (o : Option Members) → ((ok_or o (record { at = []; fault = not_an_object }) >>= reader n) >>= k) ≡ (own ((ok_or o not_an_object >>= (λ ms. Ok (Some ms))) >>= (λ i. Ok (c i))) >>= resumed deeper n)
+    of_object : (o : Option Members) → ((ok_or o (record { at = []; fault = not_an_object }) >>= reader n) >>= k) ≡ (own ((ok_or o not_an_object >>= (λ ms. Ok (Some ms))) >>= (λ i. Ok (c i))) >>= resumed outermost deeper n)
     of_object None = refl
     of_object (Some ms) = sym (h (Some ms))
 
 -- ---- by type
 
-of_kind : (s : Schema) (unmoved : Bool) (deeper : Bool → Reader) (n : ℕ) (ms : Members) (k : Kind) → (do
+of_kind : (s : Schema) (outermost unmoved : Bool) (deeper : Bool → Reader) (n : ℕ) (ms : Members) (k : Kind) → (do
   change ← own (change_in s unmoved ms)
   inner ← inner_read (under deeper unmoved change) n (get_member (codes "facet") ms)
-  Ok (facet_read change k inner)) ≡ (own (facet_of s unmoved (whole k) ms) >>= resumed (under deeper unmoved) n)
-of_kind s unmoved deeper n ms k =
-    step (resumed (under deeper unmoved) n) (change_in s unmoved ms) _ _ (λ change.
-    inner_step (under deeper unmoved change) (under deeper unmoved) n (get_member (codes "facet") ms) (λ inner. Ok (facet_read change k inner)) (λ i. facet_head change (whole k) i) (λ i. refl))
+  Ok (facet_read change k inner)) ≡ (own (facet_of s unmoved (whole k) ms) >>= resumed outermost (under deeper unmoved) n)
+of_kind s outermost unmoved deeper n ms k =
+    step (resumed outermost (under deeper unmoved) n) (change_in s unmoved ms) _ _ (λ change.
+    inner_step outermost (under deeper unmoved change) (under deeper unmoved) n (get_member (codes "facet") ms) (λ inner. Ok (facet_read change k inner)) (λ i. facet_head change (whole k) i) (λ i. refl))
 
-of_terms : (s : Schema) (unmoved : Bool) (deeper : Bool → Reader) (n : ℕ) (ms : Members) → terms_read s unmoved deeper n ms ≡ (own (typed_head terms_type s unmoved ms) >>= resumed (under deeper unmoved) n)
-of_terms s unmoved deeper n ms =
-    step (resumed (under deeper unmoved) n) (terms_parts s ms) _ _ (λ t.
-    step (resumed (under deeper unmoved) n) (change_in s unmoved ms) _ _ (λ change.
-    inner_step (under deeper unmoved change) (under deeper unmoved) n (get_member (codes "facet") ms)
-    (λ inner. own (sort_in inner.read ms) >>= (λ sort. Ok (facet_read change (terms (record t { sort = sort })) inner)))
+of_terms : (s : Schema) (outermost unmoved : Bool) (deeper : Bool → Reader) (n : ℕ) (ms : Members) → terms_read s outermost unmoved deeper n ms ≡ (own (typed_head terms_type s unmoved ms) >>= resumed outermost (under deeper unmoved) n)
+of_terms s outermost unmoved deeper n ms =
+    step (resumed outermost (under deeper unmoved) n) (terms_parts s ms) _ _ (λ t.
+    step (resumed outermost (under deeper unmoved) n) (change_in s unmoved ms) _ _ (λ change.
+    inner_step outermost (under deeper unmoved change) (under deeper unmoved) n (get_member (codes "facet") ms)
+    (λ inner. own (sort_in inner.read ms) >>= (λ sort. own (unless (allows_exact outermost t.exact sort) bad_parameter) >>= (λ allowed. Ok (facet_read change (terms (record t { sort = sort })) inner))))
     (λ i. facet_head change (unsorted t (get_member (codes "sort") ms)) i)
     (λ i. same_steps (inner_nodes (under deeper unmoved change) n i) _ _ (λ w. sorted change t w (sort_in w.read ms)))))
   where
-    sorted : (change : DomainChange) (t : Terms) (w : Walked Nodes) (r : Result Sort QFault) → (own (r >>= (λ sort. Ok (terms (record t { sort = sort })))) >>= (λ k. Ok (facet_read change k w))) ≡ (own r >>= (λ sort. Ok (facet_read change (terms (record t { sort = sort })) w)))
-    sorted change t w (Ok sort) = refl
+    allowed : (change : DomainChange) (t : Terms) (w : Walked Nodes) (sort : Sort) (b : Bool)
+        → (own (unless b bad_parameter >>= (λ done. Ok (terms (record t { sort = sort })))) >>= (λ k. Ok (facet_read change k w))) ≡ (own (unless b bad_parameter) >>= (λ done. Ok (facet_read change (terms (record t { sort = sort })) w)))
+    allowed change t w sort true = refl
+    allowed change t w sort false = refl
+
+    sorted : (change : DomainChange) (t : Terms) (w : Walked Nodes) (r : Result Sort QFault)
+        → (own (r >>= (λ sort. unless (allows_exact outermost t.exact sort) bad_parameter >>= (λ done. Ok (terms (record t { sort = sort }))))) >>= (λ k. Ok (facet_read change k w)))
+        ≡ (own r >>= (λ sort. own (unless (allows_exact outermost t.exact sort) bad_parameter) >>= (λ done. Ok (facet_read change (terms (record t { sort = sort })) w))))
+    sorted change t w (Ok sort) = allowed change t w sort (allows_exact outermost t.exact sort)
     sorted change t w (Err e) = refl
 
-of_statistic_text : (s : Schema) (deeper : DomainChange → Reader) (n : ℕ) (t : Text) → statistic_read s n t ≡ (own (statistic_before s t) >>= resumed deeper n)
-of_statistic_text s deeper n t = step (resumed deeper n) (statistic_of s t) _ _ (λ st. refl)
+of_statistic_text : (s : Schema) (outermost : Bool) (deeper : DomainChange → Reader) (n : ℕ) (t : Text) → statistic_read s n t ≡ (own (statistic_before s t) >>= resumed outermost deeper n)
+of_statistic_text s outermost deeper n t = step (resumed outermost deeper n) (statistic_of s t) _ _ (λ st. refl)
 
-of_type : (kind : FacetType) (s : Schema) (unmoved : Bool) (deeper : Bool → Reader) (n : ℕ) (ms : Members) → typed_read kind s unmoved deeper n ms ≡ (own (typed_head kind s unmoved ms) >>= resumed (under deeper unmoved) n)
-of_type terms_type s unmoved deeper n ms = of_terms s unmoved deeper n ms
-of_type range_type s unmoved deeper n ms = step (resumed (under deeper unmoved) n) (range_parts s ms) _ _ (λ g. of_kind s unmoved deeper n ms (range g))
-of_type query_type s unmoved deeper n ms = step (resumed (under deeper unmoved) n) (query_part s ms) _ _ (λ q. of_kind s unmoved deeper n ms q)
-of_type func_type s unmoved deeper n ms =
-    step (resumed (under deeper unmoved) n) (required (codes "func") text_in ms) _ _ (λ t. of_statistic_text s (under deeper unmoved) n t)
+of_type : (kind : FacetType) (s : Schema) (outermost unmoved : Bool) (deeper : Bool → Reader) (n : ℕ) (ms : Members) → typed_read kind s outermost unmoved deeper n ms ≡ (own (typed_head kind s unmoved ms) >>= resumed outermost (under deeper unmoved) n)
+of_type terms_type s outermost unmoved deeper n ms = of_terms s outermost unmoved deeper n ms
+of_type range_type s outermost unmoved deeper n ms = step (resumed outermost (under deeper unmoved) n) (range_parts s ms) _ _ (λ g. of_kind s outermost unmoved deeper n ms (range g))
+of_type query_type s outermost unmoved deeper n ms = step (resumed outermost (under deeper unmoved) n) (query_part s ms) _ _ (λ q. of_kind s outermost unmoved deeper n ms q)
+of_type func_type s outermost unmoved deeper n ms =
+    step (resumed outermost (under deeper unmoved) n) (required (codes "func") text_in ms) _ _ (λ t. of_statistic_text s outermost (under deeper unmoved) n t)
 
 -- ---- a node
 
-of_members : (s : Schema) (unmoved : Bool) (deeper : Bool → Reader) (n : ℕ) (ms : Members) → (do
+of_members : (s : Schema) (outermost unmoved : Bool) (deeper : Bool → Reader) (n : ℕ) (ms : Members) → (do
   kind ← own (type_of ms)
   _ ← own (check_names (parameters kind) ms)
-  typed_read kind s unmoved deeper n ms) ≡ (own (object_head s unmoved ms) >>= resumed (under deeper unmoved) n)
-of_members s unmoved deeper n ms =
-    step (resumed (under deeper unmoved) n) (type_of ms) _ _ (λ kind.
-    step (resumed (under deeper unmoved) n) (check_names (parameters kind) ms) _ _ (λ known. of_type kind s unmoved deeper n ms))
+  typed_read kind s outermost unmoved deeper n ms) ≡ (own (object_head s unmoved ms) >>= resumed outermost (under deeper unmoved) n)
+of_members s outermost unmoved deeper n ms =
+    step (resumed outermost (under deeper unmoved) n) (type_of ms) _ _ (λ kind.
+    step (resumed outermost (under deeper unmoved) n) (check_names (parameters kind) ms) _ _ (λ known. of_type kind s outermost unmoved deeper n ms))
 
-of_command : (s : Schema) (unmoved : Bool) (deeper : Bool → Reader) (n : ℕ) (d : Data) → command_read s unmoved deeper n d ≡ (own (command_head s unmoved d) >>= resumed (under deeper unmoved) n)
-of_command s unmoved deeper n (string t) = of_statistic_text s (under deeper unmoved) n t
-of_command s unmoved deeper n (object ms) = of_members s unmoved deeper n ms
-of_command s unmoved deeper n null = refl
-of_command s unmoved deeper n (boolean b) = refl
-of_command s unmoved deeper n (number x) = refl
-of_command s unmoved deeper n (array ds) = refl
+of_command : (s : Schema) (outermost unmoved : Bool) (deeper : Bool → Reader) (n : ℕ) (d : Data) → command_read s outermost unmoved deeper n d ≡ (own (command_head s unmoved d) >>= resumed outermost (under deeper unmoved) n)
+of_command s outermost unmoved deeper n (string t) = of_statistic_text s outermost (under deeper unmoved) n t
+of_command s outermost unmoved deeper n (object ms) = of_members s outermost unmoved deeper n ms
+of_command s outermost unmoved deeper n null = refl
+of_command s outermost unmoved deeper n (boolean b) = refl
+of_command s outermost unmoved deeper n (number x) = refl
+of_command s outermost unmoved deeper n (array ds) = refl
 
-pub of_node : (left n : ℕ) (s : Schema) (unmoved : Bool) (name : Text) (d : Data) → node_within left s unmoved n name d ≡ (own (node_head left n s unmoved name d) >>= resumed (under (nodes_within (left - 1) s) unmoved) (n + 1))
-of_node zero n s unmoved name d = refl
-of_node (suc left) n s unmoved name d =
+pub of_node : (left n : ℕ) (s : Schema) (outermost unmoved : Bool) (name : Text) (d : Data) → node_within left s outermost unmoved n name d ≡ (own (node_head left n s unmoved name d) >>= resumed outermost (under (nodes_within (left - 1) s false) unmoved) (n + 1))
+of_node zero n s outermost unmoved name d = refl
+of_node (suc left) n s outermost unmoved name d =
     let deep : nat_lt 0 (suc left) ≡ true = lt-ltb 0 (suc left) (omega arith) in
     let less : suc left - 1 ≡ left = omega arith in
     rw (deep, less)
-    (step (resumed (under (nodes_within left s) unmoved) (n + 1)) (unless (nat_lt n 64) too_large) _ _ (λ few.
-    step (resumed (under (nodes_within left s) unmoved) (n + 1)) (unless (not (is_reserved name)) reserved_name) _ _ (λ free.
-    of_command s unmoved (nodes_within left s) (n + 1) d)))
+    (step (resumed outermost (under (nodes_within left s false) unmoved) (n + 1)) (unless (nat_lt n 64) too_large) _ _ (λ few.
+    step (resumed outermost (under (nodes_within left s false) unmoved) (n + 1)) (unless (not (is_reserved name)) reserved_name) _ _ (λ free.
+    of_command s outermost unmoved (nodes_within left s false) (n + 1) d)))
 
 -- ---- nodes, one behind another
 
-pub of_nodes : (left : ℕ) (s : Schema) (unmoved : Bool) (n : ℕ) (ms : Members) → nodes_within left s unmoved n ms ≡ members_read (node_within left s unmoved) n ms
-of_nodes zero s unmoved n ms = refl
-of_nodes (suc left) s unmoved n ms = refl
+pub of_nodes : (left : ℕ) (s : Schema) (outermost unmoved : Bool) (n : ℕ) (ms : Members) → nodes_within left s outermost unmoved n ms ≡ members_read (node_within left s outermost unmoved) n ms
+of_nodes zero s outermost unmoved n ms = refl
+of_nodes (suc left) s outermost unmoved n ms = refl
 
 -- these nodes, and then others
 abbrev pub linked_before : List Part → Nodes → Nodes

@@ -33,7 +33,7 @@ of_parts s ms =
     step k (optional (codes "query") (text_query s) all ms) _ _ (λ q.
     step k (optional (codes "filter") (filters_in s) [] ms) _ _ (λ fs.
     step k (optional (codes "limit") zero_in tt ms) _ (λ zero. Ok (q, fs)) (λ zero.
-    of_nodes q fs (inner_read (nodes_within 8 s true) 0 (get_member (codes "facet") ms))))))
+    of_nodes q fs (inner_read (nodes_within 8 s true true) 0 (get_member (codes "facet") ms))))))
   where
     k : Query × List Filter → Result Request RequestFault
     k head = with_nodes head (outermost_nodes s ms)

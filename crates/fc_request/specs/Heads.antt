@@ -1,16 +1,16 @@
 -- What a node says before the nodes nested in it are read, and what is read behind them: the walk of requests, cut at its recursion.
-use Rattle.std.specs.Prelude.{ℕ, zero, suc, List, [], ◌∷◌, codes, Bool, true, not, ◌&&◌, nat_lt, Option, None, Some, ok_or, Result, Ok, Err}
+use Rattle.std.specs.Prelude.{ℕ, zero, suc, List, [], ◌∷◌, codes, Bool, true, false, not, ◌&&◌, nat_lt, Option, None, Some, ok_or, Result, Ok, Err}
 use Rattle.serde_json.specs.Data.{Data, string, Members}
 use Rattle.serde_json.specs.Find.{as_object, get_member}
 use Rattle.fc_spec.specs.documents.Val.{Text}
 use Rattle.fc_spec.specs.documents.Schema.{Schema}
 use Rattle.fc_spec.specs.queries.Query.{Query, all}
 use Rattle.fc_spec.specs.requests.Request.{Filter, Stat, DomainChange, Terms, Kind, terms, range, Nodes, no_nodes, Request}
-use Rattle.fc_spec.specs.requests.RequestFault.{QFault, not_an_object, bad_command, reserved_name, too_large, RequestFault}
+use Rattle.fc_spec.specs.requests.RequestFault.{QFault, not_an_object, bad_command, bad_parameter, reserved_name, too_large, RequestFault}
 use Rattle.fc_spec.specs.requests.RequestWalk.{check_names, required, optional, said_or, text_in}
 use Rattle.fc_spec.specs.requests.StatisticReading.{statistic_of}
 use Rattle.fc_spec.specs.requests.DomainReading.{change_in, text_query}
-use Rattle.fc_spec.specs.requests.SortReading.{sort_of, default_sort}
+use Rattle.fc_spec.specs.requests.SortReading.{sort_of, default_sort, allows_exact}
 use Rattle.fc_spec.specs.requests.FacetReading.{terms_parts, range_parts, query_part}
 use Rattle.fc_spec.specs.requests.RequestReading.{Node, of_statistic, of_facet, Walked, Reader, is_reserved, own, facet_read, FacetType, terms_type, range_type, query_type, func_type, parameters, type_of, node_read, nodes_within, inner_read, filters_in, zero_in}
 use Rattle.fc_spec.specs.requests.Shape.{stays}
@@ -86,16 +86,17 @@ node_head left n s unmoved name d = do
 
 -- ---- behind them
 
-abbrev pub kind_behind : KindHead → Nodes → Result Kind QFault
-kind_behind (whole k) inner = Ok k
-kind_behind (unsorted t d) inner = do
+abbrev pub kind_behind : (outermost : Bool) → KindHead → Nodes → Result Kind QFault
+kind_behind outermost (whole k) inner = Ok k
+kind_behind outermost (unsorted t d) inner = do
   sort ← said_or (sort_of inner) default_sort d
+  _ ← unless (allows_exact outermost t.exact sort) bad_parameter
   Ok (terms (record t { sort = sort }))
 
 -- the facet of this name over its nested nodes
-abbrev pub facet_behind : Text → DomainChange → KindHead → Nodes → Result (Text × Node) QFault
-facet_behind name change kind inner = do
-  k ← kind_behind kind inner
+abbrev pub facet_behind : (outermost : Bool) → Text → DomainChange → KindHead → Nodes → Result (Text × Node) QFault
+facet_behind outermost name change kind inner = do
+  k ← kind_behind outermost kind inner
   Ok (name, of_facet change k inner)
 
 abbrev pub walked : {A : Type 0} → A → ℕ → Walked A
@@ -109,17 +110,17 @@ inner_nodes deeper n (Some ms) = deeper n ms
 abbrev pub under : (Bool → Reader) → (unmoved : Bool) → DomainChange → Reader
 under deeper unmoved change = deeper (unmoved && stays change)
 
-abbrev pub resumed : (DomainChange → Reader) → ℕ → Head → Result (Walked Node) RequestFault
-resumed deeper n (statistic_head st) = Ok (walked (of_statistic st) n)
-resumed deeper n (facet_head change kind inner) = do
+abbrev pub resumed : (outermost : Bool) → (DomainChange → Reader) → ℕ → Head → Result (Walked Node) RequestFault
+resumed outermost deeper n (statistic_head st) = Ok (walked (of_statistic st) n)
+resumed outermost deeper n (facet_head change kind inner) = do
   w ← inner_nodes (deeper change) n inner
-  k ← own (kind_behind kind w.read)
+  k ← own (kind_behind outermost kind w.read)
   Ok (facet_read change k w)
 
 -- a node with so many depths left
-abbrev pub node_within : ℕ → Schema → (unmoved : Bool) → ℕ → Text → Data → Result (Walked Node) RequestFault
-node_within zero s unmoved n name d = own (Err too_large)
-node_within (suc left) s unmoved n name d = node_read s unmoved (nodes_within left s) n name d
+abbrev pub node_within : ℕ → Schema → (outermost unmoved : Bool) → ℕ → Text → Data → Result (Walked Node) RequestFault
+node_within zero s outermost unmoved n name d = own (Err too_large)
+node_within (suc left) s outermost unmoved n name d = node_read s outermost unmoved (nodes_within left s false) n name d
 
 -- ---- the request
 
@@ -135,7 +136,7 @@ request_head s ms = do
 -- its outermost nodes
 abbrev pub outermost_nodes : Schema → Members → Result Nodes RequestFault
 outermost_nodes s ms = do
-  w ← inner_read (nodes_within 8 s true) 0 (get_member (codes "facet") ms)
+  w ← inner_read (nodes_within 8 s true true) 0 (get_member (codes "facet") ms)
   Ok w.read
 
 abbrev pub request_parts : Schema → Members → Result Request RequestFault

@@ -9,6 +9,7 @@ ghost use Rattle.fc_facet.specs.FaultView.{fault_view};
 ghost use Rattle.fc_facet.specs.KindView.{terms_view};
 
 use super::fields::{field_in, holds_texts};
+use super::refining::refining_in;
 use super::words::{required, text_in, truth_in, whole_in};
 use crate::{QFault, Sort, SortKey, Terms};
 use fc_base::json::member;
@@ -136,7 +137,7 @@ pub fn terms_in(
     let mincount = count_in(members, "mincount", 1)?;
     let missing = optional_truth(members, "missing")?;
     let prefix = prefix_in(alloc, schema, field, members)?;
-    let refine = optional_truth(members, "refine")?;
+    let refining = refining_in(members)?;
     let overrequest = number_in(members, "overrequest", -1, -1)?;
     let overrefine = number_in(members, "overrefine", -1, -1)?;
     let _method = method_in(members)?;
@@ -152,8 +153,8 @@ pub fn terms_in(
         mincount,
         missing,
         prefix,
-        refine,
-        exact: false,
+        refine: refining.refines(),
+        exact: refining.is_exactly(),
         overrequest: over_number(limit, overrequest),
         overrefine: over_number(limit, overrefine),
     })

@@ -1,5 +1,5 @@
 // Nodes, one behind another, each with those nested in it.
-ghost use Rattle.std.specs.Prelude.{◌+◌, ◌≤◌, length, ◌≡◌, ◌<◌, ◌&&◌, [], IfOk, MatchResult, OnOk, option_map};
+ghost use Rattle.std.specs.Prelude.{◌+◌, ◌≤◌, length, ◌≡◌, ◌<◌, ◌&&◌, [], false, IfOk, MatchResult, OnOk, option_map};
 ghost use Rattle.std.specs.Result.{ForOk};
 ghost use Rattle.serde_json.specs.View.{view, members_view};
 ghost use Rattle.fc_spec.specs.requests.Request as definition;
@@ -17,7 +17,7 @@ ghost use Rattle.fc_facet.specs.KindView.{domain_view, terms_view};
 ghost use Rattle.fc_request.specs.NodeView.{node_of, node_view, nodes_view};
 
 use super::head::{Head, KindHead, node_head};
-use super::sort::sort_in;
+use super::sort::{allows_exact, sort_in};
 use crate::{Node, RequestFault};
 use fc_base::json::member;
 use fc_base::{Name, Refusal, Schema, Stat, WantMemory};
@@ -65,18 +65,28 @@ pub(crate) fn node(
 }
 
 // The terms facet by its sort.
-fn sorted(mut terms: Terms, nodes: &[Node], sort: Option<&Value>) -> Result<Terms, Refusal<QFault>>
+fn sorted(
+    outermost: bool,
+    mut terms: Terms,
+    nodes: &[Node],
+    sort: Option<&Value>,
+) -> Result<Terms, Refusal<QFault>>
     requires { length nodes.now ≤ 64 }
     ensures { Answers (λ terms. definition.terms (terms_view terms)) fault_view result
-        (heads.kind_behind (heads.unsorted (terms_view terms) (option_map (λ json. view json.now) sort.entry)) (nodes_view nodes.now)) }
+        (heads.kind_behind outermost (heads.unsorted (terms_view terms) (option_map (λ json. view json.now) sort.entry)) (nodes_view nodes.now)) }
 {
-    terms.sort = sort_in(nodes, sort)?;
+    let sort = sort_in(nodes, sort)?;
+    if !allows_exact(outermost, terms.exact, sort) {
+        return Err(Refusal::Fault(QFault::BadParameter));
+    }
+    terms.sort = sort;
     Ok(terms)
 }
 
 // A facet, behind the nodes nested in it.
 fn facet_node(
     alloc: Global,
+    outermost: bool,
     name: &str,
     domain: Domain,
     kind: KindHead<'_>,
@@ -84,11 +94,11 @@ fn facet_node(
 ) -> Result<Node, Refusal<QFault>>
     requires { length nodes.items ≤ 64 }
     ensures { Answers node_view fault_view result
-        (heads.facet_behind name.now (domain_view domain) (kind_head_view kind.entry) (nodes_view nodes.items)) }
+        (heads.facet_behind outermost name.now (domain_view domain) (kind_head_view kind.entry) (nodes_view nodes.items)) }
 {
     match kind {
         KindHead::Terms(terms, sort) => {
-            let terms = sorted(terms, &nodes, sort)?;
+            let terms = sorted(outermost, terms, &nodes, sort)?;
             Ok(node(alloc, name, domain, Kind::Terms(terms), nodes)?)
         }
         KindHead::Range(range) => Ok(node(alloc, name, domain, Kind::Range(range), nodes)?),
@@ -134,6 +144,7 @@ fn head_in<'v>(
 // A facet, behind the nodes nested in it, a fault of which is its own.
 fn facet_in(
     alloc: Global,
+    outermost: bool,
     name: &str,
     domain: Domain,
     kind: KindHead<'_>,
@@ -141,9 +152,9 @@ fn facet_in(
 ) -> Result<Node, Refusal<RequestFault>>
     requires { length nodes.items ≤ 64 }
     ensures { Answers node_view request_fault_view result
-        (walk.own (heads.facet_behind name.now (domain_view domain) (kind_head_view kind.entry) (nodes_view nodes.items))) }
+        (walk.own (heads.facet_behind outermost name.now (domain_view domain) (kind_head_view kind.entry) (nodes_view nodes.items))) }
 {
-    match facet_node(alloc, name, domain, kind, nodes) {
+    match facet_node(alloc, outermost, name, domain, kind, nodes) {
         Ok(node) => Ok(node),
         Err(Refusal::Memory) => Err(Refusal::Memory),
         Err(Refusal::Fault(fault)) => Err(Refusal::Fault(own(alloc, fault))),
@@ -153,6 +164,7 @@ fn facet_in(
 // The same, where the nested nodes were read.
 fn facet_with(
     alloc: Global,
+    outermost: bool,
     name: &str,
     domain: Domain,
     kind: KindHead<'_>,
@@ -161,11 +173,11 @@ fn facet_with(
     requires { ForOk nodes (λ nodes. length nodes.items ≤ 64) }
     ensures { MatchResult nodes
         (λ nodes. Answers node_view request_fault_view result
-        (walk.own (heads.facet_behind name.now (domain_view domain) (kind_head_view kind.entry) (nodes_view nodes.items))))
+        (walk.own (heads.facet_behind outermost name.now (domain_view domain) (kind_head_view kind.entry) (nodes_view nodes.items))))
         (λ refusal. result ≡ Err refusal) }
 {
     match nodes {
-        Ok(nodes) => facet_in(alloc, name, domain, kind, nodes),
+        Ok(nodes) => facet_in(alloc, outermost, name, domain, kind, nodes),
         Err(refusal) => Err(refusal),
     }
 }
@@ -184,13 +196,14 @@ fn read_node(
     schema: &Schema,
     left: u32,
     seen: &mut u32,
+    outermost: bool,
     unmoved: bool,
     name: &str,
     json: &Value,
 ) -> Result<Node, Refusal<RequestFault>>
     requires { seen.old ≤ 64 }
     ensures answer { Answers (λ node. heads.walked (node_view node).1 seen.new) request_fault_view result
-        (heads.node_within left schema.now unmoved seen.old name.now (view json.now)) }
+        (heads.node_within left schema.now outermost unmoved seen.old name.now (view json.now)) }
     ensures name { IfOk result (λ node. (node_view node).0 ≡ name.now) }
     ensures counted { OnOk result (seen.old < seen.new) }
     ensures rises { seen.old ≤ seen.new }
@@ -205,7 +218,7 @@ fn read_node(
             *seen += 1;
             let unmoved = is_unmoved_under(unmoved, &domain);
             let nodes = inner_nodes(alloc, schema, left - 1, seen, unmoved, inner);
-            facet_with(alloc, name, domain, kind, nodes)
+            facet_with(alloc, outermost, name, domain, kind, nodes)
         }
         Err(refusal) => Err(refusal),
     }
@@ -223,32 +236,33 @@ fn inner_nodes(
 ) -> Result<Vec<Node>, Refusal<RequestFault>>
     requires { seen.old ≤ 64 }
     ensures answer { Answers (λ nodes. heads.walked (nodes_view nodes.items) seen.new) request_fault_view result
-        (heads.inner_nodes (walk.nodes_within left schema.now unmoved) seen.old
+        (heads.inner_nodes (walk.nodes_within left schema.now false unmoved) seen.old
         (option_map (λ ms. members_view ms.now.entries) members.entry)) }
     ensures counted { IfOk result (λ nodes. length nodes.items + seen.old ≤ seen.new) }
     ensures rises { seen.old ≤ seen.new }
     ensures few { seen.new ≤ 64 }
 {
     match members {
-        Some(members) => read_nodes(alloc, schema, left, seen, unmoved, members),
+        Some(members) => read_nodes(alloc, schema, left, seen, false, unmoved, members),
         None => Ok(Vec::new(alloc)),
     }
 }
 
-/// The members of an object as nodes, in the byte order of their names, with so many depths left; `seen` counts the
-/// nodes of the walk.
+/// The members of an object as nodes, in the byte order of their names, with so many depths left, outermost or nested;
+/// `seen` counts the nodes of the walk.
 #[cycle(nodes)]
 pub(crate) fn read_nodes(
     alloc: Global,
     schema: &Schema,
     left: u32,
     seen: &mut u32,
+    outermost: bool,
     unmoved: bool,
     members: &Map<String, Value>,
 ) -> Result<Vec<Node>, Refusal<RequestFault>>
     requires { seen.old ≤ 64 }
     ensures answer { Answers (λ nodes. heads.walked (nodes_view nodes.items) seen.new) request_fault_view result
-        (walk.nodes_within left schema.now unmoved seen.old (members_view members.now.entries)) }
+        (walk.nodes_within left schema.now outermost unmoved seen.old (members_view members.now.entries)) }
     ensures counted { IfOk result (λ nodes. length nodes.items + seen.old ≤ seen.new) }
     ensures rises { seen.old ≤ seen.new }
     ensures few { seen.new ≤ 64 }
@@ -256,7 +270,7 @@ pub(crate) fn read_nodes(
     let mut nodes = Vec::new(alloc);
     for (name, json) in members {
         let name = name.as_str();
-        match read_node(alloc, schema, left, seen, unmoved, name, json) {
+        match read_node(alloc, schema, left, seen, outermost, unmoved, name, json) {
             Ok(node) => nodes.push(node)?,
             Err(Refusal::Memory) => return Err(Refusal::Memory),
             Err(Refusal::Fault(fault)) => {
@@ -283,5 +297,5 @@ pub(crate) fn nodes_in(
         return Err(Refusal::Fault(own(alloc, QFault::NotAnObject)));
     };
     let mut seen = 0;
-    read_nodes(alloc, schema, 8, &mut seen, true, facets)
+    read_nodes(alloc, schema, 8, &mut seen, true, true, facets)
 }

@@ -180,6 +180,24 @@ fn sort_of(nodes: &[Node], json: &Value) -> Result<Sort, Refusal<QFault>>
     }
 }
 
+// By count, the greatest first.
+fn sorts_by_count(sort: Sort) -> bool
+    ensures { result ≡ reading.sorts_by_count (sort_view sort) }
+{
+    let by_count = match sort.by {
+        SortKey::Count => true,
+        SortKey::Index | SortKey::Stat(_) => false,
+    };
+    by_count && sort.descending
+}
+
+/// What is exact stands outermost, and is sorted by count, the greatest first.
+pub(crate) fn allows_exact(outermost: bool, exact: bool, sort: Sort) -> bool
+    ensures { result ≡ reading.allows_exact outermost exact (sort_view sort) }
+{
+    !exact || (outermost && sorts_by_count(sort))
+}
+
 /// `count`, `index` or a statistic directly under the facet, whose nodes these are; by count,
 /// descending, where nothing is said. (Guide: JSON Facet API, "Terms Facet", `sort`; Sorting Facets By
 /// Nested Functions)

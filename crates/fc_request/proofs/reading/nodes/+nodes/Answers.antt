@@ -14,25 +14,25 @@ use Rattle.fc_request.proofs.reading.nodes.+nodes.Goals as goal
 pub read_node-returns-in_ok-statistic_node-in-Ok-Statistic-clause-answer :
     goal.read_node-returns-in_ok-statistic_node-in-Ok-Statistic-clause-answer
 read_node-returns-in_ok-statistic_node-in-Ok-Statistic-clause-answer t c =
-    statistic_within c.args.left c.args.seen.now c.args.schema.now c.args.unmoved c.args.name.now (view c.args.json.now) _ _
+    statistic_within c.args.left c.args.seen.now c.args.schema.now c.args.outermost c.args.unmoved c.args.name.now (view c.args.json.now) _ _
     (rw c.in-Ok-Statistic.field-0-is at c.in-Ok-Statistic.ensures.answer)
     c.in_ok-statistic_node-in-Ok-Statistic.ensures
 
 pub read_node-returns-in-Ok-Facet-clause-answer : goal.read_node-returns-in-Ok-Facet-clause-answer
 read_node-returns-in-Ok-Facet-clause-answer t c =
-    facet_within (λ (nodes : Vec Node Global). nodes_view nodes.items) c.args.left c.args.seen.now c.inner_nodes-nodes.new.seen c.args.schema.now c.args.unmoved c.args.name.now (view c.args.json.now)
+    facet_within (λ (nodes : Vec Node Global). nodes_view nodes.items) c.args.left c.args.seen.now c.inner_nodes-nodes.new.seen c.args.schema.now c.args.outermost c.args.unmoved c.args.name.now (view c.args.json.now)
     (domain_view c.in-Ok-Facet.domain) (kind_head_view c.in-Ok-Facet.kind) _ c.inner_nodes-nodes.result c.facet_with.result
     (rw c.in-Ok-Facet.field-0-is at c.in-Ok-Facet.ensures.answer)
     (rw c.is_unmoved_under-unmoved.ensures at c.inner_nodes-nodes.ensures.answer) c.facet_with.ensures
 
 pub read_node-returns-in-Err-clause-answer : goal.read_node-returns-in-Err-clause-answer
 read_node-returns-in-Err-clause-answer t c =
-    refused_node head_view (λ (node : Node). walked (node_view node).1 0) c.in-Err.refusal c.args.left c.args.seen.now c.args.schema.now c.args.unmoved c.args.name.now (view c.args.json.now) c.in-Err.ensures.answer
+    refused_node head_view (λ (node : Node). walked (node_view node).1 0) c.in-Err.refusal c.args.left c.args.seen.now c.args.schema.now c.args.outermost c.args.unmoved c.args.name.now (view c.args.json.now) c.in-Err.ensures.answer
 
 pub read_nodes-loop-name-preserved : goal.read_nodes-loop-name-preserved
 read_nodes-loop-name-preserved t c = record {
   read =
-      let f = node_within c.args.left c.args.schema.now c.args.unmoved in
+      let f = node_within c.args.left c.args.schema.now c.args.outermost c.args.unmoved in
       let text = c.as_str-name.ensures.value in
       ap (λ nodes. behind (map node_view nodes) (members_read f c.read_node.new.seen (members_view c.next.new.self))) c.in_ok-push-in-Ok.ensures.items
       ∙ sym (one_more f c.loop-name.nodes.items c.in-Ok.node c.loop-name.seen c.read_node.new.seen (string_bytes c.in-Some.name.now) (view c.in-Some.json.now) (members_view c.next.new.self)
@@ -47,7 +47,7 @@ read_nodes-loop-name-preserved t c = record {
 
 pub read_nodes-returns-clause-answer : goal.read_nodes-returns-clause-answer
 read_nodes-returns-clause-answer t c =
-    let f = node_within c.args.left c.args.schema.now c.args.unmoved in
+    let f = node_within c.args.left c.args.schema.now c.args.outermost c.args.unmoved in
     sym c.loop-name.invariant.read
     ∙ ap (λ es. behind (map node_view c.loop-name.nodes.items) (members_read f c.loop-name.seen (members_view es))) c.in-None.ensures.steps.0
     ∙ ap (λ nodes. Ok (walked nodes c.loop-name.seen)) (linked_before-linked (map node_view c.loop-name.nodes.items))
