@@ -55,7 +55,7 @@ of_terms s outermost unmoved deeper n ms =
     step (resumed outermost (under deeper unmoved) n) (terms_parts s ms) _ _ (λ t.
     step (resumed outermost (under deeper unmoved) n) (change_in s unmoved ms) _ _ (λ change.
     inner_step outermost (under deeper unmoved change) (under deeper unmoved) n (get_member (codes "facet") ms)
-    (λ inner. own (sort_in inner.read ms) >>= (λ sort. own (unless (allows_exact outermost t.exact sort) bad_parameter) >>= (λ allowed. Ok (facet_read change (terms (record t { sort = sort })) inner))))
+    (λ inner. own (sort_in inner.read ms) >>= (λ sort. own (unless (allows_exact outermost t.exact sort) bad_parameter) >>= (λ done. Ok (facet_read change (terms (record t { sort = sort })) inner))))
     (λ i. facet_head change (unsorted t (get_member (codes "sort") ms)) i)
     (λ i. same_steps (inner_nodes (under deeper unmoved change) n i) _ _ (λ w. sorted change t w (sort_in w.read ms)))))
   where

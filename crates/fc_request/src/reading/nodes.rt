@@ -64,7 +64,7 @@ pub(crate) fn node(
     })
 }
 
-// The terms facet by its sort.
+// The terms facet, outermost or nested, by its sort.
 fn sorted(
     outermost: bool,
     mut terms: Terms,
@@ -83,7 +83,7 @@ fn sorted(
     Ok(terms)
 }
 
-// A facet, behind the nodes nested in it.
+// A facet, outermost or nested, behind the nodes nested in it.
 fn facet_node(
     alloc: Global,
     outermost: bool,
