@@ -144,10 +144,11 @@ class Search:
             own = [p for p in places if p.shard == shard]
             order = ranked({v: [p for p in own if has(p, v)] for v in values(own)})
             offers[shard] = order if limit == -1 else order[:offset + limit + more("overrequest")]
-        candidates = set().union(*offers.values())
+        # A facet that is refined exactly counts every value, as a single index does.
+        candidates = values(places) if facet.get("refine") == "exact" else set().union(*offers.values())
         offering = {v: {shard for shard in shards if v in offers[shard]} for v in candidates}
         chosen = candidates
-        if facet.get("refine") and limit != -1:
+        if facet.get("refine") is True and limit != -1:
             parts = {v: [p for p in places if has(p, v) and p.shard in offering[v]] for v in candidates}
             chosen = ranked(parts)[:offset + limit + more("overrefine")]
         counts_on_all = facet.get("refine") or limit == -1 and holds_exclusion(facet)

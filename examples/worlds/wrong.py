@@ -18,7 +18,7 @@ EDITS = [
      "for v in values(own) if sum(has(p, v) for p in own) >= facet.get('mincount', 1)})"),
     ("no over-refinement", "counting.py", 'offset + limit + more("overrefine")', "offset + limit"),
     ("chosen without the offset", "counting.py", '[:offset + limit + more("overrefine")]', '[:limit + more("overrefine")]'),
-    ("all candidates are chosen", "counting.py", 'if facet.get("refine") and limit != -1:', "if False:"),
+    ("all candidates are chosen", "counting.py", 'if facet.get("refine") is True and limit != -1:', "if False:"),
     ("chosen by the counts of all shards", "counting.py", "if has(p, v) and p.shard in offering[v]] for v in candidates",
      "if has(p, v)] for v in candidates"),
     ("refined over the shards that offer", "counting.py", "set(shards) if counts_on_all else offering[v]", "offering[v]"),
