@@ -34,6 +34,8 @@ def removals():
     for at in range(1, 9):
         yield f"excludeTags, depth {at}", in_facets(
             lambda facet, depth, at=at: without_change(facet, "excludeTags") if depth == at else facet)
+    yield "refine: exact in place of true", in_facets(
+        lambda facet, depth: {**facet, "refine": True} if facet.get("refine") == "exact" else facet)
     yield INSIDE, in_facets(lambda facet, depth: without_change(facet, "excludeTags") if depth > 1 else facet)
 
 

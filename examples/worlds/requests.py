@@ -11,7 +11,7 @@ MOST_FACETS = 50
 
 class Requests:
     """Most requests have facets of all kinds; a chain has terms facets with small limits, one in the other, and a row facets of
-    any kind, with tags that the innermost excludes."""
+    any kind, with tags that the innermost excludes. Some outermost terms facets are exact."""
 
     def __init__(self, chance, queries):
         self.chance, self.queries = chance, queries
@@ -50,6 +50,7 @@ class Requests:
             facet["domain"] = {"excludeTags": self.tags(depth)}
         nested = {"low": self.statistic()} if self.chance.happens(40) and depth < DEEPEST else {}
         self.perhaps(facet, 50, "sort", lambda: self.sort(nested))
+        self.perhaps_exactly(facet, depth)
         if length > 1:
             nested["a"] = self.chain(length - 1, depth + 1)
         if nested:
@@ -137,7 +138,18 @@ class Requests:
             self.left -= 1
             facet.setdefault("facet", {})["low"] = self.statistic()
         self.perhaps(facet, 65, "sort", lambda: self.sort(facet.get("facet", {})))
+        self.perhaps_exactly(facet, depth)
         return facet
+
+    def perhaps_exactly(self, facet, depth):
+        """Makes an outermost facet exact, with the sort that it then has. Most have few buckets, and shards offer no more."""
+        if depth > 1 or not self.chance.happens(35):
+            return
+        facet["refine"] = "exact"
+        facet.pop("sort", None)
+        self.choose(facet, 30, "sort", ["count", " \tcount  desc\n", {"count": "desc"}])
+        if self.chance.happens(70):
+            facet.update(limit=self.chance.one([1, 1, 1, 2, 3]), overrequest=0)
 
     def sort(self, nested):
         """By count, by index, or by a statistic right under the facet."""
