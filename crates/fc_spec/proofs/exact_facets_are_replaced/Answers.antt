@@ -12,4 +12,4 @@ pub returns-clause-restored : goal.returns-clause-restored
 returns-clause-restored c = restores_reply
 
 pub returns-clause-searchable : goal.returns-clause-searchable
-returns-clause-searchable c = replaced_are_askable
+returns-clause-searchable c = replaced_are_searchable
