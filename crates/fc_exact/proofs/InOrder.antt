@@ -81,7 +81,7 @@ two_or_three : (b : Bool) → (2 ≤ cond b 2 3) × (cond b 2 3 ≤ 3)
 two_or_three true = (omega arith, omega arith)
 two_or_three false = (omega arith, omega arith)
 
-few_rounds : (x : Request) (W : World) → (2 ≤ exact_round_count x W) × (exact_round_count x W ≤ 3)
+pub few_rounds : (x : Request) (W : World) → (2 ≤ exact_round_count x W) × (exact_round_count x W ≤ 3)
 few_rounds x W = two_or_three (is_empty (lacking_round x W (exact_told_in (rounds_until x W 2))))
 
 fewer_asked : (s : State) (asks : List (Option ExactAsk)) (b : Bool) → s.ready ≡ false → s.round < 3
