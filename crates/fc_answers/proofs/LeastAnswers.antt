@@ -9,7 +9,6 @@ use Rattle.fc_spec.specs.requests.Request.{Kind, terms, range, query, Nodes, no_
 use Rattle.fc_spec.specs.requests.Base.{root_domain}
 use Rattle.fc_spec.specs.requests.Buckets.{Key, value, missing, whole, bucket_places}
 use Rattle.fc_spec.specs.requests.Paths.{at_root, into, domain}
-use Rattle.fc_spec.specs.requests.Statistics.{stats_over}
 use Rattle.fc_spec.specs.replies.Printed.{asked}
 use Rattle.fc_spec.specs.replies.Values.{entries_in}
 use Rattle.fc_spec.specs.messages.Message.{no_partials, partial, row, first, more}

@@ -1,5 +1,5 @@
 -- What a shard lists of a tally from a count on is what its answer lists.
-use Rattle.std.proofs.Common.{◌≡◌, ℕ, List, [], ◌∷◌, ◌++◌, map, Bool, true, false, cond, ◌&&◌, not, Option, None, Some, is_some, refl, sym, ◌∙◌, ap, append-nil}
+use Rattle.std.proofs.Common.{◌≡◌, ℕ, List, [], ◌∷◌, ◌++◌, map, Bool, true, false, cond, ◌&&◌, not, Option, None, Some, is_some, refl, sym, ◌∙◌, ap}
 use Rattle.std.specs.Prelude.{nat_le}
 use Rattle.std.specs.List.{filter}
 use Rattle.std.proofs.lemmas.List.{append_assoc, map-append}
@@ -7,7 +7,7 @@ use Rattle.std.proofs.lemmas.List.Elements.{filter-append}
 use Rattle.fc_spec.specs.documents.Val.{Val}
 use Rattle.fc_spec.specs.documents.World.{Place}
 use Rattle.fc_spec.specs.words.Lists.{is_empty}
-use Rattle.fc_spec.specs.requests.Request.{Stat, Terms, terms, range, query, Nodes, stats_of}
+use Rattle.fc_spec.specs.requests.Request.{Stat, Terms, terms, range, query, stats_of}
 use Rattle.fc_spec.specs.requests.Shape.{no_exclusions}
 use Rattle.fc_spec.specs.requests.Buckets.{value, missing, bucket_places}
 use Rattle.fc_spec.specs.requests.Statistics.{Stats, stats_over}
@@ -17,7 +17,7 @@ use Rattle.fc_spec.specs.messages.Answer.{not_empty}
 use Rattle.fc_spec.proofs.replies.OfferedValues.{vals_of_some}
 use Rattle.fc_partial.specs.Tallied.{Entry}
 use Rattle.fc_partial.specs.Tallying.{entry_at}
-use Rattle.fc_answers.specs.Listed.{AreOfBuckets, bucket_entry, entry_or_none}
+use Rattle.fc_answers.specs.Listed.{bucket_entry, entry_or_none}
 use Rattle.fc_answers.specs.LeastListed.{LeastTalliesList, is_of_least}
 use Rattle.fc_answers.proofs.AscendingKeys.{terms_keys_in, terms_keys_up, terms_keys_are}
 use Rattle.fc_answers.proofs.ListedTallies.{buckets_of, filled_entry, lacking, tallies_list}
