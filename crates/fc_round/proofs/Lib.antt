@@ -1,0 +1,10 @@
+pub mod Asks
+pub mod BegunFutures
+pub mod OwnLimits
+pub mod QuestionLists
+pub mod ResponseLists
+pub mod SeatLists
+pub mod SeatTurns
+pub mod SlotLists
+pub mod Untold
+pub mod WaitingSeats

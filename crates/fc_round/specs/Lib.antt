@@ -1,0 +1,11 @@
+pub mod Askable
+pub mod Begun
+pub mod Finished
+pub mod Questions
+pub mod QuestionView
+pub mod Responses
+pub mod RoundLaws
+pub mod Seats
+pub mod Slots
+pub mod Spelled
+pub mod Waiting
