@@ -13,6 +13,7 @@ use Rattle.fc_spec.specs.words.Lists.{joined}
 use Rattle.fc_partial.specs.BucketView.{bare, linked_rows}
 use Rattle.fc_partial.specs.Tallied.{Entry}
 use Rattle.fc_answers.specs.LeastSets.{own_least_keys, set_exact, set_least_rows}
+use Rattle.fc_answers.specs.Listed.{bucket_entry}
 use Rattle.fc_answers.specs.SetAnswer.{AreWhole, Pieces, bucket_sets, inside, live_world, scope_on, set_rows, whole_world}
 use Rattle.fc_answers.proofs.LeastAnswers.{exact_answers_from_sets}
 use Rattle.fc_levels.specs.Facets.{Nested, facet_count, facets_of}
@@ -68,10 +69,18 @@ no_numbers : AreNone []
 no_numbers zero = refl
 no_numbers (suc n) = refl
 
+-- what is listed opens none
+bare_front : (es : List Entry) (xs : List ℕ) → AreNone xs → AreNone ((opened (bare es) ∷ opened_inside (bare es)) ++ xs)
+bare_front es xs none = subst AreNone (λ j. (sym (bare_opened es) j ∷ sym (bare_inside es) j) ++ xs) (none_more xs none)
+
 module _ (r : Request) (V : Pieces) where
+  -- what is listed of a facet of the root
+  abbrev entries : Nested → ℕ → List Entry
+  entries n least = map (bucket_entry n.0.kind (stats_of n.1) (places_at (whole_world V) (facet_sets r V n.0))) (own_least_keys n.0.kind n.1 least (places_at (whole_world V) (facet_sets r V n.0)))
+
   lists_counted : (facets : List Nested) (ns : List ℕ) → lists_in (linked_rows (least_lists r V facets ns)) ≡ length facets
   lists_counted [] ns = refl
-  lists_counted (n ∷ more) ns = let rest = lists_counted more (later_numbers ns) in omega (arith, rest, bare_lists _)
+  lists_counted (n ∷ more) ns = let rest = lists_counted more (later_numbers ns) in omega (arith, rest, bare_lists (entries n (first_number ns)))
 
   rows_counted : (facets : List Nested) (ns : List ℕ) → row_count (linked_rows (least_lists r V facets ns)) ≡ length facets
   rows_counted [] ns = refl
@@ -80,8 +89,7 @@ module _ (r : Request) (V : Pieces) where
   none_opened : (facets : List Nested) (ns : List ℕ) → AreNone (opened_in_rows (linked_rows (least_lists r V facets ns)))
   none_opened [] ns = no_numbers
   none_opened (n ∷ more) ns =
-      let rest = opened_in_rows (linked_rows (least_lists r V more (later_numbers ns))) in
-      subst AreNone (λ j. (sym (bare_opened _) j ∷ sym (bare_inside _) j) ++ rest) (none_more rest (none_opened more (later_numbers ns)))
+      bare_front (entries n (first_number ns)) (opened_in_rows (linked_rows (least_lists r V more (later_numbers ns)))) (none_opened more (later_numbers ns))
 
   module _ (ns : List ℕ) where
     jobs_shown : job_count (least_answer r V ns) ≡ least_jobs r

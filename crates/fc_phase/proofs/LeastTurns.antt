@@ -31,6 +31,7 @@ use Rattle.fc_units.proofs.Turning.{each_some}
 use Rattle.fc_phase.specs.LeastInside.{IsSound, IsUnderWay, IsUnderWayIn, phase_in, segments_in}
 use Rattle.fc_phase.specs.Phases.{Phase, TurnsTo, answer_of, left_of, one_more, units_of}
 use Rattle.fc_phase.specs.declared.least_progress.LeastProgress.TheInside.{Inside}
+use Rattle.fc_phase.specs.declared.turn.Turn.{Turn}
 use Rattle.fc_phase.specs.declared.turn.Turn.TheVariants.{Done, Pending}
 use Rattle.fc_phase.proofs.LeastShown.{least_answer_is, left_shown, units_shown}
 
@@ -126,7 +127,7 @@ module _ (p : Inside) (before : Phase) (view : phase_in p ≡ before) (gs : List
   done_by = subst (λ g. IsTold p g p.least.items b unit) same (subst (λ m. IsTold p gs m b unit) counts told) under_way.schema under_way.built
 
   -- there is more to do
-  abbrev Holds : Option LeastBuilding → ℕ → _ → Type 0
+  abbrev Holds : Option LeastBuilding → ℕ → Turn → Type 0
   Holds rest done turn = IsSound (record p { bases = bases; done = done; building = rest }) × TurnsTo before (phase_in (record p { bases = bases; done = done; building = rest })) turn
 
   pub turned_on : (after : LeastBuilding) → unit ≡ gone.On after → Holds (Some after) (p.done + 1) Pending
