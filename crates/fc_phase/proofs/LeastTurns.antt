@@ -1,5 +1,5 @@
 -- What a unit makes of the progress of an answer from counts on.
-use Rattle.std.proofs.Common.{◌≡◌, ℕ, ◌+◌, ◌-◌, ◌*◌, ◌<◌, ◌≤◌, List, [], ◌∷◌, length, map, All, Option, Some, None, refl, sym, ◌∙◌, ap, subst, arith}
+use Rattle.std.proofs.Common.{◌≡◌, ℕ, ◌+◌, ◌-◌, ◌*◌, ◌^◌, ◌<◌, ◌≤◌, List, [], ◌∷◌, length, map, All, Option, Some, None, refl, sym, ◌∙◌, ap, subst, arith}
 use Rattle.std.specs.Prelude.{is_none}
 use Rattle.std.specs.Arc.{arc_value}
 use Rattle.std.proofs.lemmas.List.{length-map}
@@ -12,12 +12,13 @@ use Rattle.fc_request.specs.NodeView.{nodes_view}
 use Rattle.fc_request.specs.RequestView.{request_view}
 use Rattle.fc_request.specs.declared.request.Request.{Request}
 use Rattle.fc_segment.specs.Segmented.{Segmented}
-use Rattle.fc_answers.specs.SetAnswer.{AreWhole, Pieces}
+use Rattle.fc_answers.specs.SetAnswer.{AreWhole, Pieces, Sets}
 use Rattle.fc_jobs.specs.BasesKept.{AreBases, HasNone, IsBase}
 use Rattle.fc_jobs.specs.Pieces.{pieces_in}
 use Rattle.fc_jobs.specs.declared.bases.Bases.{Bases}
 use Rattle.fc_levels.specs.Facets.{facets_of, nested_view}
 use Rattle.fc_levels.specs.Jobs.{left_after, units, units_each}
+use Rattle.fc_units.specs.Asked.{FitsTop}
 use Rattle.fc_units.specs.Built.{CanAnswer, IsTopJob}
 use Rattle.fc_units.specs.LeastLists.{NestNothing, least_answer}
 use Rattle.fc_units.specs.Leasts.{IsLeastBuilt, IsLeastJob, LeastUnitDone, jobs_ended, least_done, least_jobs}
@@ -26,6 +27,7 @@ use Rattle.fc_units.specs.declared.leasts.LeastBuilding.{LeastBuilding}
 use Rattle.fc_units.specs.declared.leasts.LeastBuilding.TheVariants.{Root, Facets}
 use Rattle.fc_units.specs.declared.leasts.LeastGone.{LeastGone}
 use Rattle.fc_units.specs.declared.leasts.LeastGone.TheVariants as gone
+use Rattle.fc_units.proofs.Begun.{none_fits}
 use Rattle.fc_units.proofs.LeastLists.{lists_left}
 use Rattle.fc_units.proofs.Turning.{each_some}
 use Rattle.fc_phase.specs.LeastInside.{IsSound, IsUnderWay, IsUnderWayIn, phase_in, segments_in}
@@ -103,6 +105,7 @@ stopped p gs bases rest sound same kept none =
       whole = sound.whole;
       bare = sound.bare;
       units = sound.units;
+      fit = sound.fit;
       within = sound.within;
       bases = subst (λ g. AreBases (r p) (pieces_in g) bases) same kept;
     })
@@ -116,7 +119,7 @@ module _ (p : Inside) (before : Phase) (view : phase_in p ≡ before) (gs : List
   under_way : IsUnderWay p b
   under_way = subst (IsUnderWayIn p) is sound.under_way
 
-  -- the next unit is within a number of so many bits
+  -- the next unit is one of them
   pub done_within : p.done < p.units
   done_within = subst (λ n. p.done < n) (sym (sound.units ∙ units_in p sound.whole sound.bare)) (some_left p b under_way)
 
@@ -142,7 +145,7 @@ module _ (p : Inside) (before : Phase) (view : phase_in p ≡ before) (gs : List
       } in
       let room = some_left q after now in
       let all = sound.units ∙ units_in p sound.whole sound.bare in (
-        record { under_way = now; whole = sound.whole; bare = sound.bare; units = sound.units; within = up_to _ _ _ room all; bases = based },
+        record { under_way = now; whole = sound.whole; bare = sound.bare; units = sound.units; fit = sound.fit; within = up_to _ _ _ room all; bases = based },
         subst (λ v. TurnsTo v (phase_in q) Pending) view (
           subst (λ n. p.done + 1 < n) (sym (units_in p sound.whole sound.bare)) room,
           (λ j. record (one_more (phase_in p)) { spent = is_none (sym is j) }),
@@ -169,7 +172,7 @@ module _ (p : Inside) (before : Phase) (view : phase_in p ≡ before) (gs : List
       (at_end (units_each (length (segments_in p))) (jobs_ended b) (least_done b) (least_jobs (r p)) p.done unit_whole.1 unit_whole.2 under_way.count) in
       let all = sound.units ∙ units_in p sound.whole sound.bare in
       subst (λ o. Holds o (p.done + 1) (Done m)) (sym none) (
-        record { under_way = tt; whole = sound.whole; bare = sound.bare; units = sound.units; within = up_to _ _ _ last all; bases = based },
+        record { under_way = tt; whole = sound.whole; bare = sound.bare; units = sound.units; fit = sound.fit; within = up_to _ _ _ last all; bases = based },
         subst (λ v. TurnsTo v (phase_in q) (Done m)) view (
           unit_whole.0 ∙ sym (answer_in p sound.whole sound.bare),
           last ∙ sym (units_in p sound.whole sound.bare),
@@ -186,9 +189,14 @@ module _ (p : Inside) (before : Phase) (view : phase_in p ≡ before) (gs : List
 
 -- ---- nothing is done yet
 
-pub begun : (s : Schema) (p : Inside) (b : LeastBuilding) (job : TopJob) → CanAnswer s (segments_in p) p.request.now → NestNothing (request_view p.request.now).nodes → b ≡ Root job → job.at ≡ 0
-    → IsTopJob s p.request.now (pieces_in (segments_in p)) first 0 [] job → p.done ≡ 0 → p.units ≡ units_each (length p.segments.items) * least_jobs (request_view p.request.now) → p.building ≡ Some b → HasNone p.bases → IsSound p
-begun s p b job can none root at is start all building unmade = record {
+-- what is told of the root's job, over its domain so far
+abbrev pub IsJobToldOf : Request → TopJob → Sets → Type 0
+IsJobToldOf request job domain =
+    (s : Schema) (segments : List Segmented) (roots : Sets) → CanAnswer s segments request → FitsTop (nested_view request.root) (request_view request) (pieces_in segments) first 0 domain → IsTopJob s request (pieces_in segments) first 0 roots job
+
+pub begun : (s : Schema) (p : Inside) (b : LeastBuilding) (job : TopJob) (domain : Sets) → CanAnswer s (segments_in p) p.request.now → NestNothing (request_view p.request.now).nodes → domain ≡ [] → IsJobToldOf p.request.now job domain → job.at ≡ 0
+    → b ≡ Root job → p.done ≡ 0 → p.units ≡ units_each (length p.segments.items) * least_jobs (request_view p.request.now) → p.units < 2 ^ 64 → p.building ≡ Some b → HasNone p.bases → IsSound p
+begun s p b job domain can none empty told at root start all fit building unmade = record {
   under_way = subst (IsUnderWayIn p) (sym building) (record {
     schema = s;
     built = record { can = can; job = subst (IsLeastJob s p.request.now (V p) p.least.items) (sym root) is };
@@ -198,9 +206,13 @@ begun s p b job can none root at is start all building unmade = record {
   whole = can.whole;
   bare = none;
   units = all ∙ sym (units_in p can.whole none);
+  fit = fit;
   within = omega (arith, start);
   bases = subst (λ l. All (IsBase (r p) (V p)) l) (sym unmade) (All-nil (IsBase (r p) (V p)));
 }
   where
+    is : IsTopJob s p.request.now (V p) first 0 [] job
+    is = told s (segments_in p) [] can (subst (FitsTop (nested_view p.request.now.root) (r p) (V p) first 0) (sym empty) (none_fits (nested_view p.request.now.root) (r p) (V p) first 0))
+
     begins : least_done b ≡ 0
     begins = ap least_done root ∙ at

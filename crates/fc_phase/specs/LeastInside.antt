@@ -1,5 +1,5 @@
 -- What the fields of the progress of an answer from counts on stand for, and what is known of them.
-use Rattle.std.specs.Prelude.{◌≡◌, ◌+◌, ◌*◌, ◌<◌, ◌≤◌, List, length, map, Option, None, Some, is_none}
+use Rattle.std.specs.Prelude.{◌≡◌, ◌+◌, ◌*◌, ◌^◌, ◌<◌, ◌≤◌, List, length, map, Option, None, Some, is_none}
 use Rattle.std.specs.Arc.{arc_value}
 use Rattle.fc_spec.specs.documents.Schema.{Schema}
 use Rattle.fc_spec.specs.words.Lists.{joined}
@@ -38,5 +38,6 @@ pub record IsSound (p : Inside) : Type 0 where
   pub whole : AreWhole (pieces_in (segments_in p))
   pub bare : NestNothing (request_view p.request.now).nodes
   pub units : p.units ≡ units_of (phase_in p)
+  pub fit : p.units < 2 ^ 64
   pub within : p.done ≤ p.units
   pub bases : AreBases (request_view p.request.now) (pieces_in (segments_in p)) p.bases
