@@ -1,5 +1,7 @@
 -- Lists of facets from counts on, one after another.
 use Rattle.std.proofs.Common.{◌≡◌, ℕ, zero, suc, ◌+◌, ◌≤◌, List, [], ◌∷◌, ◌++◌, drop, length, map, IsTrue, refl, sym, ◌∙◌, ap, subst, arith, append-nil, length-append}
+use Rattle.std.specs.declared.alloc.Global.{Global}
+use Rattle.std.specs.declared.vec.Vec.{Vec}
 use Rattle.std.proofs.lemmas.List.{append_assoc, length-map, map-append}
 use Rattle.fc_spec.specs.documents.Schema.{Schema}
 use Rattle.fc_spec.specs.documents.Sets.{places_at}
@@ -9,11 +11,13 @@ use Rattle.fc_spec.specs.requests.Buckets.{whole}
 use Rattle.fc_spec.specs.requests.Paths.{at_root}
 use Rattle.fc_spec.specs.requests.Request as definition
 use Rattle.fc_spec.specs.requests.Request.{Nodes, stats_of}
-use Rattle.fc_partial.specs.BucketView.{bare, buckets_view, linked_rows, node_view}
+use Rattle.fc_partial.specs.BucketView.{Part, bare, buckets_view, linked_rows, node_view}
 use Rattle.fc_partial.specs.StatsView.{stats_view}
 use Rattle.fc_partial.specs.Tallying.{IsTally}
 use Rattle.fc_partial.specs.declared.bucket.PartialBucket.{PartialBucket}
+use Rattle.fc_partial.specs.declared.bucket.PartialBucket.TheViews.{roll-PartialBucket}
 use Rattle.fc_partial.specs.declared.bucket.PartialNode.{PartialNode}
+use Rattle.fc_partial.specs.declared.key.Key.TheVariants as key
 use Rattle.fc_partial.specs.declared.statistics.Stats.{Stats}
 use Rattle.fc_request.specs.FacetNode.{facet_view, has_buckets, kind_of, kind_view}
 use Rattle.fc_request.specs.NodeView.{inner_view, nodes_view}
@@ -28,6 +32,7 @@ use Rattle.fc_answers.proofs.LiveSets.{bases_live, domains_live, live_are_sets}
 use Rattle.fc_levels.specs.Facets.{Nested, facet_count, facets_of, nested_view}
 use Rattle.fc_levels.specs.Steps.{AreValidFacets}
 use Rattle.fc_levels.proofs.FacetLists.{first_valid, rest_valid}
+use Rattle.fc_levels.proofs.Resuming.{bucket_is}
 use Rattle.fc_jobs.specs.Gathered.{IsCountedSoFar}
 use Rattle.fc_jobs.specs.Pieces.{piece_of, pieces_in}
 use Rattle.fc_jobs.proofs.CountedTallies.{counted_all, counted_none}
@@ -35,7 +40,7 @@ use Rattle.fc_units.specs.Built.{CanAnswer}
 use Rattle.fc_units.specs.LeastLists.{facet_sets, least_answer, least_list, least_lists, root_sets}
 use Rattle.fc_units.specs.Leasts.{AreFirstLists, AreLists, IsListJob, LeastGoesOn}
 use Rattle.fc_units.specs.declared.leasts.LeastBuilding.TheVariants.{Facets}
-use Rattle.fc_units.specs.declared.leasts.LeastGone.TheVariants.{On}
+use Rattle.fc_units.specs.declared.leasts.LeastGone.TheVariants.{On, Whole}
 use Rattle.fc_units.specs.declared.leasts.ListJob.{ListJob}
 use Rattle.fc_units.specs.declared.leasts.Lists.{Lists}
 use Rattle.fc_units.proofs.JobEnds.{all_there, sets_count}
@@ -66,6 +71,21 @@ lists_left s r V ns base stats done left are =
       length-map done node_view,
       lists_count r V left (drop (length done) ns),
       lists_count r V (facets_of r.nodes) ns,
+    )
+
+-- no further one: the root's bucket is the answer
+root_bucket : (stats : Stats) (done : Vec PartialNode Global) (buckets : List PartialBucket) → buckets ≡ roll-PartialBucket (record { key = key.Whole; stats = stats; nodes = done }) ∷ []
+    → buckets_view buckets ≡ partial whole (stats_view stats) (linked_rows (map node_view done.items)) no_partials
+root_bucket stats done buckets is = ap buckets_view is ∙ ap (λ (p : Part). partial p.key p.stats p.rows no_partials) (bucket_is key.Whole stats done)
+
+pub no_further : (s : Schema) (cut : List Segmented) (request : Request) (ns : List ℕ) (base : Sets) (stats : Stats) (done : Vec PartialNode Global) (buckets : Vec PartialBucket Global) (nodes : Nodes)
+    → buckets.items ≡ roll-PartialBucket (record { key = key.Whole; stats = stats; nodes = done }) ∷ [] → facets_of nodes ≡ []
+    → AreFirstLists s (request_view request) (pieces_in cut) ns base stats done.items (facets_of nodes) → LeastGoesOn s cut request ns (length done.items + 1) (Whole (record { buckets = buckets }))
+no_further s cut request ns base stats done buckets nodes is none are =
+    let r = request_view request in
+    let V = pieces_in cut in (
+      root_bucket stats done buckets.items is ∙ lists_answer s r V ns base stats done.items (facets_of nodes) are none,
+      ap (λ n. n + 1) (all_counted s r V ns base stats done.items (facets_of nodes) are none),
     )
 
 -- ---- the next one begins

@@ -1,6 +1,9 @@
 -- Units of an answer from counts on.
-use Rattle.std.proofs.Common.{◌≡◌, ℕ, ◌+◌, ◌*◌, ◌<◌, List, length, sym, ap, subst, arith}
+use Rattle.std.proofs.Common.{◌≡◌, ◌∙◌, ℕ, zero, suc, ◌+◌, ◌*◌, ◌<◌, List, [], ◌∷◌, drop, get_or, length, unwrap_or, Bor, Option, None, Some, refl, sym, ap, subst, arith}
+use Rattle.std.specs.Option.{option_copied}
+use Rattle.std.specs.Slice.{IsItemAt}
 use Rattle.fc_spec.specs.documents.Schema.{Schema}
+use Rattle.fc_spec.specs.messages.TopRounds.{first_number}
 use Rattle.fc_request.specs.declared.request.Request.{Request}
 use Rattle.fc_segment.specs.Segmented.{Segmented}
 use Rattle.fc_levels.specs.Jobs.{units_each}
@@ -11,6 +14,17 @@ use Rattle.fc_units.specs.declared.leasts.LeastGone.{LeastGone}
 use Rattle.fc_units.specs.declared.leasts.LeastGone.TheVariants.{On, Whole}
 use Rattle.fc_units.proofs.JobEnds.{within_unit}
 use Rattle.fc_units.proofs.Turning.{each_some}
+
+read_at : (ns : List ℕ) (n : ℕ) → get_or ns n 0 ≡ first_number (drop n ns)
+read_at [] zero = refl
+read_at [] (suc n) = refl
+read_at (x ∷ ns) zero = refl
+read_at (x ∷ ns) (suc n) = read_at ns n
+
+-- the count at a number
+pub count_is : (ns : List ℕ) (n : ℕ) (r : Option (Bor ℕ)) → IsItemAt ns n r → unwrap_or (option_copied r) 0 ≡ first_number (drop n ns)
+count_is ns n None at = at.4 (omega arith) 0 ∙ read_at ns n
+count_is ns n (Some x) at = at.4 (omega arith) 0 ∙ read_at ns n
 
 more_up : (M e : ℕ) → M * (e + 1) ≡ M * e + M
 more_up M e = grind arith
@@ -30,8 +44,11 @@ goes_further s cut request ns b k built within further =
 
 -- the last segment of a job
 pub goes_past : (s : Schema) (cut : List Segmented) (request : Request) (ns : List ℕ) (e k : ℕ) (g : LeastGone) → k + 1 ≡ units_each (length cut) → LeastGoesOn s cut request ns (e + 1) g → LeastUnitDone s cut request ns e k g
-goes_past s cut request ns e k (On b) last on = (on.0, record {
-  within = subst (λ n. n < units_each (length cut)) (sym on.1) (each_some (length cut));
-  count = past_count (units_each (length cut)) e k (jobs_ended b) (least_done b) last on.2 on.1;
-})
+goes_past s cut request ns e k (On b) last on = (
+  on.0,
+  record {
+    within = subst (λ n. n < units_each (length cut)) (sym on.1) (each_some (length cut));
+    count = past_count (units_each (length cut)) e k (jobs_ended b) (least_done b) last on.2 on.1;
+  },
+)
 goes_past s cut request ns e k (Whole m) last on = (on.0, on.1, last)

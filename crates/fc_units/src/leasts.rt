@@ -205,7 +205,7 @@ fn list_segment<'a>(
         return Ok(());
     };
     let root = asked_node(request, &Ask::First, 0);
-    let _docs = facet_unit(
+    facet_unit(
         alloc,
         kinds,
         request,
@@ -289,14 +289,15 @@ fn list_unit<'a>(
         → LeastUnitDone s (map arc_value segments.now) request.now least.now (length lists.entry.done.items + 1) lists.entry.job.at gone) }
     ensures bases { AreBases (request_view request.now) (pieces_in (map arc_value segments.now)) bases.new }
 {
+    let under_way = &mut lists;
     list_segment(
         alloc,
         kinds,
         request,
         segments,
         bases,
-        &lists.base,
-        &mut lists.job,
+        &under_way.base,
+        &mut under_way.job,
     )?;
     list_followed(alloc, segments.len(), least, lists)
 }
