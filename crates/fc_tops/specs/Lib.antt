@@ -1,0 +1,3 @@
+pub mod Asked
+pub mod Hearing
+pub mod FindingLaws
