@@ -1,16 +1,16 @@
 -- The answers that are awaited, one after another.
-use Rattle.std.proofs.Common.{◌≡◌, ℕ, zero, suc, ◌+◌, ◌<◌, List, [], ◌∷◌, length, drop, false, true, Option, None, Some, is_some, refl, sym, ◌∙◌, ap, subst, arith}
+use Rattle.std.proofs.Common.{◌≡◌, ℕ, zero, suc, ◌+◌, ◌<◌, List, [], ◌∷◌, length, false, true, Option, None, Some, is_some, refl, ap, subst, arith}
 use Rattle.std.specs.Prelude.{slice_set}
 use Rattle.std.specs.List.{list_any}
-use Rattle.std.proofs.lemmas.Bool.{false≢true}
 use Rattle.fc_spec.specs.documents.World.{World}
 use Rattle.fc_spec.specs.requests.Request.{Request}
 use Rattle.fc_spec.specs.messages.Message.{Ask}
 use Rattle.fc_spec.specs.messages.Answer.{answer}
-use Rattle.fc_spec.proofs.messages.Ways.{none_not_some, some_exact}
+use Rattle.fc_spec.proofs.messages.Ways.{none_not_some}
 use Rattle.fc_coord.specs.State.{ask_at}
 use Rattle.fc_spec.specs.messages.Rounds.{sent_by}
-use Rattle.fc_search.specs.Hearing.{ShardAnswer, answers_from, messages_from}
+use Rattle.fc_round.specs.Questions.{ShardAnswer}
+use Rattle.fc_search.specs.Hearing.{answers_from, messages_from}
 
 -- an answer is that of a shard that is asked; once it is heard, the rest are awaited
 pub record IsFirst (r : Request) (W : World) (from : ℕ) (asks : List (Option Ask)) (a : ShardAnswer) (rest : List ShardAnswer) : Type 0 where
@@ -54,26 +54,3 @@ pub some_awaited : (r : Request) (W : World) (from : ℕ) (asks : List (Option A
 some_awaited r W from [] a rest e = absurd (cc)
 some_awaited r W from (None ∷ asks) a rest e = some_awaited r W (suc from) asks a rest e
 some_awaited r W from (Some ask ∷ asks) a rest e = refl
-
--- ---- from one shard to the next
-
-answer_step : (r : Request) (W : World) (from : ℕ) (asks : List (Option Ask)) (k : ℕ) (ask : Ask) → ask_at asks k ≡ Some ask → answers_from r W from (drop k asks) ≡ record { shard = from; message = answer r W from ask } ∷ answers_from r W (suc from) (drop (suc k) asks)
-answer_step r W from [] k ask e = absurd (none_not_some ask e)
-answer_step r W from (None ∷ asks) zero ask e = absurd (none_not_some ask e)
-answer_step r W from (Some own ∷ asks) zero ask e = ap (λ a. record { shard = from; message = answer r W from a } ∷ answers_from r W (suc from) asks) (some_exact own ask e)
-answer_step r W from (x ∷ asks) (suc k) ask e = answer_step r W from asks k ask e
-
-passed_step : (r : Request) (W : World) (from : ℕ) (asks : List (Option Ask)) (k : ℕ) → k < length asks → is_some (ask_at asks k) ≡ false → answers_from r W from (drop k asks) ≡ answers_from r W (suc from) (drop (suc k) asks)
-passed_step r W from [] k less e = absurd (omega arith)
-passed_step r W from (None ∷ asks) zero less e = refl
-passed_step r W from (Some own ∷ asks) zero less e = absurd (false≢true (sym e))
-passed_step r W from (x ∷ asks) (suc k) less e = passed_step r W from asks k (omega (arith, less)) e
-
--- the shard with this number is asked, or not
-pub next_answer : (r : Request) (W : World) (asks : List (Option Ask)) (i : ℕ) (ask : Ask) → ask_at asks i ≡ Some ask → answers_from r W i (drop i asks) ≡ record { shard = i; message = answer r W i ask } ∷ answers_from r W (i + 1) (drop (i + 1) asks)
-next_answer r W asks i ask e =
-    answer_step r W i asks i ask e
-    ∙ ap (λ k. record { shard = i; message = answer r W i ask } ∷ answers_from r W k (drop k asks)) (let same : suc i ≡ i + 1 = omega arith in same)
-
-pub no_answer : (r : Request) (W : World) (asks : List (Option Ask)) (i : ℕ) → i < length asks → is_some (ask_at asks i) ≡ false → answers_from r W i (drop i asks) ≡ answers_from r W (i + 1) (drop (i + 1) asks)
-no_answer r W asks i less e = passed_step r W i asks i less e ∙ ap (λ k. answers_from r W k (drop k asks)) (let same : suc i ≡ i + 1 = omega arith in same)

@@ -28,7 +28,8 @@ use Rattle.fc_coord.proofs.Hearing.{asks_name_keys, fits_is_exact, heard_keeps, 
 use Rattle.fc_coord.proofs.Kept.{waits}
 use Rattle.fc_refine.specs.Named.{NamesKeys}
 use Rattle.fc_units.specs.Asked.{asked_count}
-use Rattle.fc_search.specs.Hearing.{HasHeard, IsHearing, ShardAnswer, WasTold, all_messages, answers_from, awaited_answers, awaited_messages, messages_from, rounds_left}
+use Rattle.fc_round.specs.Questions.{ShardAnswer}
+use Rattle.fc_search.specs.Hearing.{HasHeard, IsHearing, WasTold, all_messages, answers_from, awaited_answers, awaited_messages, messages_from, rounds_left}
 use Rattle.fc_search.specs.SearchLaws.{AreTellingLaws}
 use Rattle.fc_search.proofs.AskedAgain.{kept_asked, made_asked, round_asks, some_wanted}
 use Rattle.fc_search.proofs.Awaited.{IsFirst, asked_there, first_awaited, no_messages, none_awaited, some_awaited}
@@ -237,7 +238,7 @@ told_awaited laws r W limits left s es a rest i m (sent, told, entries, here) sh
 
 -- and a probe can be told of it
 pub told_within : (laws : AreTellingLaws) (r : Request) (W : World) (limits : IsWithinLimits W) (left : ℕ) (s : State) (es : List Sent) (a : ShardAnswer) (rest : List ShardAnswer) → IsUnderWay r W left s es (a ∷ rest) → terms_depth r.nodes ≤ 8
-    → (1 ≤ s.round) × (s.round ≤ 16) × (a.shard < 64)
+    → (1 ≤ s.round) × (s.round ≤ 9) × (a.shard < 64)
 told_within laws r W limits left s es a rest (sent, told, entries, here) few =
     let counted = told.counted.1 in
     let there = shard_there laws r W limits s sent told left a rest here in

@@ -1,6 +1,5 @@
 -- The rounds of a search, one after another, and the messages that are awaited.
-use Rattle.std.proofs.Common.{◌≡◌, ℕ, zero, suc, ◌+◌, List, [], ◌∷◌, ◌++◌, map, length, cond, not, Option, None, Some, refl, sym, ◌∙◌, ap, arith}
-use Rattle.std.specs.Prelude.{option_map}
+use Rattle.std.proofs.Common.{◌≡◌, ℕ, zero, suc, ◌+◌, List, [], ◌∷◌, ◌++◌, map, length, cond, not, Option, Some, refl, sym, ◌∙◌, ap, arith}
 use Rattle.std.specs.List.{filter, range_with_len}
 use Rattle.std.proofs.lemmas.Bool.{ne_eqb}
 use Rattle.fc_spec.specs.words.Lists.{is_empty, numbers_below}
@@ -9,8 +8,6 @@ use Rattle.fc_spec.specs.requests.Request.{Request}
 use Rattle.fc_spec.specs.messages.Message.{Want, Ask, first, more}
 use Rattle.fc_spec.specs.messages.Lacks.{Lack, terms_depth}
 use Rattle.fc_spec.specs.messages.Rounds.{SentMessage, told_in, next_lacks, wants_of, sent_by, first_round, later_round, rounds_from}
-use Rattle.fc_spec.specs.messages.Trace.{Sent}
-use Rattle.fc_spec.specs.messages.Lengths.{Lengths, put, put_all}
 use Rattle.fc_coord.specs.State.{ask_for}
 use Rattle.fc_search.specs.Hearing.{messages_from}
 
@@ -64,21 +61,3 @@ later_messages r W round all (suc n) i = go (wants_of i all) refl (ap (λ k. mes
 
 pub in_later_round : (r : Request) (W : World) (round n : ℕ) (all : List Lack) → n ≡ length W → messages_from r W round 0 (map (λ i. ask_for (wants_of i all)) (numbers_below n)) ≡ later_round r W round all
 in_later_round r W round n all same = later_messages r W round all n 0 ∙ ap (λ k. map (λ i. sent_by r W round i (more (wants_of i all))) (filter (λ i. not (is_empty (wants_of i all))) (numbers_below k))) same
-
--- ---- entries that are put in
-
-put_last : (es : List Sent) (e : Sent) (m : Lengths) → put_all (es ++ e ∷ []) m ≡ put e (put_all es m)
-put_last [] e m = refl
-put_last (f ∷ es) e m = put_last es e (put f m)
-
-put_joined : (es fs : List Sent) (m : Lengths) → put_all (es ++ fs) m ≡ put_all fs (put_all es m)
-put_joined [] fs m = refl
-put_joined (e ∷ es) fs m = put_joined es fs (put e m)
-
-pub put_more : (es : List Sent) (e : Sent) (old now new : Option Lengths) → now ≡ option_map (put_all es) old → new ≡ option_map (put e) now → new ≡ option_map (put_all (es ++ e ∷ [])) old
-put_more es e None now new so_far is = is ∙ ap (option_map (put e)) so_far
-put_more es e (Some m) now new so_far is = is ∙ ap (option_map (put e)) so_far ∙ ap Some (sym (put_last es e m))
-
-pub put_both : (es fs : List Sent) (old now new : Option Lengths) → now ≡ option_map (put_all es) old → new ≡ option_map (put_all fs) now → new ≡ option_map (put_all (es ++ fs)) old
-put_both es fs None now new so_far is = is ∙ ap (option_map (put_all fs)) so_far
-put_both es fs (Some m) now new so_far is = is ∙ ap (option_map (put_all fs)) so_far ∙ ap Some (sym (put_joined es fs m))

@@ -3,21 +3,18 @@ use Rattle.std.specs.Prelude.{◌≡◌, ℕ, suc, ◌+◌, ◌-◌, ◌<◌, �
 use Rattle.std.specs.List.{AllByRecursion, list_any}
 use Rattle.fc_spec.specs.documents.World.{World}
 use Rattle.fc_spec.specs.requests.Request.{Request}
-use Rattle.fc_spec.specs.messages.Message.{Partials, Ask}
+use Rattle.fc_spec.specs.messages.Message.{Ask}
 use Rattle.fc_spec.specs.messages.Answer.{answer}
 use Rattle.fc_spec.specs.messages.Lacks.{terms_depth}
 use Rattle.fc_spec.specs.messages.Rounds.{SentMessage, told_in, sent_by, rounds_from, search_rounds}
 use Rattle.fc_spec.specs.messages.Trace.{Sent, entry_of}
 use Rattle.fc_spec.specs.messages.Lengths.{Lengths, put_all}
+use Rattle.fc_spec.specs.messages.WholeTrace.{behind_rounds}
 use Rattle.fc_spec.specs.laws.Merging.{IsAnswer}
 use Rattle.fc_coord.specs.State.{State, ask_at}
 use Rattle.fc_coord.specs.Keeps.{Keeps}
 use Rattle.fc_units.specs.Asked.{asked_count}
-
--- the answer of a shard
-pub record ShardAnswer : Type 0 where
-  pub shard : ℕ
-  pub message : Partials
+use Rattle.fc_round.specs.Questions.{ShardAnswer}
 
 -- the answers to asks of shards, of which the first has the number i: of each shard that is asked something
 abbrev pub answers_from : Request → World → ℕ → List (Option Ask) → List ShardAnswer
@@ -65,14 +62,14 @@ rounds_left s = if s.ready then 0 else suc (terms_depth s.request.nodes + 1 - s.
 abbrev pub HasHeard : Request → World → State → List Sent → Type 0
 HasHeard r W s es = (sent : List SentMessage) × WasTold r W s sent × (map entry_of sent ≡ es)
 
--- some entries are put into a map, and they are those of the messages that were told since
-pub record HeardSince (r : Request) (W : World) (before after : State) (old new : Option Lengths) : Type 0 where
+-- some entries are put into a map, as those of rounds behind so many others, and they are those of the messages that were told since
+pub record HeardSince (r : Request) (W : World) (behind : ℕ) (before after : State) (old new : Option Lengths) : Type 0 where
   pub entries : List Sent
-  pub put : new ≡ option_map (put_all entries) old
+  pub put : new ≡ option_map (put_all (map (behind_rounds behind) entries)) old
   pub heard : (es : List Sent) → HasHeard r W before es → HasHeard r W after (es ++ entries)
 
 -- all that was told so far is put into the map
-pub record IsTraced (r : Request) (W : World) (s : State) (old new : Option Lengths) : Type 0 where
+pub record IsTraced (r : Request) (W : World) (behind : ℕ) (s : State) (old new : Option Lengths) : Type 0 where
   pub entries : List Sent
-  pub put : new ≡ option_map (put_all entries) old
+  pub put : new ≡ option_map (put_all (map (behind_rounds behind) entries)) old
   pub heard : HasHeard r W s entries

@@ -1,9 +1,4 @@
-pub mod Askable
-pub mod Finished
+pub mod Asked
 pub mod Hearing
-pub mod Responses
+pub mod Schemas
 pub mod SearchLaws
-pub mod Seats
-pub mod Slots
-pub mod Spelled
-pub mod Waiting

@@ -3,32 +3,43 @@ use Rattle.fc_spec.specs.documents.Schema.{Schema}
 use Rattle.fc_spec.specs.requests.Request.{Request}
 use Rattle.fc_spec.specs.requests.ValidRequests.{IsSearchable}
 use Rattle.fc_spec.specs.laws.Merging.{MergesIntoReply}
-use Rattle.fc_spec.specs.laws.RefinedPaths.{AreRefinedPathsExact}
-use Rattle.fc_spec.specs.laws.RequestLaws.{ValidAnswersNestLittle, ValidHaveFewDepths}
+use Rattle.fc_spec.specs.laws.ReplacedLaw.{ReplacedAreSearchable, RestoresReply}
+use Rattle.fc_spec.specs.laws.RequestLaws.{OnlyExactAreSearchable, ValidAreNamedApart, ValidHaveFewDepths, ValidSortExactByCount}
 use Rattle.fc_spec.specs.laws.ShapedAnswers.{AnswersAreShaped}
-use Rattle.fc_spec.specs.laws.ShardAlone.{AnswersFromItsBlocks}
 use Rattle.fc_spec.specs.laws.SpellingLaw.{HasOneSpelling}
 use Rattle.fc_spec.specs.laws.SumsLaw.{AnswersFit}
-use Rattle.fc_spec.specs.laws.WithoutLimits.{IsSingleWithoutLimits}
+use Rattle.fc_spec.specs.laws.TopRoundsLaw.{OnlyExactHasTops}
+use Rattle.fc_spec.specs.laws.TopsLaw.{AreByOffers, AreTopPathsExact, AreTopsExact, IsSingleWithTops}
 use Rattle.fc_refine.specs.CountableRanges.{AreCountable}
 use Rattle.fc_told.specs.Telling.{FitsExactly, TellsMore}
 
--- of answers that are told: they are their shards' own, have the right shape, fit where no bucket is told twice, and have bytes
--- that are no other message's; and rounds are few
+-- of answers that are told: they have the right shape, fit where no bucket is told twice, and have bytes that are no other message's; and rounds are few
 pub record AreTellingLaws : Type 0 where
-  pub alone : AnswersFromItsBlocks
   pub shaped : AnswersAreShaped
   pub fit : AnswersFit
   pub more : TellsMore
   pub exact : FitsExactly
-  pub nest : ValidAnswersNestLittle
   pub spelled : HasOneSpelling
   pub depths : ValidHaveFewDepths
 
 -- of requests that are valid but for names, and of what answers merge into
-pub record AreReplyLaws : Type 0 where
+pub record AreMergingLaws : Type 0 where
   pub countable : (s : Schema) (r : Request) → IsSearchable s r → AreCountable r.nodes
   pub few : ValidHaveFewDepths
   pub merges : MergesIntoReply
-  pub refined : AreRefinedPathsExact
-  pub single : IsSingleWithoutLimits
+
+-- of the exact facets of a valid request alone, and of query facets in their place
+pub record AreReplacingLaws : Type 0 where
+  pub sorted : ValidSortExactByCount
+  pub apart : ValidAreNamedApart
+  pub only : OnlyExactAreSearchable
+  pub tops : OnlyExactHasTops
+  pub searchable : ReplacedAreSearchable
+  pub restored : RestoresReply
+
+-- of replies with top buckets
+pub record AreReplyLaws : Type 0 where
+  pub tops : AreTopsExact
+  pub paths : AreTopPathsExact
+  pub offers : AreByOffers
+  pub single : IsSingleWithTops

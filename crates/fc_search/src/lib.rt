@@ -1,18 +1,14 @@
-//! A search over generations: the futures of the shards do their turns, and the coordinator makes the reply of what they
-//! answer, which comes as bytes.
+//! A search over generations: what exact facets print is found first, then the coordinator makes the reply of what the shards
+//! answer to the request with query facets in the place of exact ones. Messages come as bytes.
 #![tactic(auto)]
 
-mod driving;
-mod hearing;
+mod coordinating;
 mod laws;
-mod response;
+mod questions;
+mod replacing;
 mod round;
+mod schemas;
 mod searching;
-mod seat;
-mod seats;
-mod slot;
-mod slots;
-mod workers;
 
 pub use fc_hooks::{FromList, NoProbe, Probe, RoundProbe, RoundRobin, Sent, Turns};
 pub use searching::search;

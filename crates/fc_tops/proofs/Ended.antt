@@ -1,6 +1,5 @@
 -- What was found, in the end.
 use Rattle.std.proofs.Common.{◌≡◌, ℕ, ◌≤◌, List, [], map, length, true, refl, sym, ◌∙◌, ap, subst}
-use Rattle.fc_spec.specs.documents.Val.{Val}
 use Rattle.fc_spec.specs.documents.World.{World}
 use Rattle.fc_spec.specs.requests.Request.{Request}
 use Rattle.fc_spec.specs.messages.Trace.{Sent}

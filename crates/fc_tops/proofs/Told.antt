@@ -1,7 +1,6 @@
 -- A message that is told, and what follows.
-use Rattle.std.proofs.Common.{◌≡◌, ℕ, ◌+◌, ◌<◌, ◌≤◌, List, [], ◌∷◌, ◌++◌, map, length, true, false, cond, Some, IsTrue, is_some, refl, sym, ◌∙◌, ap, subst, arith}
+use Rattle.std.proofs.Common.{◌≡◌, ℕ, ◌<◌, ◌≤◌, List, [], ◌∷◌, ◌++◌, map, length, false, cond, Some, IsTrue, is_some, refl, sym, ◌∙◌, ap, subst, arith}
 use Rattle.std.specs.Prelude.{None, slice_set}
-use Rattle.std.specs.List.{list_any}
 use Rattle.std.proofs.lemmas.Bool.{false≢true}
 use Rattle.std.proofs.lemmas.List.{map-append}
 use Rattle.fc_spec.specs.documents.World.{World}
@@ -19,7 +18,7 @@ use Rattle.fc_exact.proofs.InOrder.{few_rounds, first_at}
 use Rattle.fc_round.specs.Questions.{ShardAsk}
 use Rattle.fc_tops.specs.Asked.{questions_from}
 use Rattle.fc_tops.specs.FindingLaws.{AreFindingLaws}
-use Rattle.fc_tops.specs.Hearing.{HasHeard, IsHearing}
+use Rattle.fc_tops.specs.Hearing.{HasHeard}
 use Rattle.fc_tops.proofs.FirstQuestion.{IsFirst, first_question, none_asked, some_asked}
 
 -- in a round that began with so many left: the questions whose answers are still to be told are those of the shards that are awaited; behind the last one fewer rounds are left

@@ -85,16 +85,7 @@ pub(crate) fn run_round<R: Threads + Sync, T: Turns, P: Probe>(
     ensures fewer { OnOk result (rounds_left (state_view core.new) < rounds_left (state_view core.old)) }
 {
     finding_laws();
-    let responses = responses_to(
-        rt,
-        alloc,
-        generations,
-        request,
-        kinds,
-        turns,
-        workers,
-        core,
-    )?;
+    let responses = responses_to(rt, alloc, generations, request, kinds, turns, workers, core)?;
     for response in responses {
         let Response { shard, bytes } = response;
         let message = message_of(alloc, &bytes)?;

@@ -1,4 +1,4 @@
-use Rattle.std.proofs.Common.{◌≡◌, ◌<◌, length, false, is_some, sym, ◌∙◌, arith, ap}
+use Rattle.std.proofs.Common.{◌≡◌, ◌<◌, length, false, is_some, sym, ◌∙◌, arith}
 use Rattle.fc_exact.specs.CoreView.{state_view}
 use Rattle.fc_exact.specs.State.{ask_at}
 use Rattle.fc_exact.specs.View.{ask_view}

@@ -23,4 +23,3 @@ responses_of-requires-clause-questions g c κs within =
     let s = state_view c.args.core.now in
     subst (All (λ q. CanBeAsked x (length c.args.generations.now) (question_view q))) (sym c.deref.ensures.value)
     (all_can_be_asked c.finding_laws.ensures x W s (length c.args.generations.now) c.in_ok-questions.questions.items c.requires.hearing c.requires.not_ready c.requires.nodes (length-world c.args.generations.now) c.in_ok-questions.ensures)
-

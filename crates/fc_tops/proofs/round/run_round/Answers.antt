@@ -1,4 +1,4 @@
-use Rattle.std.proofs.Common.{map, sym, ◌∙◌, ap, subst, arith}
+use Rattle.std.proofs.Common.{map, sym, ◌∙◌, subst, arith}
 use Rattle.std.specs.Arc.{arc_value}
 use Rattle.std.proofs.lemmas.List.{nil_from_length}
 use Rattle.fc_spec.specs.messages.Nesting.{Spells}
@@ -6,11 +6,7 @@ use Rattle.fc_request.specs.RequestView.{request_view}
 use Rattle.fc_partial.specs.BucketView.{message_view}
 use Rattle.fc_exact.specs.CoreView.{state_view}
 use Rattle.fc_round.specs.Askable.{world_of}
-use Rattle.fc_round.specs.Responses.{SpellAnswers}
-use Rattle.fc_round.specs.Questions.{answered}
 use Rattle.fc_round.specs.Spelled.{SpellSome}
-use Rattle.fc_round.proofs.OwnLimits.{length-world}
-use Rattle.fc_tops.proofs.Asked.{all_can_be_asked, asks_there}
 use Rattle.fc_tops.proofs.ResponsesHeard.{AreLeft, all_left, first_awaited, first_spelled, first_within, over_fewer, over_hears, over_told, rest_left}
 use Rattle.fc_tops.proofs.round.run_round.Goals as goal
 
