@@ -7,7 +7,7 @@ use Rattle.std.proofs.lemmas.List.{get_or-set_same, get_or-set_other, length-set
 use Rattle.std.proofs.lemmas.List.Elements.{All-nil, All-cons, All-head, All-tail}
 use Rattle.std.proofs.lemmas.List.FromFn.{get_or-map-range_with_len, length-map-range_with_len}
 use Rattle.fc_spec.specs.documents.Val.{Text}
-use Rattle.fc_spec.specs.replies.Distributed.{distributed}
+use Rattle.fc_spec.specs.replies.Replied.{replied}
 use Rattle.fc_spec.specs.scripts.SearchLines.{AreSessionLines, SearchLine}
 use Rattle.fc_request.specs.declared.fault.RequestFault.{RequestFault}
 use Rattle.fc_request.specs.declared.request.Request.{Request}
@@ -78,7 +78,7 @@ module _ (P : ℕ → List SearchLine → Type 0) (c : ℕ) where
 module _ (order : List ℕ) (asked : List (Result Request RequestFault)) (names : List Text) (readers : List Pinning) where
   -- the lines are those of what the session of a number asks
   abbrev pub AreLinesAt : ℕ → List SearchLine → Type 0
-  AreLinesAt c lines = AreSessionLines distributed (charters_of readers) (most_of readers) (get_or names c []) (least_of readers) (map asked_view (asked_of c order asked)) lines
+  AreLinesAt c lines = AreSessionLines replied (charters_of readers) (most_of readers) (get_or names c []) (least_of readers) (map asked_view (asked_of c order asked)) lines
 
   abbrev AreAllAt : List SessionWorker → Type 0
   AreAllAt ws = All (λ w. AreLinesAt w.session (line_views w.lines.items)) ws
@@ -110,7 +110,7 @@ module _ (order : List ℕ) (asked : List (Result Request RequestFault)) (names 
   lines_here starts ws c has below false e =
       inr
       (subst (AreLinesAt c) (sym (nothing_at starts (length names) c below))
-      (subst (λ asks. AreSessionLines distributed (charters_of readers) (most_of readers) (get_or names c []) (least_of readers) (map asked_view asks) []) (sym (asks_nothing c order asked e)) tt))
+      (subst (λ asks. AreSessionLines replied (charters_of readers) (most_of readers) (get_or names c []) (least_of readers) (map asked_view asks) []) (sym (asks_nothing c order asked e)) tt))
 
   pub lines_by_number : (starts : List Generated) (workers : List Worker) → HaveLines (asking_of order (length names)) (sessions_in workers)
       → (c : ℕ) → c < length names → AreLinesAt c (lines_at (with_ends workers (nothing starts (length names))).lines c)

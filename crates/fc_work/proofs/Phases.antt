@@ -4,7 +4,7 @@ use Rattle.std.specs.Prelude.{All, AllPairs, Result, false}
 use Rattle.std.proofs.lemmas.List.{get_or-map, length-map}
 use Rattle.std.proofs.lemmas.List.Elements.{All-nil, All-cons, All-head, All-map, All-tail, All-weaker}
 use Rattle.fc_spec.specs.documents.Val.{Text, same_text}
-use Rattle.fc_spec.specs.replies.Distributed.{distributed}
+use Rattle.fc_spec.specs.replies.Replied.{replied}
 use Rattle.fc_spec.specs.scripts.PinnedWorlds.{world_added}
 use Rattle.fc_spec.specs.scripts.WorldLimits.{IsWithinLimits}
 use Rattle.fc_spec.specs.laws.PhaseLaws.{SessionsWeave}
@@ -13,6 +13,7 @@ use Rattle.fc_request.specs.declared.fault.RequestFault.{RequestFault}
 use Rattle.fc_request.specs.declared.request.Request.{Request}
 use Rattle.fc_script.specs.PartsView.{search_view}
 use Rattle.fc_script.specs.declared.script.Search.{Search}
+use Rattle.fc_search.specs.Schemas.{AreSame}
 use Rattle.fc_store.specs.Ends.{Pinning}
 use Rattle.fc_store.specs.Generated.{Generated}
 use Rattle.fc_work.specs.Ends.{Ends, IsCalm, ends_of, nothing, with_ends}
@@ -71,7 +72,7 @@ ended_whole os names order asked ws are calm numbered =
 
 pub ended_phase : SessionsWeave → (os : List Opening) (names : List Text) (qs : List Search) (ws : List Worker) (p : ℕ) → AreWorked os names (orders qs) (asks qs) ws → All IsCalm ws
     → AllPairs (λ a b. same_text a b ≡ false) names → All (IsSearchBy (length names) (readers_in os)) qs
-    → ArePhaseLines distributed (charters_of (readers_in os)) (most_of (readers_in os)) (λ session. least_of (readers_in os)) (map (search_view names p) qs)
+    → ArePhaseLines replied (charters_of (readers_in os)) (most_of (readers_in os)) (λ session. least_of (readers_in os)) (map (search_view names p) qs)
     (woven_by (with_ends ws (nothing (map start_in os) (length names))).lines (orders qs))
 ended_phase weave os names qs ws p are calm apart by =
     phase_lines weave names (readers_in os) (with_ends ws (nothing (map start_in os) (length names))).lines p qs apart (ended_count ws (map start_in os) (length names))
@@ -96,8 +97,8 @@ as_many qs order asked is are = ap (λ ns. length ns) is ∙ length-map qs (λ q
 pub some_order : (qs : List Search) (order : List ℕ) → order ≡ orders qs → 1 ≤ length qs → 1 ≤ length order
 some_order qs order is some = let long = ap (λ ns. length ns) is ∙ length-map qs (λ q. q.session) in omega (arith, long, some)
 
-pub readers_ready : (os : List Opening) → 1 ≤ length os → IsWithinLimits (world_added (charters_of (readers_in os))) → AreReady (readers_in os)
-readers_ready os some within = record { some = (let long = length-map os pinning_in in omega (arith, long, some)); limits = within }
+pub readers_ready : (os : List Opening) → 1 ≤ length os → AreSame (map (λ r. r.schema) (readers_in os)) → IsWithinLimits (world_added (charters_of (readers_in os))) → AreReady (readers_in os)
+readers_ready os some schema within = record { some = (let long = length-map os pinning_in in omega (arith, long, some)); schema = schema; limits = within }
 
 -- there is a place for the lines of each session
 pub within_lines : (ended : Ended) (ws : List Worker) (starts : List Generated) (n : ℕ) (order : List ℕ) → ends_of ended ≡ with_ends ws (nothing starts n) → All (λ s. s < n) order
@@ -117,8 +118,8 @@ phase_ended os names qs order asked ws first ended begun is are calm numbered =
 pub phase_woven : SessionsWeave → (os : List Opening) (names : List Text) (qs : List Search) (order : List ℕ) (asked : List (Result Request RequestFault)) (ws : List Worker) (first ended : Ends) (p : ℕ)
     → first ≡ nothing (map start_in os) (length names) → ended ≡ with_ends ws first → order ≡ orders qs → asked ≡ asks qs → AreWorked os names order asked ws → All IsCalm ws
     → AllPairs (λ a b. same_text a b ≡ false) names → All (IsSearchBy (length names) (readers_in os)) qs
-    → ArePhaseLines distributed (charters_of (readers_in os)) (most_of (readers_in os)) (λ session. least_of (readers_in os)) (map (search_view names p) qs) (woven_by ended.lines order)
+    → ArePhaseLines replied (charters_of (readers_in os)) (most_of (readers_in os)) (λ session. least_of (readers_in os)) (map (search_view names p) qs) (woven_by ended.lines order)
 phase_woven weave os names qs order asked ws first ended p begun is ordered asks_are are calm apart by =
-    subst (ArePhaseLines distributed (charters_of (readers_in os)) (most_of (readers_in os)) (λ session. least_of (readers_in os)) (map (search_view names p) qs))
+    subst (ArePhaseLines replied (charters_of (readers_in os)) (most_of (readers_in os)) (λ session. least_of (readers_in os)) (map (search_view names p) qs))
     (λ i. woven_by ((sym (ap (λ e. e.lines) (is ∙ ap (with_ends ws) begun))) i) (sym ordered i))
     (ended_phase weave os names qs ws p (subst (λ o. AreWorked os names o (asks qs) ws) ordered (subst (λ a. AreWorked os names order a ws) asks_are are)) calm apart by)

@@ -6,7 +6,7 @@ use Rattle.std.proofs.lemmas.List.{get_or-set_other, get_or-set_same, length-app
 use Rattle.std.proofs.lemmas.List.Elements.{All-nil, All-cons, All-head, All-tail}
 use Rattle.fc_spec.specs.documents.Schema.{Schema}
 use Rattle.fc_spec.specs.scripts.PinnedWorlds.{AreBetween, world_at}
-use Rattle.fc_search.specs.Askable.{world_of}
+use Rattle.fc_round.specs.Askable.{world_of}
 use Rattle.fc_store.specs.Ends.{IsNoLower, Pinning, PinsGeneration}
 use Rattle.fc_store.specs.Generated.{Generated}
 use Rattle.fc_work.proofs.Batches.{charted_blocks}
@@ -46,6 +46,15 @@ pinned_schemas P (r ∷ rs) [] ss are all = absurd are
 pinned_schemas P (r ∷ rs) (g ∷ gs) [] are all = absurd are
 pinned_schemas P (r ∷ rs) (g ∷ gs) (s ∷ ss) are all =
     All-cons (λ g. P g.schema) g gs (subst P (sym are.0.schema) (All-head (λ r. P r.schema) r rs all)) (pinned_schemas P rs gs ss are.1 (All-tail (λ r. P r.schema) r rs all))
+
+-- they have the schemas of the readers
+pub same_schemas : (rs : List Pinning) (gs : List Generated) (ss : List Pinning) → AllPinned rs gs ss → map (λ g. g.schema) gs ≡ map (λ r. r.schema) rs
+same_schemas [] [] [] are = refl
+same_schemas [] [] (s ∷ ss) are = absurd are
+same_schemas [] (g ∷ gs) ss are = absurd are
+same_schemas (r ∷ rs) [] ss are = absurd are
+same_schemas (r ∷ rs) (g ∷ gs) [] are = absurd are
+same_schemas (r ∷ rs) (g ∷ gs) (s ∷ ss) are = λ i. are.0.schema i ∷ same_schemas rs gs ss are.1 i
 
 -- their blocks are those of their charters' first batches
 pub pinned_world : (rs : List Pinning) (gs : List Generated) (ss : List Pinning) → AllPinned rs gs ss → world_of gs ≡ world_at (charters_of rs) (numbers_in gs)

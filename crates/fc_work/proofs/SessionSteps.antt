@@ -5,13 +5,16 @@ use Rattle.std.proofs.lemmas.Bool.{eq-eqb, ne_eqb}
 use Rattle.std.proofs.lemmas.List.{drop_all, drop_more, get_or-map, length-map}
 use Rattle.fc_spec.specs.requests.ValidRequests.{IsValidRequest}
 use Rattle.fc_request.specs.RequestView.{request_view}
-use Rattle.fc_work.specs.Working.{AreSameStores, CanAsk, asked_of}
+use Rattle.fc_work.specs.Working.{AreReady, AreSameStores, CanAsk, asked_of}
 use Rattle.fc_spec.specs.documents.Document.{Batch}
 use Rattle.fc_spec.specs.documents.Val.{Text}
-use Rattle.fc_spec.specs.replies.Distributed.{distributed}
+use Rattle.fc_spec.specs.replies.Replied.{replied}
 use Rattle.fc_spec.specs.scripts.AskedScripts.{Asked}
+use Rattle.fc_spec.specs.scripts.PinnedWorlds.{world_added}
 use Rattle.fc_spec.specs.scripts.SearchLines.{AreSessionLines, IsLineOver, SearchLine}
+use Rattle.fc_spec.specs.scripts.WorldLimits.{IsWithinLimits}
 use Rattle.fc_lines.specs.LineView.{asked_view}
+use Rattle.fc_search.specs.Schemas.{AreSame}
 use Rattle.fc_store.specs.Ends.{Pinning}
 use Rattle.fc_work.specs.Pinned.{charters_of, least_of, most_of}
 use Rattle.fc_work.proofs.Batches.{batches_count}
@@ -27,17 +30,17 @@ most_is [] = refl
 most_is (r ∷ rs) = λ i. sym (batches_count r.charter) i ∷ most_is rs i
 
 line_next : (C : List (List Batch)) (low high : List ℕ) (s : Text) (a : Asked) (Then Later : List ℕ → Type 0) (l : SearchLine) → ((g : List ℕ) → Then g → Later g)
-    → IsLineOver distributed C low high s a Then l → IsLineOver distributed C low high s a Later l
+    → IsLineOver replied C low high s a Then l → IsLineOver replied C low high s a Later l
 line_next C low high s (Ok r) Then Later l next (g, between, is, sent, more) = (g, between, is, sent, next g more)
 line_next C low high s (Err f) Then Later l next (is, sent, more) = (is, sent, next low more)
 
 module _ (s : Text) (init : List Pinning) where
   -- the lines of some requests, from what these readers have pinned on
   abbrev pub Lines : List Pinning → List Asking → List SearchLine → Type 0
-  Lines readers asked lines = AreSessionLines distributed (charters_of init) (most_of init) s (least_of readers) (map asked_view asked) lines
+  Lines readers asked lines = AreSessionLines replied (charters_of init) (most_of init) s (least_of readers) (map asked_view asked) lines
 
   pub session_more : (now after : List Pinning) (all left next : List Asking) (a : Asking) (lines : List SearchLine) (line : SearchLine) → left ≡ a ∷ next → charters_of now ≡ charters_of init
-      → IsLineOver distributed (charters_of now) (least_of now) (most_of now) s (asked_view a) (λ g. least_of after ≡ g) line
+      → IsLineOver replied (charters_of now) (least_of now) (most_of now) s (asked_view a) (λ g. least_of after ≡ g) line
       → ((rest : List SearchLine) → Lines now left rest → Lines init all (lines ++ rest))
       → (rest : List SearchLine) → Lines after next rest → Lines init all ((lines ++ line ∷ []) ++ rest)
   session_more now after all left next a lines line first same is was rest more =
@@ -50,10 +53,10 @@ module _ (s : Text) (init : List Pinning) where
       here : Lines now (a ∷ next) (line ∷ rest)
       here =
           line_next (charters_of init) (least_of now) (most_of init) s (asked_view a) (λ g. least_of after ≡ g)
-          (λ g. AreSessionLines distributed (charters_of init) (most_of init) s g (map asked_view next) rest) line
-          (λ g shown. subst (λ low. AreSessionLines distributed (charters_of init) (most_of init) s low (map asked_view next) rest) shown more)
-          (subst (λ high. IsLineOver distributed (charters_of init) (least_of now) high s (asked_view a) (λ g. least_of after ≡ g) line) most
-          (subst (λ C. IsLineOver distributed C (least_of now) (most_of now) s (asked_view a) (λ g. least_of after ≡ g) line) same is))
+          (λ g. AreSessionLines replied (charters_of init) (most_of init) s g (map asked_view next) rest) line
+          (λ g shown. subst (λ low. AreSessionLines replied (charters_of init) (most_of init) s low (map asked_view next) rest) shown more)
+          (subst (λ high. IsLineOver replied (charters_of init) (least_of now) high s (asked_view a) (λ g. least_of after ≡ g) line) most
+          (subst (λ C. IsLineOver replied C (least_of now) (most_of now) s (asked_view a) (λ g. least_of after ≡ g) line) same is))
 
   pub session_skip : (now : List Pinning) (all left next : List Asking) (lines : List SearchLine) → left ≡ next → ((rest : List SearchLine) → Lines now left rest → Lines init all (lines ++ rest))
       → (rest : List SearchLine) → Lines now next rest → Lines init all (lines ++ rest)
@@ -93,6 +96,17 @@ valid_for old new (Err f) same valid = tt
 
 pub can_ask : (old new : List Pinning) (asked : List Asking) (i : ℕ) (d : Asking) → AreSameStores old new → i < length asked → All (CanAsk old) asked → CanAsk new (get_or asked i d)
 can_ask old new asked i d same below all = let here = all i d below in record { root = here.root; valid = valid_for old new (get_or asked i d) same here.valid }
+
+pub ready_again : (old new : List Pinning) → AreSameStores old new → AreReady old → AreReady new
+ready_again old new same ready = record {
+  some = (
+    let long : length new ≡ length old = sym (length-map new (λ r. r.schema)) ∙ ap length same.schemas ∙ length-map old (λ r. r.schema) in
+    let some = ready.some in
+    omega (arith, long, some)
+  );
+  schema = subst AreSame (sym same.schemas) ready.schema;
+  limits = subst (λ C. IsWithinLimits (world_added C)) (sym same.charters) ready.limits;
+}
 
 pub same_again : (init now after : List Pinning) → AreSameStores init now → AreSameStores now after → AreSameStores init after
 same_again init now after one two = record { schemas = two.schemas ∙ one.schemas; charters = two.charters ∙ one.charters }

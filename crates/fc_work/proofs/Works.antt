@@ -2,7 +2,7 @@
 use Rattle.std.proofs.Common.{◌≡◌, ℕ, suc, List, [], ◌∷◌, map, set, refl, ◌∙◌, ap, arith}
 use Rattle.std.specs.Prelude.{All, Result, false}
 use Rattle.std.proofs.lemmas.List.Elements.{All-head, All-tail}
-use Rattle.fc_spec.specs.replies.Distributed.{distributed}
+use Rattle.fc_spec.specs.replies.Replied.{replied}
 use Rattle.fc_spec.specs.scripts.SearchLines.{AreSessionLines}
 use Rattle.fc_request.specs.declared.fault.RequestFault.{RequestFault}
 use Rattle.fc_request.specs.declared.request.Request.{Request}
@@ -85,7 +85,7 @@ module _ (order : List ℕ) (asked : List (Result Request RequestFault)) where
   -- the worker has lines for all that the session asks
   pub record HasLines (s : Seat) (w : SessionWorker) : Type 0 where
     pub session : w.session ≡ s.session
-    pub lines : AreSessionLines distributed (charters_of s.readers) (most_of s.readers) s.own (least_of s.readers) (map asked_view (asked_of s.session order asked)) (line_views w.lines.items)
+    pub lines : AreSessionLines replied (charters_of s.readers) (most_of s.readers) s.own (least_of s.readers) (map asked_view (asked_of s.session order asked)) (line_views w.lines.items)
 
   abbrev pub AllHaveLines : List Seat → List SessionWorker → Type 0
   AllHaveLines [] [] = Unit {0}

@@ -4,7 +4,7 @@ use Rattle.std.specs.Prelude.{All, if◌then◌else◌}
 use Rattle.std.proofs.lemmas.List.{length-set}
 use Rattle.std.proofs.lemmas.List.Elements.{All-head, All-tail}
 use Rattle.fc_spec.specs.documents.Val.{Text, same_text}
-use Rattle.fc_spec.specs.replies.Distributed.{distributed}
+use Rattle.fc_spec.specs.replies.Replied.{replied}
 use Rattle.fc_spec.specs.scripts.SearchLines.{asked_by, ArePhaseLines, AreSessionLines, SearchLine, no_line, without_first, woven}
 use Rattle.fc_spec.proofs.words.Texts.{equal}
 use Rattle.fc_spec.specs.laws.PhaseLaws.{SessionsWeave}
@@ -46,20 +46,20 @@ woven_is names lines p (q ∷ qs) apart same all =
 -- the lines of all sessions, woven, are those of the phase
 module _ (weave : SessionsWeave) (names : List Text) (readers : List Pinning) (lines : List (List SearchLine)) (p : ℕ) (qs : List Search) (apart : AreApart names) (same : length lines ≡ length names)
     (all : All (IsBelow (length names)) qs) (each : (c : ℕ) → c < length names → AreLinesAt (orders qs) (asks qs) names readers c (lines_at lines c)) where
-  of_session : (c : Text) → AreSessionLines distributed (charters_of readers) (most_of readers) c (least_of readers) (asked_by c (map (search_view names p) qs)) (lines_of names lines c)
+  of_session : (c : Text) → AreSessionLines replied (charters_of readers) (most_of readers) c (least_of readers) (asked_by c (map (search_view names p) qs)) (lines_of names lines c)
   of_session c = go (find_name names c)
     where
       go : ((i : ℕ) × (i < length names) × (get_or names i [] ≡ c)) ⊎ ((i : ℕ) → i < length names → same_text (get_or names i []) c ≡ false)
-          → AreSessionLines distributed (charters_of readers) (most_of readers) c (least_of readers) (asked_by c (map (search_view names p) qs)) (lines_of names lines c)
+          → AreSessionLines replied (charters_of readers) (most_of readers) c (least_of readers) (asked_by c (map (search_view names p) qs)) (lines_of names lines c)
       go (inl (i, below, is)) =
-          subst (λ t. AreSessionLines distributed (charters_of readers) (most_of readers) t (least_of readers) (asked_by t (map (search_view names p) qs)) (lines_of names lines t)) is
-          (subst (λ asked. AreSessionLines distributed (charters_of readers) (most_of readers) (get_or names i []) (least_of readers) asked (lines_of names lines (get_or names i []))) (sym (asked_at names p i qs apart below all))
+          subst (λ t. AreSessionLines replied (charters_of readers) (most_of readers) t (least_of readers) (asked_by t (map (search_view names p) qs)) (lines_of names lines t)) is
+          (subst (λ asked. AreSessionLines replied (charters_of readers) (most_of readers) (get_or names i []) (least_of readers) asked (lines_of names lines (get_or names i []))) (sym (asked_at names p i qs apart below all))
           (subst (AreLinesAt (orders qs) (asks qs) names readers i) (sym (lines_of-at names lines i apart same below)) (each i below)))
       go (inr none) =
-          subst (λ asked. AreSessionLines distributed (charters_of readers) (most_of readers) c (least_of readers) asked (lines_of names lines c)) (sym (asked_none names p c qs all none))
-          (subst (AreSessionLines distributed (charters_of readers) (most_of readers) c (least_of readers) []) (sym (lines_of-none names lines c none)) tt)
+          subst (λ asked. AreSessionLines replied (charters_of readers) (most_of readers) c (least_of readers) asked (lines_of names lines c)) (sym (asked_none names p c qs all none))
+          (subst (AreSessionLines replied (charters_of readers) (most_of readers) c (least_of readers) []) (sym (lines_of-none names lines c none)) tt)
 
-  pub phase_lines : ArePhaseLines distributed (charters_of readers) (most_of readers) (λ session. least_of readers) (map (search_view names p) qs) (woven_by lines (map (λ q. q.session) qs))
+  pub phase_lines : ArePhaseLines replied (charters_of readers) (most_of readers) (λ session. least_of readers) (map (search_view names p) qs) (woven_by lines (map (λ q. q.session) qs))
   phase_lines =
-      subst (ArePhaseLines distributed (charters_of readers) (most_of readers) (λ session. least_of readers) (map (search_view names p) qs)) (sym (woven_is names lines p qs apart same all))
-      (weave distributed (charters_of readers) (most_of readers) (λ session. least_of readers) (map (search_view names p) qs) (lines_of names lines) of_session)
+      subst (ArePhaseLines replied (charters_of readers) (most_of readers) (λ session. least_of readers) (map (search_view names p) qs)) (sym (woven_is names lines p qs apart same all))
+      (weave replied (charters_of readers) (most_of readers) (λ session. least_of readers) (map (search_view names p) qs) (lines_of names lines) of_session)

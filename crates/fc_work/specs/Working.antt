@@ -1,6 +1,6 @@
 -- What workers do.
 use Rattle.std.specs.Prelude.{◌≡◌, ℕ, ◌<◌, ◌≤◌, ◌==◌, List, [], ◌∷◌, length, map, All, IfOk, false, Result, slice_index_or, if◌then◌else◌}
-use Rattle.fc_spec.specs.replies.Distributed.{distributed}
+use Rattle.fc_spec.specs.replies.Replied.{replied}
 use Rattle.fc_spec.specs.requests.ValidRequests.{IsValidRequest}
 use Rattle.fc_spec.specs.scripts.PinnedWorlds.{world_added}
 use Rattle.fc_spec.specs.scripts.WorldLimits.{IsWithinLimits}
@@ -9,6 +9,7 @@ use Rattle.fc_request.specs.RequestView.{IsRoot, request_view}
 use Rattle.fc_request.specs.declared.fault.RequestFault.{RequestFault}
 use Rattle.fc_request.specs.declared.request.Request.{Request}
 use Rattle.fc_lines.specs.LineView.{asked_view}
+use Rattle.fc_search.specs.Schemas.{AreSame}
 use Rattle.fc_store.specs.Charters.{last_number}
 use Rattle.fc_store.specs.Ends.{Pinning}
 use Rattle.fc_work.specs.Pinned.{charters_of, least_of, most_of}
@@ -29,9 +30,10 @@ pub record IsCommitted (old new : IndexWorker) : Type 0 where
 
 -- ---- of a session
 
--- there is a reader, and all that their charters add is within the limits together
+-- there is a reader, all are of one schema, and all that their charters add is within the limits together
 pub record AreReady (readers : List Pinning) : Type 0 where
   pub some : 1 ≤ length readers
+  pub schema : AreSame (map (λ r. r.schema) readers)
   pub limits : IsWithinLimits (world_added (charters_of readers))
 
 -- what is asked, where it has no fault, is valid for the schema of each reader and stands in a root as requests do
@@ -59,7 +61,7 @@ pub record IsReady (asked : List (Result Request RequestFault)) (w : SessionWork
 pub record IsAnswered (order : List ℕ) (asked : List (Result Request RequestFault)) (old new : SessionWorker) : Type 0 where
   pub session : new.session ≡ old.session
   pub lines : new.wants_memory ≡ false
-      → AreSessionLines distributed (charters_of old.readers.items) (most_of old.readers.items) old.name (least_of old.readers.items) (map asked_view (asked_of old.session order asked)) (line_views new.lines.items)
+      → AreSessionLines replied (charters_of old.readers.items) (most_of old.readers.items) old.name (least_of old.readers.items) (map asked_view (asked_of old.session order asked)) (line_views new.lines.items)
 
 -- ---- of either, where these are whose searches a phase has, and what each asks
 

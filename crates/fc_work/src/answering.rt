@@ -1,8 +1,8 @@
 // The answer to a search: over what its readers pin.
 ghost use Rattle.std.specs.Prelude.{◌≡◌, ◌≤◌, All, IfOk, length, map};
 ghost use Rattle.std.specs.Arc.{arc_value};
-ghost use Rattle.fc_spec.specs.messages.Trace.{trace};
-ghost use Rattle.fc_spec.specs.replies.Distributed.{distributed};
+ghost use Rattle.fc_spec.specs.messages.WholeTrace.{whole_trace};
+ghost use Rattle.fc_spec.specs.replies.Replied.{replied};
 ghost use Rattle.fc_spec.specs.requests.ValidRequests.{IsValidRequest};
 ghost use Rattle.fc_spec.specs.scripts.Lines.{reply_line as line_of_reply};
 ghost use Rattle.fc_spec.specs.scripts.PinnedWorlds.{AreBetween, world_added, world_at};
@@ -10,6 +10,7 @@ ghost use Rattle.fc_spec.specs.scripts.WorldLimits.{IsWithinLimits};
 ghost use Rattle.fc_request.specs.RequestView.{IsRoot, request_view};
 ghost use Rattle.fc_kind.specs.Names.{Covers};
 ghost use Rattle.fc_hooks.specs.SentLists.{sent_view};
+ghost use Rattle.fc_search.specs.Schemas.{AreSame};
 ghost use Rattle.fc_work.specs.Pinned.{AreNoLower, ArePinned, charters_of, having, least_of, most_of, numbers_in, starts_of};
 
 use fc_base::{Name, WantMemory};
@@ -17,7 +18,7 @@ use fc_kind::FacetKind;
 use fc_reply::reply_line;
 use fc_request::Request;
 use fc_search::{RoundProbe, RoundRobin, Sent, search};
-use fc_spec::{first_batches_are_within, traces_are_maps};
+use fc_spec::{first_batches_are_within, whole_traces_are_maps};
 use fc_store::{Generation, ShardReader};
 use std::alloc::Global;
 use std::sync::Arc;
@@ -54,8 +55,8 @@ fn numbers_of(alloc: Global, generations: &[Arc<Generation>]) -> Result<Vec<u64>
     Ok(numbers)
 }
 
-/// The answer to a request of a session over the generations that its readers pin: of 1 to 64 shards, in their order. Each reader
-/// pins once. `workers` tells how many may drive the shards of a search at once, 1 to 64; it changes nothing of the answer. After want of
+/// The answer to a request of a session over the generations that its readers pin: of 1 to 64 shards of one schema, in their order.
+/// Each reader pins once. `workers` tells how many may drive the shards of a search at once, 1 to 64; it changes nothing of the answer. After want of
 /// memory some readers may have pinned again.
 pub fn answer<R: Threads + Sync>(
     rt: &R,
@@ -71,19 +72,20 @@ pub fn answer<R: Threads + Sync>(
     requires workers { (1 ≤ workers) × (workers ≤ 64) }
     requires root { IsRoot request.now.root }
     requires valid { All (λ reader. IsValidRequest reader.schema (request_view request.now)) readers.old }
+    requires schema { AreSame (map (λ reader. reader.schema) readers.old) }
     requires limits { IsWithinLimits (world_added (charters_of readers.old)) }
     ensures line { IfOk result (λ answered. answered.line.items
-        ≡ line_of_reply (distributed (request_view request.now) (world_at (charters_of readers.old) answered.generations.items))
+        ≡ line_of_reply (replied (request_view request.now) (world_at (charters_of readers.old) answered.generations.items))
         answered.generations.items session.now) }
     ensures sent { IfOk result (λ answered. map sent_view answered.sent.items
-        ≡ trace (request_view request.now) (world_at (charters_of readers.old) answered.generations.items)) }
+        ≡ whole_trace (request_view request.now) (world_at (charters_of readers.old) answered.generations.items)) }
     ensures between { IfOk result (λ answered. AreBetween (least_of readers.old) (most_of readers.old) answered.generations.items) }
     ensures started { IfOk result (λ answered. AreBetween (starts_of readers.old) (most_of readers.old) answered.generations.items) }
     ensures pinned { IfOk result (λ answered. readers.new ≡ having readers.old answered.generations.items) }
     ensures no_lower { AreNoLower readers.old readers.new }
 {
     first_batches_are_within();
-    traces_are_maps();
+    whole_traces_are_maps();
     let generations = pin_all(alloc, readers)?;
     let numbers = numbers_of(alloc, &generations)?;
     let mut turns = RoundRobin::new();

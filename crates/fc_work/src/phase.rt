@@ -2,12 +2,13 @@
 ghost use Rattle.std.specs.Prelude.{◌≡◌, ◌<◌, ◌≤◌, [], ℕ, All, AllPairs, IfOk, OnOk, false, length, map};
 ghost use Rattle.std.specs.Arc.{arc_value};
 ghost use Rattle.fc_spec.specs.documents.Val.{same_text};
-ghost use Rattle.fc_spec.specs.replies.Distributed.{distributed};
+ghost use Rattle.fc_spec.specs.replies.Replied.{replied};
 ghost use Rattle.fc_spec.specs.scripts.PinnedWorlds.{world_added};
 ghost use Rattle.fc_spec.specs.scripts.SearchLines.{ArePhaseLines};
 ghost use Rattle.fc_spec.specs.scripts.WorldLimits.{IsWithinLimits};
 ghost use Rattle.fc_kind.specs.Names.{Covers};
 ghost use Rattle.fc_script.specs.PartsView.{search_view};
+ghost use Rattle.fc_search.specs.Schemas.{AreSame};
 ghost use Rattle.fc_work.specs.Opened.{AreNumbered, CanOpen};
 ghost use Rattle.fc_work.specs.Phased.{Adds, AreWorked, IsSearchBy, readers_in, sent_in, whole_in};
 ghost use Rattle.fc_work.specs.Pinned.{charters_of, least_of, most_of};
@@ -100,13 +101,14 @@ pub fn run_searches<R: Threads + Wait + Sync, G: Gate>(
     requires open { All CanOpen openings.items }
     requires numbered { AreNumbered openings.items }
     requires some { 1 ≤ length openings.items }
+    requires schema { AreSame (map (λ reader. reader.schema) (readers_in openings.items)) }
     requires limits { IsWithinLimits (world_added (charters_of (readers_in openings.items))) }
     requires few { length names.now ≤ 16 }
     requires different { AllPairs (λ a b. same_text a b ≡ false) names.now }
     requires some_search { 1 ≤ length searches.items }
     requires searches { All (IsSearchBy (length names.now) (readers_in openings.items)) searches.items }
     ensures generations { IfOk result (λ end. map arc_value end.generations.items ≡ map whole_in openings.items) }
-    ensures text { (phase : ℕ) → IfOk result (λ end. Adds text.old.items text.new.items (sent_in end.sent.items) (ArePhaseLines distributed
+    ensures text { (phase : ℕ) → IfOk result (λ end. Adds text.old.items text.new.items (sent_in end.sent.items) (ArePhaseLines replied
         (charters_of (readers_in openings.items)) (most_of (readers_in openings.items)) (λ session. least_of (readers_in openings.items))
         (map (search_view names.now phase) searches.items))) }
 {

@@ -1,6 +1,6 @@
 // The worker of a session.
 ghost use Rattle.std.specs.Prelude.{◌≡◌, ◌≤◌, All, IfOk, length, map};
-ghost use Rattle.fc_spec.specs.replies.Distributed.{distributed};
+ghost use Rattle.fc_spec.specs.replies.Replied.{replied};
 ghost use Rattle.fc_spec.specs.scripts.SearchLines.{AreSessionLines, IsLineOver};
 ghost use Rattle.fc_lines.specs.LineView.{asked_view};
 ghost use Rattle.fc_kind.specs.Names.{Covers};
@@ -44,7 +44,7 @@ fn line_of<R: Threads + Sync>(
     requires workers { (1 ≤ workers) × (workers ≤ 64) }
     requires ready { AreReady readers.old }
     requires asks { CanAsk readers.old asked.now }
-    ensures line { IfOk result (λ line. IsLineOver distributed (charters_of readers.old) (least_of readers.old) (most_of readers.old) session.now
+    ensures line { IfOk result (λ line. IsLineOver replied (charters_of readers.old) (least_of readers.old) (most_of readers.old) session.now
         (asked_view asked.now) (λ g. least_of readers.new ≡ g) (line_view line)) }
     ensures same { IfOk result (λ line. AreSameStores readers.old readers.new) }
 {
@@ -82,7 +82,7 @@ fn lines_of<R: Threads + Sync, G: Gate>(
     requires ready { AreReady readers.old }
     requires count { length order.now ≡ length asked.now }
     requires ask { All (CanAsk readers.old) asked.now }
-    ensures { IfOk result (λ lines. AreSessionLines distributed (charters_of readers.old) (most_of readers.old) session_name.now (least_of readers.old)
+    ensures { IfOk result (λ lines. AreSessionLines replied (charters_of readers.old) (most_of readers.old) session_name.now (least_of readers.old)
         (map asked_view (asked_of session order.now asked.now)) (line_views lines.items)) }
 {
     let mut lines = VecDeque::new(alloc);

@@ -4,8 +4,11 @@ use Rattle.fc_work.specs.Ends.{ends_of, nothing, with_ends}
 use Rattle.fc_work.specs.Opened.{start_in}
 use Rattle.fc_work.specs.Phased.{readers_in}
 use Rattle.fc_work.specs.Woven.{woven_by}
-use Rattle.fc_work.proofs.Phases.{asks_can, orders_below, phase_ended, phase_woven, within_lines}
+use Rattle.fc_work.proofs.Phases.{asks_can, orders_below, phase_ended, phase_woven, readers_ready, within_lines}
 use Rattle.fc_work.proofs.phase.run_searches.Goals as goal
+
+pub work-worked-requires-clause-ready : goal.work-worked-requires-clause-ready
+work-worked-requires-clause-ready g c κs within = readers_ready c.args.openings.items c.requires.some c.requires.schema c.requires.limits
 
 pub work-worked-requires-clause-sessions : goal.work-worked-requires-clause-sessions
 work-worked-requires-clause-sessions g c κs within =

@@ -2,8 +2,11 @@ use Rattle.std.proofs.Common.{◌≡◌, ◌+◌, ◌++◌, ◌∷◌, [], drop,
 use Rattle.std.proofs.lemmas.List.{map-append}
 use Rattle.fc_work.specs.SearchLineView.{line_view, line_views}
 use Rattle.fc_work.specs.Working.{CanAsk, asked_of}
-use Rattle.fc_work.proofs.SessionSteps.{Lines, asked_done, asked_next, can_ask, same_again, session_done, session_more}
+use Rattle.fc_work.proofs.SessionSteps.{Lines, asked_done, asked_next, can_ask, ready_again, same_again, session_done, session_more}
 use Rattle.fc_work.proofs.session_worker.lines_of.Goals as goal
+
+pub line_of-requires-clause-ready : goal.line_of-requires-clause-ready
+line_of-requires-clause-ready g c κs within = ready_again c.args.readers.now c.loop-at.readers c.loop-at.invariant.same c.requires.ready
 
 pub line_of-requires-clause-asks : goal.line_of-requires-clause-asks
 line_of-requires-clause-asks g c κs within =
