@@ -1,8 +1,7 @@
 -- The laws that the promises of a run stand on.
 use Rattle.fc_spec.specs.laws.PhaseLaws.{BookedAreOutputs, PhasesAddUp}
 use Rattle.fc_spec.specs.laws.ScriptLaws.{AddedAreWithin, SearchesAreFew, IsOnlyOutput, StandByPhase}
-use Rattle.fc_spec.specs.laws.RefinedPaths.{AreRefinedPathsExact}
-use Rattle.fc_spec.specs.laws.WithoutLimits.{IsSingleWithoutLimits}
+use Rattle.fc_spec.specs.laws.TopsLaw.{AreTopPathsExact, AreTopsExact, IsSingleWithTops}
 
 pub record AreRunLaws : Type 0 where
   pub phases : PhasesAddUp
@@ -11,5 +10,6 @@ pub record AreRunLaws : Type 0 where
   pub few : SearchesAreFew
   pub only : IsOnlyOutput
   pub added : AddedAreWithin
-  pub single : IsSingleWithoutLimits
-  pub refined : AreRefinedPathsExact
+  pub single : IsSingleWithTops
+  pub refined : AreTopPathsExact
+  pub tops : AreTopsExact

@@ -2,8 +2,8 @@
 ghost use Rattle.fc_run.specs.RunLaws.{AreRunLaws};
 
 use fc_spec::{
-    added_are_within_limits, phase_ends_are_outputs, phases_write_outputs, refined_paths_are_exact,
-    scripts_have_one_output, searches_are_few, without_limits,
+    added_are_within_limits, phase_ends_are_outputs, phases_write_outputs, scripts_have_one_output,
+    searches_are_few, tops_are_exact,
 };
 
 /// All of them.
@@ -15,6 +15,5 @@ pub(crate) fn run_laws()
     searches_are_few();
     scripts_have_one_output();
     added_are_within_limits();
-    without_limits();
-    refined_paths_are_exact();
+    tops_are_exact();
 }

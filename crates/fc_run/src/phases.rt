@@ -1,7 +1,7 @@
 // The phases of a script, one after another.
 ghost use Rattle.std.specs.Prelude.{◌≡◌, ◌+◌, ◌≤◌, ℕ, AllPairs, Err, IfOk, false, length, map};
 ghost use Rattle.fc_spec.specs.documents.Val.{same_text};
-ghost use Rattle.fc_spec.specs.replies.Distributed.{distributed};
+ghost use Rattle.fc_spec.specs.replies.Replied.{replied};
 ghost use Rattle.fc_spec.specs.scripts.SearchLines.{AreLinesOfParts, ArePhaseLines};
 ghost use Rattle.fc_io.specs.Faults.{Rose};
 ghost use Rattle.fc_kind.specs.Names.{Covers};
@@ -67,7 +67,7 @@ fn run_phase<R: Threads + Wait + Sync, G: Gate>(
     requires different { AllPairs (λ a b. same_text a b ≡ false) names.now }
     requires can { CanRun (map progress_of shards.items) (length names.now) phase }
     ensures shards { IfOk result (λ ran. map progress_of ran.shards.items ≡ all_carried (map progress_of shards.items) phase.commits.items) }
-    ensures text { (number : ℕ) → IfOk result (λ ran. Adds text.old.items text.new.items (sent_in ran.sent.items) (ArePhaseLines distributed
+    ensures text { (number : ℕ) → IfOk result (λ ran. Adds text.old.items text.new.items (sent_in ran.sent.items) (ArePhaseLines replied
         (chartered_batches (map progress_of shards.items) phase.commits.items) phase.commits.items
         (λ session. numbers_before (map progress_of shards.items)) (map (search_view names.now number) phase.searches.items))) }
 {
@@ -116,7 +116,7 @@ fn write_phase<R: Threads + Wait + Sync, K: Sink, G: Gate, B: Book>(
     requires numbers { first + length phase.searches.items ≤ 67_108_864 }
     ensures shards { IfOk result (λ later. map progress_of later.items ≡ all_carried (map progress_of shards.items) phase.commits.items) }
     ensures written { (number : ℕ) → WritesNext result (K.written sink.old) (K.written sink.new) (AreBookedLines result first
-        (B.books book.old) (B.books book.new) (ArePhaseLines distributed
+        (B.books book.old) (B.books book.new) (ArePhaseLines replied
         (chartered_batches (map progress_of shards.items) phase.commits.items) phase.commits.items
         (λ session. numbers_before (map progress_of shards.items)) (map (search_view names.now number) phase.searches.items))) }
     ensures rose { result ≡ Err SinkFailed → Rose (K.faults sink.old) (K.faults sink.new) }
@@ -154,7 +154,7 @@ pub(crate) fn write_script<R: Threads + Wait + Sync, K: Sink, G: Gate, B: Book>(
     requires workers { (1 ≤ workers) × (workers ≤ 64) }
     requires runnable { IsRunnable script }
     ensures written { WritesAll result (K.written sink.old) (K.written sink.new) (AreBookedLines result 0
-        (B.books book.old) (B.books book.new) (AreLinesOfParts distributed (parts_view script))) }
+        (B.books book.old) (B.books book.new) (AreLinesOfParts replied (parts_view script))) }
     ensures rose { result ≡ Err SinkFailed → Rose (K.faults sink.old) (K.faults sink.new) }
     ensures never_falls { K.faults sink.old ≤ K.faults sink.new }
 {

@@ -14,6 +14,7 @@ use Rattle.fc_spec.proofs.scripts.WorldTotals.{fewer_within}
 use Rattle.fc_docs.specs.declared.block.Batch.{Batch}
 use Rattle.fc_script.specs.PartsView.{batches_view}
 use Rattle.fc_script.specs.SoundScripts.{CutLists}
+use Rattle.fc_search.specs.Schemas.{AreAll}
 use Rattle.fc_run.specs.Generations.{AreCommittable, IsCommittable, generations_at}
 use Rattle.fc_spec.specs.scripts.PinnedWorlds.{world_added}
 use Rattle.fc_run.specs.Searches.{lists_in, shards_view, Shard}
@@ -82,6 +83,11 @@ progress_generations s [] numbers = refl
 progress_generations s (shard ∷ shards) [] = refl
 progress_generations s (shard ∷ shards) (n ∷ numbers) =
     ap (λ rest. (progress_at s shard.items n).generation ∷ rest) (progress_generations s shards numbers)
+
+pub progress_schemas : (s : Schema) (lists : List (List Batch)) (numbers : List ℕ) → AreAll s (map (λ (p : Progress). p.generation.schema) (all_progress_at s lists numbers))
+progress_schemas s [] numbers = All-nil (λ t. t ≡ s)
+progress_schemas s (l ∷ lists) [] = All-nil (λ t. t ≡ s)
+progress_schemas s (l ∷ lists) (n ∷ numbers) = All-cons (λ t. t ≡ s) s (map (λ (p : Progress). p.generation.schema) (all_progress_at s lists numbers)) refl (progress_schemas s lists numbers)
 
 pub progress_numbers : (s : Schema) (lists : List (List Batch)) (numbers : List ℕ) → length numbers ≡ length lists → map (λ (p : Progress). p.generation.number) (all_progress_at s lists numbers) ≡ numbers
 progress_numbers s [] [] same = refl

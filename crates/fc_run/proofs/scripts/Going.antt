@@ -6,7 +6,7 @@ use Rattle.std.specs.Io.KnownBytes.{Appends}
 use Rattle.std.specs.Prelude.{IsErr, option_map}
 use Rattle.std.proofs.lemmas.List.{length-append, length-map}
 use Rattle.fc_spec.specs.documents.Val.{Text}
-use Rattle.fc_spec.specs.replies.Distributed.{distributed}
+use Rattle.fc_spec.specs.replies.Replied.{replied}
 use Rattle.fc_spec.specs.scripts.Booked.{Books, book_all}
 use Rattle.fc_spec.specs.scripts.SearchLines.{SearchLine, AreLinesOfParts, ArePhaseLines, sent_for, text_of}
 use Rattle.fc_script.specs.PartsView.{parts_view, search_view}
@@ -39,7 +39,7 @@ pub record Going (s : Script) (done : ℕ) (left : List Phase) (shards : List Pr
 
 -- what a run leaves that stops
 abbrev pub IsFrontOf : Script → Text → Type 0
-IsFrontOf s t = (rest : Text) × (ls : List SearchLine) × (t ++ rest ≡ text_of ls) × AreLinesOfParts distributed (parts_view s) ls
+IsFrontOf s t = (rest : Text) × (ls : List SearchLine) × (t ++ rest ≡ text_of ls) × AreLinesOfParts replied (parts_view s) ls
 
 -- the searches of a phase are few
 pub few_own : (first : ℕ) (p : Phase) (ps : List Phase) → first + length (searches_in (p ∷ ps)) ≤ 67_108_864 → first + length p.searches.items ≤ 67_108_864
@@ -64,7 +64,7 @@ module _ (s : Script) where
   -- what is written is a front of some text
   pub going_front : (done : ℕ) (left : List Phase) (shards : List Progress) (first : ℕ) (old new : Option (List ℕ)) (begun told : Option Books) → Going s done left shards first old new begun told → Wrote old new (IsFrontOf s)
   going_front done left shards first old new begun told now =
-      let more = rest_there distributed (shards_view s.batches.items) s.sessions.items done now.before left now.between.rising in (
+      let more = rest_there replied (shards_view s.batches.items) s.sessions.items done now.before left now.between.rising in (
         text_of now.lines,
         now.appended,
         (text_of more.0, now.lines ++ more.0, sym (text_of-append now.lines more.0), now.between.whole more.0 more.1),
@@ -78,18 +78,18 @@ module _ (s : Script) where
 
   -- a run that stopped left a front
   pub stopped : (ended : Result (Unit {0}) Stop) (old new : Option (List ℕ)) (begun told : Option Books) → IsErr ended → Wrote old new (IsFrontOf s)
-      → WritesAll ended old new (AreBookedLines ended 0 begun told (AreLinesOfParts distributed (parts_view s)))
+      → WritesAll ended old new (AreBookedLines ended 0 begun told (AreLinesOfParts replied (parts_view s)))
   stopped (Ok u) old new begun told is front = cc
   stopped (Err stop) old new begun told is (t, appended, (rest, ls, same, are)) = (t, appended, (rest, record { lines = ls; text = same; are = are; booked = tt }))
 
   pub going_last : (done : ℕ) (left : List Phase) (shards : List Progress) (first : ℕ) (old new : Option (List ℕ)) (begun told : Option Books) → left ≡ [] → Going s done left shards first old new begun told
-      → WritesAll (Ok tt) old new (AreBookedLines {A = Unit {0}} (Ok tt) 0 begun told (AreLinesOfParts distributed (parts_view s)))
+      → WritesAll (Ok tt) old new (AreBookedLines {A = Unit {0}} (Ok tt) 0 begun told (AreLinesOfParts replied (parts_view s)))
   going_last done left shards first old new begun told none now =
       (text_of now.lines, now.appended, record { lines = now.lines; text = refl; are = at_last s done now.before shards now.lines left none now.between; booked = now.booked })
 
   module _ (done : ℕ) (p : Phase) (ps : List Phase) (shards : List Progress) (first : ℕ) (old new later : Option (List ℕ)) (begun told after : Option Books) (is : IsRunnable s) (now : Going s done (p ∷ ps) shards first old new begun told) where
     abbrev pub Lines : List SearchLine → Type 0
-    Lines own = ArePhaseLines distributed (chartered_batches shards p.commits.items) p.commits.items (λ session. numbers_before shards) (map (search_view s.sessions.items done) p.searches.items) own
+    Lines own = ArePhaseLines replied (chartered_batches shards p.commits.items) p.commits.items (λ session. numbers_before shards) (map (search_view s.sessions.items done) p.searches.items) own
 
     -- once the lines of a phase are written
     pub going_next : {A : Type 0} (carried : A) (next_shards : List Progress) (many : ℕ) → next_shards ≡ all_carried shards p.commits.items → many ≡ length p.searches.items
@@ -106,14 +106,14 @@ module _ (s : Script) where
       where
         own_count : length own.lines ≡ length p.searches.items
         own_count =
-            line_count distributed (chartered_batches shards p.commits.items) p.commits.items (λ session. numbers_before shards) (map (search_view s.sessions.items done) p.searches.items) own.lines own.are
+            line_count replied (chartered_batches shards p.commits.items) p.commits.items (λ session. numbers_before shards) (map (search_view s.sessions.items done) p.searches.items) own.lines own.are
             ∙ length-map p.searches.items (search_view s.sessions.items done)
 
     -- where a front of them is
     pub front_within : (t : Text) (own : List SearchLine) → t ≡ text_of own → AppendsFront new later t → Lines own → Wrote old later (IsFrontOf s)
     front_within t own same (rest, (part, appended, split), some) lines =
         let after = next s done now.before p ps shards now.lines is now.between (all_carried shards p.commits.items) own refl lines in
-        let more = rest_there distributed (shards_view s.batches.items) s.sessions.items (done + 1) p.commits.items ps after.rising in (
+        let more = rest_there replied (shards_view s.batches.items) s.sessions.items (done + 1) p.commits.items ps after.rising in (
           text_of now.lines ++ part,
           Appends-trans old new later (text_of now.lines) part now.appended appended,
           (

@@ -4,6 +4,7 @@ use Rattle.std.specs.Prelude.{All}
 use Rattle.std.specs.List.{zip}
 use Rattle.std.proofs.lemmas.List.{get_or-map, length-map, length-take-le, take_all}
 use Rattle.std.proofs.lemmas.List.Elements.{All-cons, All-head, All-map, All-nil, All-tail, All-weaker}
+use Rattle.std.proofs.lemmas.Simd.{map-map}
 use Rattle.fc_spec.specs.documents.Operations.{after_ops, blocks_added}
 use Rattle.fc_spec.specs.documents.Schema.{Schema}
 use Rattle.fc_spec.specs.requests.ValidRequests.{IsValidRequest}
@@ -16,6 +17,7 @@ use Rattle.fc_request.specs.declared.fault.RequestFault.{RequestFault}
 use Rattle.fc_request.specs.declared.request.Request.{Request}
 use Rattle.fc_script.specs.PartsView.{batches_view}
 use Rattle.fc_script.specs.declared.script.Search.{Search}
+use Rattle.fc_search.specs.Schemas.{AreSame}
 use Rattle.fc_store.specs.Charters.{Chartered, IsBatchOf, blocks_at, last_number}
 use Rattle.fc_store.specs.Ends.{Pinning}
 use Rattle.fc_store.specs.Generated.{Generated}
@@ -151,13 +153,18 @@ module _ (ps : List Progress) (ns : List ℕ) (os : List Opening) (are : charter
   pub each_left : length ns ≡ length ps → CanCarryAll ps ns → (gs : List Generated) (left : List (List Batch)) → gs ≡ map whole_in os → left ≡ all_left ps ns → length gs ≡ length left
   each_left same can gs left last rest = ap length last ∙ length-map os whole_in ∙ as_many same can ∙ sym (left_many ps ns same) ∙ sym (ap length rest)
 
+  reader_schemas : length ns ≡ length ps → map (λ (r : Pinning). r.schema) (readers_in os) ≡ map (λ (g : Generated). g.schema) (map (λ (p : Progress). p.generation) ps)
+  reader_schemas same = schemas_are os ∙ ap (map (λ (c : Chartered). c.start.schema)) are ∙ start_schemas ps ns same
+
+  pub one_schema : length ns ≡ length ps → AreSame (map (λ (p : Progress). p.generation.schema) ps) → AreSame (map (λ (r : Pinning). r.schema) (readers_in os))
+  one_schema same schema =
+      subst AreSame (sym (reader_schemas same ∙ map-map (λ (g : Generated). g.schema) (λ (p : Progress). p.generation) ps)) schema
+
   ask_of : length ns ≡ length ps → (a : Result Request RequestFault) → IfOk a (λ r. All (λ g. IsValidRequest g.schema (request_view r)) (map (λ (p : Progress). p.generation) ps))
       → IfOk a (λ r. All (λ reader. IsValidRequest reader.schema (request_view r)) (readers_in os))
   ask_of same (Ok r) valid =
       let P : Schema → Type 0 = λ s. IsValidRequest s (request_view r) in
-      let schemas : map (λ (r : Pinning). r.schema) (readers_in os) ≡ map (λ (g : Generated). g.schema) (map (λ (p : Progress). p.generation) ps) =
-      schemas_are os ∙ ap (map (λ (c : Chartered). c.start.schema)) are ∙ start_schemas ps ns same in
-      all_back P (λ (r : Pinning). r.schema) (readers_in os) (subst (All P) (sym schemas) (All-map P (λ (g : Generated). g.schema) (map (λ (p : Progress). p.generation) ps) valid))
+      all_back P (λ (r : Pinning). r.schema) (readers_in os) (subst (All P) (sym (reader_schemas same)) (All-map P (λ (g : Generated). g.schema) (map (λ (p : Progress). p.generation) ps) valid))
   ask_of same (Err f) valid = tt
 
   pub searches_by : length ns ≡ length ps → (n : ℕ) (qs : List Search) → All (IsSearchOf (map (λ (p : Progress). p.generation) ps) n) qs → All (IsSearchBy n (readers_in os)) qs

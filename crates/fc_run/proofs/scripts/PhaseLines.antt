@@ -8,7 +8,7 @@ use Rattle.fc_spec.specs.documents.Document as documents
 use Rattle.fc_spec.specs.documents.Operations.{after_op, after_ops, blocks_added}
 use Rattle.fc_spec.specs.documents.Schema.{Schema}
 use Rattle.fc_spec.specs.documents.Val.{Text, same_text}
-use Rattle.fc_spec.specs.messages.Trace.{trace}
+use Rattle.fc_spec.specs.messages.WholeTrace.{whole_trace}
 use Rattle.fc_spec.specs.scripts.AskedScripts.{Asked}
 use Rattle.fc_spec.specs.scripts.Lines.{reply_line}
 use Rattle.fc_spec.specs.scripts.Outputs.{Replies}
@@ -116,7 +116,7 @@ module _ (reply : Replies) (A B : List (List documents.Batch)) (low high : List 
     g,
     between,
     text ∙ ap (λ W. reply_line (reply r W) g session) (same g above between.below),
-    sent ∙ ap (λ W. Some (trace r W)) (same g above between.below),
+    sent ∙ ap (λ W. Some (whole_trace r W)) (same g above between.below),
     next g above more,
   )
     where

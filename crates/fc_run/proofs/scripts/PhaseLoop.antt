@@ -5,18 +5,19 @@ use Rattle.std.specs.Arc.{arc_value}
 use Rattle.std.specs.List.{enumerate_from}
 use Rattle.std.proofs.lemmas.List.{length-map}
 use Rattle.std.proofs.lemmas.List.Elements.{All-head, All-tail}
-use Rattle.fc_spec.specs.replies.Distributed.{distributed}
+use Rattle.fc_spec.specs.replies.Replied.{replied}
 use Rattle.fc_spec.specs.scripts.PinnedWorlds.{world_added}
 use Rattle.fc_spec.specs.scripts.WorldLimits.{IsWithinLimits}
 use Rattle.fc_spec.specs.scripts.SearchLines.{SearchLine, AreLinesOfParts, AreLinesOfAll, ArePhaseLines}
 use Rattle.fc_script.specs.PartsView.{parts_view, phase_view, search_view}
 use Rattle.fc_script.specs.declared.script.Phase.{Phase}
 use Rattle.fc_script.specs.declared.script.Script.{Script}
+use Rattle.fc_search.specs.Schemas.{AreSame}
 use Rattle.fc_run.specs.Phased.{CanRun, chartered_batches, numbers_before}
 use Rattle.fc_run.specs.Progress.{CanCarryAll, Progress, all_carried, all_progress_at}
 use Rattle.fc_run.specs.Runnable.{AreRising, IsRunnable, IsRunnablePhase, commits_in}
 use Rattle.fc_run.specs.Searches.{Shard, lists_in, shards_view}
-use Rattle.fc_run.proofs.scripts.Carried.{AllFit, all_carried_is, all_fit, can_carry_all, progress_count, progress_generations, progress_numbers}
+use Rattle.fc_run.proofs.scripts.Carried.{AllFit, all_carried_is, all_fit, can_carry_all, progress_count, progress_generations, progress_numbers, progress_schemas}
 use Rattle.fc_run.proofs.scripts.PhaseLines.{charters_within, same_lines, worlds_same}
 use Rattle.fc_run.proofs.scripts.PhaseSteps.{lines_done, lines_more, searches_of}
 
@@ -30,7 +31,7 @@ pub record Between (s : Script) (done : ℕ) (before : List ℕ) (left : List Ph
   pub count : length before ≡ length s.batches.items
   pub rising : AreRising before (commits_in left)
   pub runnable : All (IsRunnablePhase s) left
-  pub whole : (ls : List SearchLine) → AreLinesOfAll distributed (shards_view s.batches.items) before (map (phase_view s.sessions.items) (enumerate_from done left)) ls → AreLinesOfParts distributed (parts_view s) (lines ++ ls)
+  pub whole : (ls : List SearchLine) → AreLinesOfAll replied (shards_view s.batches.items) before (map (phase_view s.sessions.items) (enumerate_from done left)) ls → AreLinesOfParts replied (parts_view s) (lines ++ ls)
 
 -- the numbers of commits before any phase
 abbrev pub none_yet : Script → List ℕ
@@ -43,7 +44,7 @@ at_first s shards is first = record {
   count = length-map s.batches.items (λ shard. 0);
   rising = is.rising;
   runnable = is.phases;
-  whole = λ ls more. subst (λ zeros. AreLinesOfAll distributed (shards_view s.batches.items) zeros (map (phase_view s.sessions.items) (enumerate_from 0 s.phases.items)) ls) (zeros_same s.batches.items) more;
+  whole = λ ls more. subst (λ zeros. AreLinesOfAll replied (shards_view s.batches.items) zeros (map (phase_view s.sessions.items) (enumerate_from 0 s.phases.items)) ls) (zeros_same s.batches.items) more;
 }
 
 -- before the next phase
@@ -67,6 +68,7 @@ module _ (s : Script) (done : ℕ) (before : List ℕ) (p : Phase) (ps : List Ph
   can_run = record {
     some = (let some = is.some in omega (arith, many, some));
     few = (let few = is.few_shards in omega (arith, many, few));
+    schema = subst (λ qs. AreSame (map (λ (q : Progress). q.generation.schema) qs)) (sym now.are) (arc_value s.schema, progress_schemas (arc_value s.schema) (lists_in s.batches.items) before);
     count = count ∙ sym many;
     carry = subst (λ qs. CanCarryAll qs p.commits.items) (sym now.are) (can_carry_all (arc_value s.schema) (lists_in s.batches.items) before p.commits.items fit now.rising.0);
     within = subst (λ qs. IsWithinLimits (world_added (chartered_batches qs p.commits.items))) (sym now.are)
@@ -76,7 +78,7 @@ module _ (s : Script) (done : ℕ) (before : List ℕ) (p : Phase) (ps : List Ph
   }
 
   pub next : (later : List Progress) (own : List SearchLine) → later ≡ all_carried shards p.commits.items
-      → ArePhaseLines distributed (chartered_batches shards p.commits.items) p.commits.items (λ session. numbers_before shards) (map (search_view s.sessions.items done) p.searches.items) own
+      → ArePhaseLines replied (chartered_batches shards p.commits.items) p.commits.items (λ session. numbers_before shards) (map (search_view s.sessions.items done) p.searches.items) own
       → Between s (done + 1) p.commits.items ps later (lines ++ own)
   next later own made are = record {
     are = made ∙ ap (λ qs. all_carried qs p.commits.items) now.are
@@ -84,22 +86,22 @@ module _ (s : Script) (done : ℕ) (before : List ℕ) (p : Phase) (ps : List Ph
     count = count;
     rising = now.rising.1;
     runnable = All-tail (IsRunnablePhase s) p ps now.runnable;
-    whole = lines_more (shards_view s.batches.items) before s.sessions.items done p ps lines own (AreLinesOfParts distributed (parts_view s)) over now.whole;
+    whole = lines_more (shards_view s.batches.items) before s.sessions.items done p ps lines own (AreLinesOfParts replied (parts_view s)) over now.whole;
   }
     where
       numbers : numbers_before shards ≡ before
       numbers = ap numbers_before now.are ∙ progress_numbers (arc_value s.schema) (lists_in s.batches.items) before (now.count ∙ sym lists)
 
       -- over the batches of the script
-      over : ArePhaseLines distributed (shards_view s.batches.items) p.commits.items (λ session. before) (map (search_view s.sessions.items done) p.searches.items) own
+      over : ArePhaseLines replied (shards_view s.batches.items) p.commits.items (λ session. before) (map (search_view s.sessions.items done) p.searches.items) own
       over =
-          same_lines distributed (chartered_batches (all_progress_at (arc_value s.schema) (lists_in s.batches.items) before) p.commits.items) (shards_view s.batches.items) before p.commits.items
+          same_lines replied (chartered_batches (all_progress_at (arc_value s.schema) (lists_in s.batches.items) before) p.commits.items) (shards_view s.batches.items) before p.commits.items
           (λ g above below. worlds_same (arc_value s.schema) s.batches.items before p.commits.items g now.count count above below)
           (λ session. before) (map (search_view s.sessions.items done) p.searches.items) own (λ c i. omega arith)
-          (subst (λ qs. ArePhaseLines distributed (chartered_batches qs p.commits.items) p.commits.items (λ session. before) (map (search_view s.sessions.items done) p.searches.items) own) now.are
-          (subst (λ low. ArePhaseLines distributed (chartered_batches shards p.commits.items) p.commits.items (λ session. low) (map (search_view s.sessions.items done) p.searches.items) own) numbers are))
+          (subst (λ qs. ArePhaseLines replied (chartered_batches qs p.commits.items) p.commits.items (λ session. before) (map (search_view s.sessions.items done) p.searches.items) own) now.are
+          (subst (λ low. ArePhaseLines replied (chartered_batches shards p.commits.items) p.commits.items (λ session. low) (map (search_view s.sessions.items done) p.searches.items) own) numbers are))
 
-pub at_last : (s : Script) (done : ℕ) (before : List ℕ) (shards : List Progress) (lines : List SearchLine) (left : List Phase) → left ≡ [] → Between s done before left shards lines → AreLinesOfParts distributed (parts_view s) lines
+pub at_last : (s : Script) (done : ℕ) (before : List ℕ) (shards : List Progress) (lines : List SearchLine) (left : List Phase) → left ≡ [] → Between s done before left shards lines → AreLinesOfParts replied (parts_view s) lines
 at_last s done before shards lines left none now =
-    lines_done lines (AreLinesOfParts distributed (parts_view s))
-    (now.whole [] (subst (λ ps. AreLinesOfAll distributed (shards_view s.batches.items) before (map (phase_view s.sessions.items) (enumerate_from done ps)) []) (sym none) refl))
+    lines_done lines (AreLinesOfParts replied (parts_view s))
+    (now.whole [] (subst (λ ps. AreLinesOfAll replied (shards_view s.batches.items) before (map (phase_view s.sessions.items) (enumerate_from done ps)) []) (sym none) refl))

@@ -6,7 +6,7 @@ use Rattle.std.proofs.lemmas.List.Elements.{All-map, All-weaker}
 use Rattle.fc_spec.specs.documents.Document.{Batch}
 use Rattle.fc_spec.specs.documents.Schema.{Schema}
 use Rattle.fc_spec.specs.documents.Val.{Text}
-use Rattle.fc_spec.specs.replies.Distributed.{distributed}
+use Rattle.fc_spec.specs.replies.Replied.{replied}
 use Rattle.fc_spec.specs.requests.ValidRequests.{IsValidRequest}
 use Rattle.fc_spec.specs.scripts.SearchLines.{SearchLine, AreLinesOfAll, ArePhaseLines}
 use Rattle.fc_request.specs.RequestView.{request_view}
@@ -40,9 +40,9 @@ searches_of s shards numbers gs n qs is sound =
 
 -- the lines of a phase, behind those of the phases before it
 pub lines_more : (shards : List (List Batch)) (before : List ℕ) (ss : List Text) (i : ℕ) (p : Phase) (ps : List Phase) (lines own : List SearchLine) (Whole : List SearchLine → Type 0)
-    → ArePhaseLines distributed shards p.commits.items (λ session. before) (map (search_view ss i) p.searches.items) own
-    → ((ls : List SearchLine) → AreLinesOfAll distributed shards before (map (phase_view ss) (enumerate_from i (p ∷ ps))) ls → Whole (lines ++ ls))
-    → (ls : List SearchLine) → AreLinesOfAll distributed shards p.commits.items (map (phase_view ss) (enumerate_from (i + 1) ps)) ls → Whole ((lines ++ own) ++ ls)
+    → ArePhaseLines replied shards p.commits.items (λ session. before) (map (search_view ss i) p.searches.items) own
+    → ((ls : List SearchLine) → AreLinesOfAll replied shards before (map (phase_view ss) (enumerate_from i (p ∷ ps))) ls → Whole (lines ++ ls))
+    → (ls : List SearchLine) → AreLinesOfAll replied shards p.commits.items (map (phase_view ss) (enumerate_from (i + 1) ps)) ls → Whole ((lines ++ own) ++ ls)
 lines_more shards before ss i p ps lines own Whole are so_far ls more = subst Whole (sym (append_assoc lines own ls)) (so_far (own ++ ls) (own, ls, refl, are, more))
 
 pub lines_done : (lines : List SearchLine) (Whole : List SearchLine → Type 0) → Whole (lines ++ []) → Whole lines

@@ -1,7 +1,7 @@
 -- What the searches of a script that was read write, and what is booked of them, is all that is promised.
 use Rattle.std.proofs.Common.{◌≡◌, List, Option, None, Some, refl, subst, sym}
 use Rattle.std.specs.Prelude.{option_map}
-use Rattle.fc_spec.specs.replies.Distributed.{distributed}
+use Rattle.fc_spec.specs.replies.Replied.{replied}
 use Rattle.fc_spec.specs.scripts.AskedScripts.{AskedScript}
 use Rattle.fc_spec.specs.scripts.Booked.{Books, IsBookedOutput, book_all}
 use Rattle.fc_spec.specs.scripts.Outputs.{Replies, IsOutput, IsOutputBy}
@@ -14,7 +14,7 @@ use Rattle.fc_run.specs.Outcome.{single_without_limits, ArePrinted}
 use Rattle.fc_run.specs.RunLaws.{AreRunLaws}
 use Rattle.fc_run.proofs.scripts.SameReplies.{same_parts}
 
-module _ (laws : AreRunLaws) (S : AskedScript) (s : Script) (ls : List SearchLine) (is : parts_of S ≡ parts_view s) (lines : AreLinesOfParts distributed (parts_view s) ls) where
+module _ (laws : AreRunLaws) (S : AskedScript) (s : Script) (ls : List SearchLine) (is : parts_of S ≡ parts_view s) (lines : AreLinesOfParts replied (parts_view s) ls) where
   -- whatever is booked with it
   output_by : (reply : Replies) → AreLinesOfParts reply (parts_view s) ls → IsOutputBy reply S (text_of ls)
   output_by reply are =
@@ -27,15 +27,15 @@ module _ (laws : AreRunLaws) (S : AskedScript) (s : Script) (ls : List SearchLin
   printed = record {
     output = output;
     single_index = output_by single_without_limits (same_parts laws.single s ls lines);
-    refined = (distributed, λ r W. record { defined = refl; refined = (laws.refined r W).1; single_index = λ unlimited. laws.single r W unlimited }, output);
-    one_output = λ apart u other. laws.only distributed S u (text_of ls) apart other output;
+    refined = (replied, λ r W. record { defined = refl; refined = (laws.refined r W).1; tops = laws.tops r W; single_index = λ unlimited. laws.single r W unlimited }, output);
+    one_output = λ apart u other. laws.only replied S u (text_of ls) apart other output;
   }
     where
       output : IsOutput S (text_of ls)
-      output = output_by distributed lines
+      output = output_by replied lines
 
   booked : (m : Books) → IsBookedOutput S (text_of ls) m (book_all 0 (sent_for ls) m)
-  booked m = laws.phases distributed S ls m (subst (λ parts. AreLinesOfParts distributed parts ls) (sym is) lines)
+  booked m = laws.phases replied S ls m (subst (λ parts. AreLinesOfParts replied parts ls) (sym is) lines)
 
   pub booked_in : (before after : Option Books) → after ≡ option_map (book_all 0 (sent_for ls)) before → AreBookedIn before after S (text_of ls)
   booked_in (Some m) (Some n) same = let told : n ≡ book_all 0 (sent_for ls) m = cc in subst (λ after. IsBookedOutput S (text_of ls) m after) (sym told) (booked m)

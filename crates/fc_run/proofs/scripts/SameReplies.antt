@@ -4,8 +4,8 @@ use Rattle.std.specs.Prelude.{if◌then◌else◌}
 use Rattle.fc_spec.specs.documents.Document.{Batch}
 use Rattle.fc_spec.specs.documents.Val.{Text}
 use Rattle.fc_spec.specs.documents.World.{World, single}
-use Rattle.fc_spec.specs.laws.WithoutLimits.{IsSingleWithoutLimits}
-use Rattle.fc_spec.specs.replies.Distributed.{distributed}
+use Rattle.fc_spec.specs.laws.TopsLaw.{IsSingleWithTops}
+use Rattle.fc_spec.specs.replies.Replied.{replied}
 use Rattle.fc_spec.specs.replies.Exact.{exact}
 use Rattle.fc_spec.specs.requests.Request as definition
 use Rattle.fc_spec.specs.requests.Shape.{no_limits}
@@ -22,29 +22,29 @@ if_so : {X : Type 0} (b : Bool) (x y : X) → (IsTrue b → x ≡ y) → x ≡ (
 if_so true x y same = same refl
 if_so false x y same = refl
 
-module _ (single_index : IsSingleWithoutLimits) (shards : List (List Batch)) where
-  same_reply : (r : definition.Request) (W : World) → distributed r W ≡ single_without_limits r W
-  same_reply r W = if_so (no_limits r.nodes) (distributed r W) (exact r (single W)) (λ unlimited. single_index r W unlimited)
+module _ (single_index : IsSingleWithTops) (shards : List (List Batch)) where
+  same_reply : (r : definition.Request) (W : World) → replied r W ≡ single_without_limits r W
+  same_reply r W = if_so (no_limits r.nodes) (replied r W) (exact r (single W)) (λ unlimited. single_index r W unlimited)
 
   same_line : (low high : List ℕ) (session : Text) (a : Asked) (Then Later : List ℕ → Type 0) (l : SearchLine) → ((g : List ℕ) → Then g → Later g)
-      → IsLineOver distributed shards low high session a Then l → IsLineOver single_without_limits shards low high session a Later l
+      → IsLineOver replied shards low high session a Then l → IsLineOver single_without_limits shards low high session a Later l
   same_line low high session (Ok r) Then Later l next (g, between, text, sent, more) =
       (g, between, text ∙ ap (λ b. reply_line b g session) (same_reply r (world_at shards g)), sent, next g more)
   same_line low high session (Err f) Then Later l next (text, sent, more) = (text, sent, next low more)
 
-  same_lines : (high : List ℕ) (least : Text → List ℕ) (qs : List (Search Asked)) (ls : List SearchLine) → ArePhaseLines distributed shards high least qs ls → ArePhaseLines single_without_limits shards high least qs ls
+  same_lines : (high : List ℕ) (least : Text → List ℕ) (qs : List (Search Asked)) (ls : List SearchLine) → ArePhaseLines replied shards high least qs ls → ArePhaseLines single_without_limits shards high least qs ls
   same_lines high least [] [] are = are
   same_lines high least [] (l ∷ ls) are = absurd are
   same_lines high least (q ∷ qs) [] are = absurd are
   same_lines high least (q ∷ qs) (l ∷ ls) are =
-      same_line (least q.session) high q.session q.request (λ g. ArePhaseLines distributed shards high (least_after least q.session g) qs ls)
+      same_line (least q.session) high q.session q.request (λ g. ArePhaseLines replied shards high (least_after least q.session g) qs ls)
       (λ g. ArePhaseLines single_without_limits shards high (least_after least q.session g) qs ls) l
       (λ g more. same_lines high (least_after least q.session g) qs ls more)
       are
 
-  same_phases : (before : List ℕ) (ps : List (Phase Asked)) (ls : List SearchLine) → AreLinesOfAll distributed shards before ps ls → AreLinesOfAll single_without_limits shards before ps ls
+  same_phases : (before : List ℕ) (ps : List (Phase Asked)) (ls : List SearchLine) → AreLinesOfAll replied shards before ps ls → AreLinesOfAll single_without_limits shards before ps ls
   same_phases before [] ls are = are
   same_phases before (p ∷ ps) ls (own, rest, is, lines, more) = (own, rest, is, same_lines p.commits (λ session. before) p.searches own lines, same_phases p.commits ps rest more)
 
-pub same_parts : IsSingleWithoutLimits → (s : Script) (ls : List SearchLine) → AreLinesOfParts distributed (parts_view s) ls → AreLinesOfParts single_without_limits (parts_view s) ls
+pub same_parts : IsSingleWithTops → (s : Script) (ls : List SearchLine) → AreLinesOfParts replied (parts_view s) ls → AreLinesOfParts single_without_limits (parts_view s) ls
 same_parts single_index s ls are = same_phases single_index (parts_view s).batches _ (parts_view s).phases ls are

@@ -4,7 +4,7 @@ use Rattle.std.specs.Prelude.{if◌then◌else◌}
 use Rattle.std.specs.List.{enumerate_from}
 use Rattle.fc_spec.specs.documents.Document.{Batch}
 use Rattle.fc_spec.specs.documents.Val.{Text, same_text}
-use Rattle.fc_spec.specs.messages.Trace.{trace}
+use Rattle.fc_spec.specs.messages.WholeTrace.{whole_trace}
 use Rattle.fc_spec.specs.scripts.AskedScripts.{Asked}
 use Rattle.fc_spec.specs.scripts.Lines.{reply_line, error_line}
 use Rattle.fc_spec.specs.scripts.Outputs.{Replies}
@@ -29,7 +29,7 @@ module _ (reply : Replies) (shards : List (List Batch)) where
       → (l : SearchLine) × (ls : List SearchLine) × IsLineOver reply shards from high session a (λ g. Then g ls) l
   line_there high from session (Ok r) Then below next =
       let more = next high (λ i. omega arith) in (
-        record { text = reply_line (reply r (world_at shards high)) high session; sent = Some (trace r (world_at shards high)) },
+        record { text = reply_line (reply r (world_at shards high)) high session; sent = Some (whole_trace r (world_at shards high)) },
         more.0,
         (high, record { count = refl; above = below; below = λ i. omega arith }, refl, refl, more.1),
       )

@@ -3,7 +3,7 @@ use Rattle.std.specs.Prelude.{Vec}
 use Rattle.std.specs.Arc.{arc_value}
 use Rattle.std.specs.declared.alloc.Global.{Global}
 use Rattle.std.proofs.lemmas.List.{length-map}
-use Rattle.fc_spec.specs.replies.Distributed.{distributed}
+use Rattle.fc_spec.specs.replies.Replied.{replied}
 use Rattle.fc_spec.specs.scripts.PinnedWorlds.{world_added}
 use Rattle.fc_spec.specs.scripts.SearchLines.{ArePhaseLines}
 use Rattle.fc_spec.specs.scripts.WorldLimits.{IsWithinLimits}
@@ -13,7 +13,7 @@ use Rattle.fc_work.specs.Phased.{readers_in}
 use Rattle.fc_work.specs.Pinned.{charters_of, most_of}
 use Rattle.fc_run.specs.Phased.{numbers_before}
 use Rattle.fc_run.specs.Progress.{CanCarryAll, all_left, charters_to, joined_again, progress_of}
-use Rattle.fc_run.proofs.scripts.Openings.{as_many, batches_are, can_open, carried_by, charters_in, each_left, highest, lowest, searches_by}
+use Rattle.fc_run.proofs.scripts.Openings.{as_many, batches_are, can_open, carried_by, charters_in, each_left, highest, lowest, one_schema, searches_by}
 use Rattle.fc_run.proofs.phases.run_phase.Goals as goal
 
 pub later_shards-requires-clause-count : goal.later_shards-requires-clause-count
@@ -47,6 +47,14 @@ run_searches-requires-clause-some g c κs within =
     let are : charters_in os ≡ charters_to ps ns = c.in_ok-cut.ensures.charters ∙ ap (charters_to ps) c.deref-2.ensures.value in
     let many = as_many ps ns os are c.requires.can.count c.requires.can.carry in
     omega (arith, many, c.requires.can.count, c.requires.can.some)
+
+pub run_searches-requires-clause-schema : goal.run_searches-requires-clause-schema
+run_searches-requires-clause-schema g c κs within =
+    let ps = map progress_of c.args.shards.items in
+    let ns = c.args.phase.commits.items in
+    let os = c.in_ok-cut.cut.stores.items in
+    let are : charters_in os ≡ charters_to ps ns = c.in_ok-cut.ensures.charters ∙ ap (charters_to ps) c.deref-2.ensures.value in
+    one_schema ps ns os are c.requires.can.count c.requires.can.schema
 
 pub run_searches-requires-clause-limits : goal.run_searches-requires-clause-limits
 run_searches-requires-clause-limits g c κs within =
@@ -99,7 +107,7 @@ returns-clause-text g c number =
       adds.0,
       adds.1,
       adds.2,
-      subst (λ shards. ArePhaseLines distributed shards ns (λ session. numbers_before ps) qs adds.0) (batches_are ps ns os are)
-          (subst (λ high. ArePhaseLines distributed (charters_of (readers_in os)) high (λ session. numbers_before ps) qs adds.0) (highest ps ns os are c.requires.can.count c.requires.can.carry)
-          (subst (λ low. ArePhaseLines distributed (charters_of (readers_in os)) (most_of (readers_in os)) (λ session. low) qs adds.0) (lowest ps ns os are c.requires.can.count) adds.3)),
+      subst (λ shards. ArePhaseLines replied shards ns (λ session. numbers_before ps) qs adds.0) (batches_are ps ns os are)
+          (subst (λ high. ArePhaseLines replied (charters_of (readers_in os)) high (λ session. numbers_before ps) qs adds.0) (highest ps ns os are c.requires.can.count c.requires.can.carry)
+          (subst (λ low. ArePhaseLines replied (charters_of (readers_in os)) (most_of (readers_in os)) (λ session. low) qs adds.0) (lowest ps ns os are c.requires.can.count) adds.3)),
     )

@@ -3,7 +3,7 @@ use Rattle.std.specs.Io.KnownBytes.{Appends}
 use Rattle.std.specs.Prelude.{All, IfSome, option_map}
 use Rattle.std.proofs.lemmas.List.{length-map}
 use Rattle.fc_spec.specs.laws.TraceLaws.{Ascend}
-use Rattle.fc_spec.specs.replies.Distributed.{distributed}
+use Rattle.fc_spec.specs.replies.Replied.{replied}
 use Rattle.fc_spec.specs.scripts.Booked.{book_all}
 use Rattle.fc_spec.specs.scripts.SearchLines.{SearchLine, ArePhaseLines, sent_for, text_of}
 use Rattle.fc_script.specs.PartsView.{search_view}
@@ -26,7 +26,7 @@ book_all-requires-clause-numbers g c =
     let own : length sent ≡ length (sent_in sent) = sym (length-map sent sent_list) in
     let same = ap length adds.2 in
     let listed = length-map adds.0 (λ (l : SearchLine). l.sent) in
-    let lines = line_count distributed (chartered_batches shards p.commits.items) p.commits.items (λ session. numbers_before shards) (map (search_view c.args.names.now 0) p.searches.items) adds.0 adds.3 in
+    let lines = line_count replied (chartered_batches shards p.commits.items) p.commits.items (λ session. numbers_before shards) (map (search_view c.args.names.now 0) p.searches.items) adds.0 adds.3 in
     let asked = length-map p.searches.items (search_view c.args.names.now 0) in
     let few = c.requires.numbers in
     let value = ap length c.deref.ensures.value in
@@ -39,7 +39,7 @@ book_all-requires-clause-ascend g c =
     let adds = c.in_ok-ran.ensures.text 0 in
     subst (λ own. All (λ one. IfSome one Ascend) (sent_in own)) (sym c.deref.ensures.value)
     (subst (All (λ one. IfSome one Ascend)) (sym adds.2)
-    (c.phases_write_outputs.ensures.ascend distributed (chartered_batches shards p.commits.items) p.commits.items (λ session. numbers_before shards) (map (search_view c.args.names.now 0) p.searches.items) adds.0 adds.3))
+    (c.phases_write_outputs.ensures.ascend replied (chartered_batches shards p.commits.items) p.commits.items (λ session. numbers_before shards) (map (search_view c.args.names.now 0) p.searches.items) adds.0 adds.3))
 
 pub returns-in-Ok-clause-written : goal.returns-in-Ok-clause-written
 returns-in-Ok-clause-written g c number =
@@ -61,6 +61,6 @@ returns-clause-written g c number =
     let adds = c.in_ok-ran.ensures.text number in
     let own : c.deref-2.result.now ≡ text_of adds.0 = c.deref-2.ensures.value ∙ adds.1 ∙ ap (λ o. o ++ text_of adds.0) c.new-text.ensures.items in
     part_next (Unit {0}) (Vec Committed Global) c.in-Err.stop (g.K.Sink.written c.args.sink.now) (g.K.Sink.written c.write_text.new.sink) c.deref-2.result.now
-    (AreBookedLines {A = Vec Committed Global} (Err c.in-Err.stop) c.args.first before after (ArePhaseLines distributed (chartered_batches shards p.commits.items) p.commits.items (λ session. numbers_before shards) (map (search_view c.args.names.now number) p.searches.items)))
+    (AreBookedLines {A = Vec Committed Global} (Err c.in-Err.stop) c.args.first before after (ArePhaseLines replied (chartered_batches shards p.commits.items) p.commits.items (λ session. numbers_before shards) (map (search_view c.args.names.now number) p.searches.items)))
     c.in-Err.ensures.written
     (record { lines = adds.0; text = own; are = adds.3; booked = tt })

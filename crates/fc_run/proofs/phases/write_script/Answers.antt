@@ -1,7 +1,7 @@
 use Rattle.std.proofs.Common.{◌≡◌, ◌+◌, ◌∷◌, [], Vec, Global, Ok, Err, length, map, sym, ◌∙◌, subst, arith, rules}
 use Rattle.std.proofs.lemmas.Grind.{common_steps}
 use Rattle.std.proofs.lemmas.List.{length-append}
-use Rattle.fc_spec.specs.replies.Distributed.{distributed}
+use Rattle.fc_spec.specs.replies.Replied.{replied}
 use Rattle.fc_spec.specs.scripts.SearchLines.{ArePhaseLines}
 use Rattle.fc_script.specs.PartsView.{search_view}
 use Rattle.fc_run.specs.Booking.{AreBookedLines}
@@ -104,8 +104,8 @@ loop-phase-preserved g c =
     let after = g.B.Book.books c.write_phase.new.book in
     let made = c.in_ok-shards-2.shards in
     let shards = map progress_of made.items in
-    let lines : WritesNext {A = Vec Committed Global} (Ok made) new later (AreBookedLines {A = Vec Committed Global} (Ok made) first told after (ArePhaseLines distributed (chartered_batches own p.commits.items) p.commits.items (λ session. numbers_before own) (map (search_view s.sessions.items done) p.searches.items))) =
-    subst (λ ss. WritesNext {A = Vec Committed Global} (Ok made) new later (AreBookedLines {A = Vec Committed Global} (Ok made) first told after (ArePhaseLines distributed (chartered_batches own p.commits.items) p.commits.items (λ session. numbers_before own) (map (search_view ss done) p.searches.items)))) c.deref.ensures.value
+    let lines : WritesNext {A = Vec Committed Global} (Ok made) new later (AreBookedLines {A = Vec Committed Global} (Ok made) first told after (ArePhaseLines replied (chartered_batches own p.commits.items) p.commits.items (λ session. numbers_before own) (map (search_view s.sessions.items done) p.searches.items))) =
+    subst (λ ss. WritesNext {A = Vec Committed Global} (Ok made) new later (AreBookedLines {A = Vec Committed Global} (Ok made) first told after (ArePhaseLines replied (chartered_batches own p.commits.items) p.commits.items (λ session. numbers_before own) (map (search_view ss done) p.searches.items)))) c.deref.ensures.value
     (c.in_ok-shards-2.ensures.written done) in
     let falls = c.in_ok-shards-2.ensures.never_falls in
     let before = c.loop-phase.invariant.faults in
@@ -143,8 +143,8 @@ returns-in_err-shards-2-clause-written g c =
     let later = g.K.Sink.written c.write_phase.new.sink in
     let after = g.B.Book.books c.write_phase.new.book in
     let stop = c.in_err-shards-2.field-0.0 in
-    let lines : WritesNext {A = Vec Committed Global} (Err stop) new later (AreBookedLines {A = Vec Committed Global} (Err stop) first told after (ArePhaseLines distributed (chartered_batches own p.commits.items) p.commits.items (λ session. numbers_before own) (map (search_view s.sessions.items done) p.searches.items))) =
-    subst (λ ss. WritesNext {A = Vec Committed Global} (Err stop) new later (AreBookedLines {A = Vec Committed Global} (Err stop) first told after (ArePhaseLines distributed (chartered_batches own p.commits.items) p.commits.items (λ session. numbers_before own) (map (search_view ss done) p.searches.items)))) c.deref.ensures.value
+    let lines : WritesNext {A = Vec Committed Global} (Err stop) new later (AreBookedLines {A = Vec Committed Global} (Err stop) first told after (ArePhaseLines replied (chartered_batches own p.commits.items) p.commits.items (λ session. numbers_before own) (map (search_view s.sessions.items done) p.searches.items))) =
+    subst (λ ss. WritesNext {A = Vec Committed Global} (Err stop) new later (AreBookedLines {A = Vec Committed Global} (Err stop) first told after (ArePhaseLines replied (chartered_batches own p.commits.items) p.commits.items (λ session. numbers_before own) (map (search_view ss done) p.searches.items)))) c.deref.ensures.value
     (c.in_err-shards-2.ensures.written done) in
     stopped s c.from_residual-in_err-shards-2.result old later begun after c.from_residual-in_err-shards-2.ensures.0
     (front_stopped s done p ps own first old new later begun told after c.requires.runnable now (Vec Committed Global) stop lines)
