@@ -5,6 +5,7 @@ ghost use Rattle.fc_kind.specs.Names.{Covers};
 mod calls;
 mod candidates;
 mod documents;
+mod exact;
 mod faults;
 mod gates;
 mod kinds;

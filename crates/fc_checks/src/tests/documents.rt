@@ -2,7 +2,7 @@
 ghost use Rattle.std.specs.Prelude.{◌+◌, ◌<◌, ◌^◌, IfOk};
 ghost use Rattle.serde_json.specs.View.{view};
 ghost use Rattle.fc_spec.specs.messages.Lacks.{terms_depth};
-ghost use Rattle.fc_spec.specs.requests.ValidRequests.{IsValidRequest};
+ghost use Rattle.fc_spec.specs.requests.ValidRequests.{IsSearchable, IsValidRequest};
 ghost use Rattle.fc_spec.specs.scripts.JsonValues.{HasAscendingKeys, HasNumbers};
 ghost use Rattle.fc_refine.specs.CountableRanges.{AreCountable};
 ghost use Rattle.fc_request.specs.RequestView.{IsRoot, request_view};
@@ -27,10 +27,11 @@ pub(super) fn schema_of(alloc: Global, text: &str) -> Result<Arc<Schema>, Fail> 
     Ok(Arc::new(alloc, Schema::read(alloc, &json_of(alloc, text)?)?)?)
 }
 
-// A request, with the facts that a coordinator wants of it.
+// A request, with the facts that searches, shards and coordinators want of it.
 pub(super) fn request_of(alloc: Global, schema: &Schema, text: &str) -> Result<Request, Fail>
     ensures root { IfOk result (λ request. IsRoot request.root) }
     ensures valid { IfOk result (λ request. IsValidRequest schema.now (request_view request)) }
+    ensures searchable { IfOk result (λ request. IsSearchable schema.now (request_view request)) }
     ensures countable { IfOk result (λ request. AreCountable (request_view request).nodes) }
     ensures depth { IfOk result (λ request. terms_depth (request_view request).nodes + 1 < 2 ^ 32) }
 {

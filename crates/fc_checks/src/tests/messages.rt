@@ -37,7 +37,7 @@ fn has_text(key: &Key, text: &str) -> bool {
 }
 
 // Whether it is a bucket along these texts, each of the first node.
-fn is_want(want: &Want, way: &[&str]) -> bool {
+pub(super) fn is_want(want: &Want, way: &[&str]) -> bool {
     let Some((last, path)) = way.split_last() else {
         return false;
     };

@@ -1,7 +1,7 @@
 // A shard's futures, one by a turn and one by polls, over a shard without documents.
 ghost use Rattle.std.specs.Prelude.{◌≡◌, IfOk, false, map};
 ghost use Rattle.std.specs.Arc.{arc_value};
-ghost use Rattle.fc_spec.specs.requests.ValidRequests.{IsValidRequest};
+ghost use Rattle.fc_spec.specs.requests.ValidRequests.{IsSearchable};
 ghost use Rattle.fc_request.specs.RequestView.{IsRoot, request_view};
 ghost use Rattle.fc_kind.specs.Names.{Covers};
 ghost use Rattle.fc_phase.specs.Futures.{phase_of};
@@ -34,7 +34,7 @@ fn future_of<'a>(
 ) -> Result<PhaseFuture<'a>, Fail>
     requires covers { Covers (map name kinds.now) }
     requires root { IsRoot request.now.root }
-    requires valid { IsValidRequest (arc_value schema.now) (request_view request.now) }
+    requires valid { IsSearchable (arc_value schema.now) (request_view request.now) }
     ensures kinds { IfOk result (λ future. future.kinds.now ≡ kinds.now) }
     ensures fresh { IfOk result (λ future. (phase_of future).spent ≡ false) }
 {
@@ -52,7 +52,7 @@ fn polled(
 ) -> Result<Message, Fail>
     requires covers { Covers (map name kinds.now) }
     requires root { IsRoot request.now.root }
-    requires valid { IsValidRequest (arc_value schema.now) (request_view request.now) }
+    requires valid { IsSearchable (arc_value schema.now) (request_view request.now) }
 {
     let message = block_on(rt, future_of(alloc, kinds, schema, request)?)??;
     Ok(message)

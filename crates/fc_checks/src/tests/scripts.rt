@@ -5,7 +5,7 @@ ghost use Rattle.fc_spec.specs.documents.Operations.{after_ops};
 ghost use Rattle.fc_spec.specs.scripts.WorldLimits.{IsWithinLimits};
 ghost use Rattle.fc_spec.specs.words.Lists.{joined};
 ghost use Rattle.fc_script.specs.PartsView.{batches_view};
-ghost use Rattle.fc_search.specs.Askable.{world_of};
+ghost use Rattle.fc_round.specs.Askable.{world_of};
 ghost use Rattle.fc_run.specs.Searches.{shards_view};
 ghost use Rattle.fc_checks.specs.Shards.{IsShardOf, world_left};
 

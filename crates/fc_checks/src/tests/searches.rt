@@ -5,7 +5,7 @@ ghost use Rattle.fc_spec.specs.requests.ValidRequests.{IsValidRequest};
 ghost use Rattle.fc_spec.specs.scripts.WorldLimits.{IsWithinLimits};
 ghost use Rattle.fc_kind.specs.Names.{Covers};
 ghost use Rattle.fc_request.specs.RequestView.{IsRoot, request_view};
-ghost use Rattle.fc_search.specs.Askable.{world_of};
+ghost use Rattle.fc_round.specs.Askable.{world_of};
 
 use super::documents::request_of;
 use super::scripts::{generations_of, script_of};

@@ -6,6 +6,9 @@ use Rattle.fc_checks.proofs.tests.documents.request_of.Goals as goal
 pub returns-clause-valid : goal.returns-clause-valid
 returns-clause-valid c = c.in_ok-read.ensures.valid c.in_ok-json.ensures.0 c.in_ok-json.ensures.1
 
+pub returns-clause-searchable : goal.returns-clause-searchable
+returns-clause-searchable c = searchable c.args.schema.now (request_view c.in_ok-read.field-0) (c.in_ok-read.ensures.valid c.in_ok-json.ensures.0 c.in_ok-json.ensures.1)
+
 pub returns-clause-countable : goal.returns-clause-countable
 returns-clause-countable c =
     c.valid_requests_are_countable.ensures c.args.schema.now (request_view c.in_ok-read.field-0) (searchable c.args.schema.now (request_view c.in_ok-read.field-0) (c.in_ok-read.ensures.valid c.in_ok-json.ensures.0 c.in_ok-json.ensures.1))

@@ -4,7 +4,7 @@ use Rattle.std.proofs.lemmas.List.{map_push}
 use Rattle.std.proofs.lemmas.List.Elements.{All-head, All-push, All-tail}
 use Rattle.fc_script.specs.PartsView.{batches_view}
 use Rattle.fc_run.specs.Searches.{shards_view}
-use Rattle.fc_search.specs.Askable.{world_of}
+use Rattle.fc_round.specs.Askable.{world_of}
 use Rattle.fc_checks.specs.Shards.{IsShardOf, world_left}
 use Rattle.fc_checks.proofs.ShardWorlds.{world_more}
 use Rattle.fc_checks.proofs.tests.scripts.generations_of.Goals as goal

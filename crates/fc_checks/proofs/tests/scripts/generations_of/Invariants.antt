@@ -1,7 +1,7 @@
 use Rattle.std.proofs.Common.{◌≡◌, ◌++◌, map, All}
 use Rattle.std.specs.Arc.{arc_value}
 use Rattle.fc_run.specs.Searches.{shards_view}
-use Rattle.fc_search.specs.Askable.{world_of}
+use Rattle.fc_round.specs.Askable.{world_of}
 use Rattle.fc_checks.specs.Shards.{IsShardOf, world_left}
 use Rattle.fc_checks.proofs.tests.scripts.generations_of.Given as goal
 
