@@ -100,10 +100,10 @@ can_ask old new asked i d same below all = let here = all i d below in record { 
 pub ready_again : (old new : List Pinning) → AreSameStores old new → AreReady old → AreReady new
 ready_again old new same ready = record {
   some = (
-    let long : length new ≡ length old = sym (length-map new (λ r. r.schema)) ∙ ap length same.schemas ∙ length-map old (λ r. r.schema) in
-    let some = ready.some in
-    omega (arith, long, some)
-  );
+      let long : length new ≡ length old = sym (length-map new (λ r. r.schema)) ∙ ap length same.schemas ∙ length-map old (λ r. r.schema) in
+      let some = ready.some in
+      omega (arith, long, some)
+      );
   schema = subst AreSame (sym same.schemas) ready.schema;
   limits = subst (λ C. IsWithinLimits (world_added C)) (sym same.charters) ready.limits;
 }
