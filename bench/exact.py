@@ -15,7 +15,7 @@ import run
 
 HERE = os.path.dirname(os.path.abspath(__file__))
 FIELDS = {"brand": "string", "number": "plong", "word": "string"}
-REFINED, EXACT, WHOLE = "refined", "exact", "no limit"
+HOWS = REFINED, EXACT, WHOLE = "refined", "exact", "no limit"
 # What is measured: the field, the shards, the limit, and whether a facet is nested inside.
 Asked = collections.namedtuple("Asked", "field shards limit nested", defaults=[False])
 ASKED = [Asked(field, shards, limit) for field in ("brand", "number") for shards in (4, 64) for limit in (10, 1000)]
@@ -60,35 +60,38 @@ def written(folder, head, lines):
     return path
 
 
-def sent_for(options, folder, head, lines):
-    """For each search the rounds and the bytes of all shards."""
-    output = subprocess.run([options.book, written(folder, head, lines)], stdout=subprocess.PIPE, check=True).stdout.splitlines()
-    told = [json.loads(line)["sent"] for line in output[len(lines):]]
-    return [(len({number for number, _, _ in sent}), sum(length for _, _, length in sent)) for sent in told]
+def sent_by(options, shards, head):
+    """By what is asked over so many shards, and how: the rounds and the bytes of all shards."""
+    asked = [(one, how) for one in ASKED if one.shards == shards for how in HOWS]
+    with tempfile.TemporaryDirectory() as folder:
+        path = written(folder, head, [search_of(one, how) for one, how in asked])
+        told = subprocess.run([options.book, path], stdout=subprocess.PIPE, check=True).stdout.splitlines()[len(asked):]
+    sent = [json.loads(line)["sent"] for line in told]
+    return {one: (len({number for number, _, _ in rounds}), sum(length for _, _, length in rounds)) for one, rounds in zip(asked, sent)}
 
 
 def buckets_of(line):
     return json.loads(line)["facets"]["top"]["buckets"]
 
 
-def seconds_of(options, folder, head, line):
+def seconds_of(options, folder, head, line, is_dear):
     """Of one more search: the difference between one and some, each the least of several runs."""
-    one, many = written(folder, head, [line]), written(folder, head, [line] * (1 + options.searches))
+    more = max(options.searches // 10, 1) if is_dear else options.searches
+    one, many = written(folder, head, [line]), written(folder, head, [line] * (1 + more))
     least = [min(run.run_once(options.program, path)[0].seconds for _ in range(options.runs)) for path in (one, many)]
-    return (least[1] - least[0]) / options.searches
+    return (least[1] - least[0]) / more
 
 
-def measure(options, asked, head):
+def measure(options, asked, head, sent):
     """By how it is asked: seconds, rounds and bytes."""
-    hows = (REFINED, EXACT, WHOLE)
-    lines = [search_of(asked, how) for how in hows]
+    lines = {how: search_of(asked, how) for how in HOWS}
+    is_dear = asked.limit > 10 or asked.field == "word"
     with tempfile.TemporaryDirectory() as folder:
-        replies = run.run_once(options.program, written(folder, head, lines))[1].splitlines()
-        exact, whole = buckets_of(replies[1]), buckets_of(replies[2])
-        if [(bucket["val"], bucket["count"]) for bucket in exact] != [(bucket["val"], bucket["count"]) for bucket in whole[:asked.limit]]:
+        replies = run.run_once(options.program, written(folder, head, lines.values()))[1].splitlines()
+        exact, whole = ([(bucket["val"], bucket["count"]) for bucket in buckets_of(reply)] for reply in replies[1:])
+        if exact != whole[:asked.limit]:
             sys.exit(f"{asked}: an exact facet prints something else than the front of the facet without a limit")
-        sent = sent_for(options, folder, head, lines)
-        return {how: (seconds_of(options, folder, head, line), *told) for how, line, told in zip(hows, lines, sent)}
+        return {how: (seconds_of(options, folder, head, line, is_dear), *sent[asked, how]) for how, line in lines.items()}
 
 
 def main():
@@ -97,17 +100,20 @@ def main():
     words.add_argument("--book", default=os.path.join(run.TOP, "tools", "book"), help="what tells what is sent (default: tools/book)")
     words.add_argument("--documents", type=int, default=200_000)
     words.add_argument("--runs", type=int, default=3, help="each figure is the least of so many runs")
-    words.add_argument("--searches", type=int, default=20, help="a search is timed over so many")
+    words.add_argument("--searches", type=int, default=100, help="a search is timed over so many, a dear one over a tenth")
     options = words.parse_args()
     texts, found = words_of(options.documents), {}
     print("| Field | Shards | Limit | Facet | One search | Rounds | Bytes of all shards |")
     print("|---|---|---|---|---|---|---|")
-    for asked in ASKED:
-        print(f"{asked}", file=sys.stderr, flush=True)
-        found[asked] = measure(options, asked, opening(options, asked.shards, texts))
-        inside = ", with brands inside" if asked.nested else ""
-        for how, (seconds, rounds, size) in found[asked].items():
-            print(f"| {VALUES[asked.field]}{inside} | {asked.shards} | {asked.limit} | {how} | {1000 * seconds:.2f} ms | {rounds} | {size:,} |", flush=True)
+    for shards in sorted({asked.shards for asked in ASKED}):
+        head = opening(options, shards, texts)
+        sent = sent_by(options, shards, head)
+        for asked in (one for one in ASKED if one.shards == shards):
+            print(f"{asked}", file=sys.stderr, flush=True)
+            found[asked] = measure(options, asked, head, sent)
+            inside = ", with brands inside" if asked.nested else ""
+            for how, (seconds, rounds, size) in found[asked].items():
+                print(f"| {VALUES[asked.field]}{inside} | {shards} | {asked.limit} | {how} | {1000 * seconds:.2f} ms | {rounds} | {size:,} |", flush=True)
     for asked, most in TIMES.items():
         print(f"{found[asked][EXACT][0] / found[asked][REFINED][0]:.2f} times the time of the refined facet (target: at most {most}): {asked}")
     for asked, most in PARTS.items():

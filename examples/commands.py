@@ -36,6 +36,7 @@ NOT_RUN = (
     ("bench/cliffs.py", "measures for some minutes", "bench/cliffs.py --only faulty-requests small-commits --runs 1"),
     ("bench/lanes.py", "proves a program where this machine has not kept it, and measures: some minutes", "bench/lanes.py --help"),
     ("bench/sent.py", "makes a program without its proofs, and measures for some minutes", "bench/sent.py --help"),
+    ("bench/exact.py", "makes a program without its proofs, and measures for a quarter of an hour", "bench/exact.py --help"),
     ("bench/compare.py", "measures for some minutes", "bench/compare.py --documents 1000 --runs 1 --searches 1"),
 )
 SHELL = ("rt", "cd", "(cd", "cat", "git", "python3", "sh", "bash")
