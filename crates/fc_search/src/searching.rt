@@ -39,7 +39,8 @@ use std::thread::Threads;
 /// `probe` is told of each once it is there: its round, its shard and its length. Rounds count from 1: what exact facets print is
 /// found in the first two or three, and the reply is made of those behind them, nine at most. After want of memory the probe has
 /// been told of some messages. The buckets on refined paths are exact over all shards; outermost facets that are exact or have no
-/// limit print what a single index prints of their domains; and without limits the reply is that of a single index with all the blocks.
+/// limit print the values of a single index over their domains, in their order, with their counts and statistics; and without limits
+/// the reply is that of a single index with all the blocks.
 pub fn search<R: Threads + Sync, T: Turns, P: Probe>(
     rt: &R,
     alloc: Global,
