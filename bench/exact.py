@@ -19,7 +19,7 @@ HOWS = REFINED, EXACT, WHOLE = "refined", "exact", "no limit"
 # What is measured: the field, the shards, the limit, and whether a facet is nested inside.
 Asked = collections.namedtuple("Asked", "field shards limit nested", defaults=[False])
 ASKED = [Asked(field, shards, limit) for field in ("brand", "number") for shards in (4, 64) for limit in (10, 1000)]
-ASKED += [Asked("number", 4, 10, True), Asked("word", 16, 10)]
+ASKED += [Asked("number", 4, 10, True), Asked("number", 4, 1_000_000), Asked("word", 16, 10)]
 VALUES = {"brand": "13 values", "number": "13,000 values", "word": "100,000 values by Zipf"}
 # How many times the time of the refined facet, and which part of the bytes of the one without a limit: at most.
 TIMES = {Asked("number", 4, 10): 2.5, Asked("brand", 4, 10): 2.5, Asked("number", 4, 10, True): 1.5}
@@ -31,6 +31,12 @@ def words_of(count):
     chance = random.Random(1)
     weights = [1 / rank for rank in range(1, 100_001)]
     return [f"w{number}" for number in chance.choices(range(100_000), weights, k=count)]
+
+
+def numbers_of(count):
+    """Values below 13,000, of which the small ones are more frequent, the same on each machine."""
+    chance = random.Random(2)
+    return [int(13_000 * chance.random() ** 2) for _ in range(count)]
 
 
 def facet_of(asked, how):
@@ -46,9 +52,9 @@ def search_of(asked, how):
     return run.search({"facet": {"top": facet_of(asked, how)}})
 
 
-def opening(options, shards, words):
+def opening(options, shards, words, numbers):
     def made(i):
-        return {"id": f"d{i}", "brand": f"b{7 * i % 13}", "number": (i * i + 31 * i) % 13_000, "word": words[i]}
+        return {"id": f"d{i}", "brand": f"b{7 * i % 13}", "number": numbers[i], "word": words[i]}
     return run.opening(options.documents, shards, None, fields=FIELDS, made=made)
 
 
@@ -85,7 +91,7 @@ def seconds_of(options, folder, head, line, is_dear):
 def measure(options, asked, head, sent):
     """By how it is asked: seconds, rounds and bytes."""
     lines = {how: search_of(asked, how) for how in HOWS}
-    is_dear = asked.limit > 10 or asked.field == "word"
+    is_dear = asked.field == "word" or asked.field == "number" and asked.limit > 10
     with tempfile.TemporaryDirectory() as folder:
         replies = run.run_once(options.program, written(folder, head, lines.values()))[1].splitlines()
         exact, whole = ([(bucket["val"], bucket["count"]) for bucket in buckets_of(reply)] for reply in replies[1:])
@@ -102,18 +108,18 @@ def main():
     words.add_argument("--runs", type=int, default=3, help="each figure is the least of so many runs")
     words.add_argument("--searches", type=int, default=100, help="a search is timed over so many, a dear one over a tenth")
     options = words.parse_args()
-    texts, found = words_of(options.documents), {}
+    texts, numbers, found = words_of(options.documents), numbers_of(options.documents), {}
     print("| Field | Shards | Limit | Facet | One search | Rounds | Bytes of all shards |")
     print("|---|---|---|---|---|---|---|")
     for shards in sorted({asked.shards for asked in ASKED}):
-        head = opening(options, shards, texts)
+        head = opening(options, shards, texts, numbers)
         sent = sent_by(options, shards, head)
         for asked in (one for one in ASKED if one.shards == shards):
             print(f"{asked}", file=sys.stderr, flush=True)
             found[asked] = measure(options, asked, head, sent)
             inside = ", with brands inside" if asked.nested else ""
             for how, (seconds, rounds, size) in found[asked].items():
-                print(f"| {VALUES[asked.field]}{inside} | {shards} | {asked.limit} | {how} | {1000 * seconds:.2f} ms | {rounds} | {size:,} |", flush=True)
+                print(f"| {VALUES[asked.field]}{inside} | {shards} | {asked.limit:,} | {how} | {1000 * seconds:.2f} ms | {rounds} | {size:,} |", flush=True)
     for asked, most in TIMES.items():
         print(f"{found[asked][EXACT][0] / found[asked][REFINED][0]:.2f} times the time of the refined facet (target: at most {most}): {asked}")
     for asked, most in PARTS.items():
