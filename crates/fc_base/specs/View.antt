@@ -17,6 +17,8 @@ field_type_view kind.Str = schema.string
 field_type_view kind.Strs = schema.strings
 field_type_view kind.Long = schema.plong
 field_type_view kind.Longs = schema.plongs
+field_type_view kind.Date = schema.pdate
+field_type_view kind.Dates = schema.pdates
 
 abbrev pub field_view : Field → schema.Field
 field_view f = record { name = f.name; kind = field_type_view f.kind }

@@ -7,13 +7,16 @@ use crate::Name;
 pub struct FieldId(pub u16);
 
 /// What values a field has: at most one text (`string`), texts (`strings`), at most one integer of 64
-/// bits signed (`plong`), or such integers (`plongs`).
+/// bits signed (`plong`), such integers (`plongs`), at most one date (`pdate`), or dates (`pdates`). Dates
+/// are texts: the canonical ones.
 #[derive(Clone, Copy, Debug, PartialEq, Eq)]
 pub enum FieldType {
     Str,
     Strs,
     Long,
     Longs,
+    Date,
+    Dates,
 }
 
 /// A field of a schema: its name and its type.

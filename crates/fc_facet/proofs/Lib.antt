@@ -1,3 +1,4 @@
+mod DateEdges
 pub mod FieldTypes
 pub mod RangeGaps
 pub mod RangeNumbers

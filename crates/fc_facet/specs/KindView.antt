@@ -11,6 +11,9 @@ use Rattle.fc_facet.specs.declared.kind.SortKey.TheVariants as key
 use Rattle.fc_facet.specs.declared.kind.Sort.{Sort}
 use Rattle.fc_facet.specs.declared.kind.Terms.{Terms}
 use Rattle.fc_facet.specs.declared.kind.Range.{Range}
+use Rattle.fc_facet.specs.declared.kind.DateRange.{DateRange}
+use Rattle.fc_facet.specs.declared.kind.AnyRange.{AnyRange}
+use Rattle.fc_facet.specs.declared.kind.AnyRange.TheVariants as ranged
 
 abbrev pub step_view : BlockStep → definition.BlockStep
 step_view step.Stay = definition.stay
@@ -59,3 +62,20 @@ range_view g = record {
   edge = g.edge;
   outer = g.outer;
 }
+
+abbrev pub date_range_view : DateRange → definition.DateRange
+date_range_view g = record {
+  field = g.field.0;
+  edges = g.edges.items;
+  before = g.before;
+  after = g.after;
+  between = g.between;
+  lower = g.lower;
+  upper = g.upper;
+  edge = g.edge;
+  outer = g.outer;
+}
+
+abbrev pub any_range_view : AnyRange → definition.Kind
+any_range_view (ranged.Integers g) = definition.range (range_view g)
+any_range_view (ranged.Dates g) = definition.date_range (date_range_view g)

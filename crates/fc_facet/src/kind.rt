@@ -16,6 +16,7 @@ pub enum Kind {
     Range(Range),
     /// One bucket, of the documents that match.
     Query(Query),
+    DateRange(DateRange),
     Stat(Stat),
 }
 
@@ -164,4 +165,51 @@ impl Range {
     {
         Ok(Val::Long(self.low_end(gap)))
     }
+}
+
+/// Buckets between dates over a field of dates. (Guide: JSON Facet API, "Range Facet")
+#[derive(Debug, Drop, PartialEq, Eq)]
+pub struct DateRange {
+    pub field: FieldId,
+    /// The canonical texts of the low ends of the buckets, ascending, and behind them that of the last high end; the start
+    /// alone where there is no bucket. At most 10,001.
+    pub edges: Vec<Name>,
+    /// Which buckets stand beside those of the gaps.
+    pub before: bool,
+    pub after: bool,
+    pub between: bool,
+    /// Which ends the buckets hold.
+    pub lower: bool,
+    pub upper: bool,
+    pub edge: bool,
+    pub outer: bool,
+}
+
+impl DateRange {
+    ghost use Rattle.fc_spec.specs.requests.DateGaps.{date_gap_count, low_date};
+    ghost use Rattle.fc_facet.specs.RangeGaps.{HasFewEdges};
+    ghost use Rattle.fc_facet.specs.KindView.{date_range_view};
+
+    /// How many buckets of the gaps there are.
+    pub fn gaps(&self) -> u32
+        requires { HasFewEdges (date_range_view self.now) }
+        ensures { result ≡ date_gap_count (date_range_view self.now) }
+    {
+        (self.edges.len() - 1) as u32
+    }
+
+    /// The low end of a gap, from number 0. (Guide: JSON Facet API, "Range Facet")
+    pub fn low(&self, alloc: Global, gap: u32) -> Result<Val, WantMemory>
+        requires { gap < date_gap_count (date_range_view self.now) }
+        ensures { IfOk result (λ val. val_view val ≡ definition.text (low_date (date_range_view self.now) gap)) }
+    {
+        Ok(Val::Text(self.edges[gap as usize].copy(alloc)?))
+    }
+}
+
+/// A range facet over integers, or over dates.
+#[derive(Debug, Drop)]
+pub enum AnyRange {
+    Integers(Range),
+    Dates(DateRange),
 }

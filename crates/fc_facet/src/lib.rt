@@ -9,4 +9,4 @@ pub mod reading;
 
 pub use domain::{BlockStep, Domain};
 pub use fault::QFault;
-pub use kind::{Kind, Range, Sort, SortKey, Terms};
+pub use kind::{AnyRange, DateRange, Kind, Range, Sort, SortKey, Terms};

@@ -1,4 +1,5 @@
 //! Readers of the parts of a request that have no facets inside them. Each gives the part, or the first fault.
+mod dates;
 mod domain;
 mod fields;
 mod filters;
@@ -9,6 +10,7 @@ mod statistic;
 mod terms;
 mod words;
 
+pub use dates::any_range_in;
 pub use domain::{change_in, no_change};
 pub use filters::{filters_in, zero_in};
 pub use query::{main_query, query_part};

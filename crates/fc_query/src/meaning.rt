@@ -12,6 +12,7 @@ use crate::tokens::{Operator, Sign, Value, WrittenRange};
 use crate::trees::{Atom, Clause};
 use crate::{QueryFault, query};
 use fc_base::{FieldId, FieldType, Name, Refusal, Schema, Val, long_of};
+use fc_dates::canonical;
 use std::alloc::Global;
 
 fn text_value(alloc: Global, kind: FieldType, text: &str) -> Result<Val, Refusal<QueryFault>>
@@ -21,6 +22,10 @@ fn text_value(alloc: Global, kind: FieldType, text: &str) -> Result<Val, Refusal
         FieldType::Str | FieldType::Strs => Ok(Val::Text(Name::new(alloc, text)?)),
         FieldType::Long | FieldType::Longs => match long_of(text) {
             Some(number) => Ok(Val::Long(number)),
+            None => Err(Refusal::Fault(QueryFault::BadValue)),
+        },
+        FieldType::Date | FieldType::Dates => match canonical(text) {
+            Some(date) => Ok(Val::Text(Name::new(alloc, date.text())?)),
             None => Err(Refusal::Fault(QueryFault::BadValue)),
         },
     }

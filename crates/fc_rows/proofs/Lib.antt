@@ -1,5 +1,6 @@
 pub mod Words
 pub mod documents
+pub mod dates
 pub mod queries
 pub mod scripts
 pub mod messages

@@ -12,6 +12,7 @@ pub mod NestedRefining
 pub mod LeastPrice
 pub mod Pages
 pub mod RangeEnds
+pub mod MonthRange
 pub mod Families
 pub mod FamilySteps
 pub mod MissingBucket

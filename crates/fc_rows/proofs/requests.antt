@@ -1,6 +1,7 @@
 pub mod DomainFaults
 pub mod FamilySets
 pub mod ReadRanges
+pub mod ReadDateRanges
 pub mod ReadRequests
 pub mod RequestBounds
 pub mod RequestFaults

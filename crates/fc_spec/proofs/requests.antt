@@ -12,6 +12,7 @@ pub mod Certificate
 pub mod Together
 pub mod ValidChanges
 pub mod ValidKinds
+pub mod ValidDateRanges
 pub mod ValidNodes
 pub mod Searchable
 pub mod OnlyExact

@@ -1,5 +1,6 @@
 pub mod words
 pub mod documents
+pub mod dates
 pub mod queries
 pub mod requests
 pub mod replies

@@ -1,4 +1,5 @@
 pub mod CombiningLaw
+pub mod DateLaws
 pub mod SortingLaw
 pub mod WithoutLimits
 pub mod RefinedPaths

@@ -3,6 +3,7 @@ pub mod RequestFault
 pub mod Base
 pub mod Domain
 pub mod Gaps
+pub mod DateGaps
 pub mod Buckets
 pub mod DomainSets
 pub mod Statistics
@@ -16,5 +17,6 @@ pub mod StatisticReading
 pub mod DomainReading
 pub mod SortReading
 pub mod FacetReading
+pub mod DateRangeReading
 pub mod RequestReading
 pub mod ValidRequests

@@ -4,6 +4,13 @@
 //! asked for.
 #![tactic(auto)]
 
+ghost use Rattle.fc_spec.specs.laws.DateLaws.{
+  AreReadAgain,
+  CanonicalsAreTheirOwn,
+  GapsAreSome,
+  SumsAreLater,
+  TextsAreInOrder,
+};
 ghost use Rattle.fc_spec.specs.laws.Blockwise.{
   AreSetsAgain,
   BasesAreBlockwise,
@@ -386,4 +393,14 @@ pub fn sets_hold_on_live_blocks()
     ensures passing { PassingOnLive }
     ensures of_sets { PassingOfOnLive }
     ensures changes { ChangesOnLive }
+{}
+
+/// The byte order of canonical texts is the order of time, a canonical text says the moment that it is of, and what is a
+/// gap later is later.
+pub fn dates_are_in_order()
+    ensures order { TextsAreInOrder }
+    ensures again { AreReadAgain }
+    ensures own { CanonicalsAreTheirOwn }
+    ensures sums { SumsAreLater }
+    ensures gaps { GapsAreSome }
 {}

@@ -65,6 +65,8 @@ fn type_named(text: &str) -> Option<FieldType>
         "strings" => Some(FieldType::Strs),
         "plong" => Some(FieldType::Long),
         "plongs" => Some(FieldType::Longs),
+        "pdate" => Some(FieldType::Date),
+        "pdates" => Some(FieldType::Dates),
         _ => None,
     }
 }

@@ -38,8 +38,8 @@ pub(crate) fn takes(kind: FieldType, count: usize) -> bool
     ensures { result ≡ takes (field_type_view kind) count }
 {
     match kind {
-        FieldType::Str | FieldType::Long => count <= 1,
-        FieldType::Strs | FieldType::Longs => true,
+        FieldType::Str | FieldType::Long | FieldType::Date => count <= 1,
+        FieldType::Strs | FieldType::Longs | FieldType::Dates => true,
     }
 }
 

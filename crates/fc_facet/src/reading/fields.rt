@@ -1,7 +1,7 @@
 // The fields of a schema: which one is named, and what it holds.
 ghost use Rattle.std.specs.Prelude.{◌≡◌, ◌<◌, length, not, IfOk};
 ghost use Rattle.serde_json.specs.View.{view};
-ghost use Rattle.fc_spec.specs.documents.Schema.{holds_texts};
+ghost use Rattle.fc_spec.specs.documents.Schema.{holds_dates, holds_texts};
 ghost use Rattle.fc_spec.specs.requests.FacetReading as reading;
 ghost use Rattle.fc_spec.specs.requests.StatisticReading.{has_type};
 ghost use Rattle.fc_base.specs.Answers.{Answers};
@@ -17,7 +17,7 @@ fn is_of_texts(kind: FieldType) -> bool
     ensures { result ≡ holds_texts (field_type_view kind) }
 {
     match kind {
-        FieldType::Str | FieldType::Strs => true,
+        FieldType::Str | FieldType::Strs | FieldType::Date | FieldType::Dates => true,
         FieldType::Long | FieldType::Longs => false,
     }
 }
@@ -36,6 +36,23 @@ pub(crate) fn holds_integers(schema: &Schema, field: FieldId) -> bool
     ensures { result ≡ has_type schema.now (λ kind. not (holds_texts kind)) field.0 }
 {
     !is_of_texts(schema.field_type(field))
+}
+
+fn is_of_dates(kind: FieldType) -> bool
+    ensures { result ≡ holds_dates (field_type_view kind) }
+{
+    match kind {
+        FieldType::Date | FieldType::Dates => true,
+        FieldType::Str | FieldType::Strs | FieldType::Long | FieldType::Longs => false,
+    }
+}
+
+/// A field of the schema holds dates.
+pub(crate) fn holds_dates(schema: &Schema, field: FieldId) -> bool
+    requires { field.0 < length schema.now.fields }
+    ensures { result ≡ has_type schema.now holds_dates field.0 }
+{
+    is_of_dates(schema.field_type(field))
 }
 
 /// The field of this name.

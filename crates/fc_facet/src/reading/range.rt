@@ -21,9 +21,9 @@ use fc_base::{FieldId, Refusal, Schema};
 use serde_json::{Map, Value};
 use std::alloc::Global;
 
-const OTHER: [&str; 5] = ["before", "after", "between", "none", "all"];
+pub(super) const OTHER: [&str; 5] = ["before", "after", "between", "none", "all"];
 
-const INCLUDE: [&str; 5] = ["lower", "upper", "edge", "outer", "all"];
+pub(super) const INCLUDE: [&str; 5] = ["lower", "upper", "edge", "outer", "all"];
 
 // Whether the word is among these texts.
 fn has_word(texts: &[&str], word: &str) -> bool
@@ -66,7 +66,7 @@ fn words_of<'v>(
 }
 
 // None where the member is absent.
-fn words_in<'v>(
+pub(super) fn words_in<'v>(
     alloc: Global,
     members: &'v Map<String, Value>,
     name: &str,
@@ -82,21 +82,21 @@ fn words_in<'v>(
     }
 }
 
-fn asks_for(texts: &[&str], word: &str) -> bool
+pub(super) fn asks_for(texts: &[&str], word: &str) -> bool
     ensures { result ≡ reading.asks_for word.now (map (λ text. text.now) texts.now) }
 {
     has_word(texts, word) || has_word(texts, "all")
 }
 
 // `none` beside others wins.
-fn asks_beside(texts: &[&str], word: &str) -> bool
+pub(super) fn asks_beside(texts: &[&str], word: &str) -> bool
     ensures { result ≡ reading.asks_beside word.now (map (λ text. text.now) texts.now) }
 {
     asks_for(texts, word) && !has_word(texts, "none")
 }
 
 // `lower` where no end is named.
-fn asks_for_lower(texts: &[&str]) -> bool
+pub(super) fn asks_for_lower(texts: &[&str]) -> bool
     ensures { result ≡ (is_empty (map (λ text. text.now) texts.now)
         || reading.asks_for (codes "lower") (map (λ text. text.now) texts.now)) }
 {

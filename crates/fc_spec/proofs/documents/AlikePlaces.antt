@@ -7,7 +7,7 @@ use Rattle.fc_spec.specs.documents.Val.{Val, distinct}
 use Rattle.fc_spec.specs.documents.Document.{values_of}
 use Rattle.fc_spec.specs.words.Lists.{is_empty}
 use Rattle.fc_spec.specs.documents.World.{Place}
-use Rattle.fc_spec.specs.requests.Request.{StatKind, sum, min, max, countvals, missing, Stat, Terms, Kind, terms, range, query}
+use Rattle.fc_spec.specs.requests.Request.{StatKind, sum, min, max, countvals, missing, Stat, Terms, Kind, terms, range, date_range, query}
 use Rattle.fc_spec.specs.requests.Buckets.{Key, value, in_bucket, bucket_places}
 use Rattle.fc_spec.specs.documents.Columns.{longs_in}
 use Rattle.fc_spec.specs.requests.Statistics.{number, extreme, pair_values, total_of, least_of, greatest_of, statistic_in, value_over, stats_over}
@@ -64,4 +64,5 @@ entries_renumbered n t ss X = λ i. map (λ v. record { val = v; stats = same v 
 pub keys_renumbered : (n : Numbers) (kind : Kind) (ss : List Stat) (X : List Place) → exact_keys kind ss (map (renumbered n) X) ≡ exact_keys kind ss X
 keys_renumbered n (terms t) ss X = ap (terms_keys t) (entries_renumbered n t ss X)
 keys_renumbered n (range g) ss X = refl
+keys_renumbered n (date_range g) ss X = refl
 keys_renumbered n (query q) ss X = refl

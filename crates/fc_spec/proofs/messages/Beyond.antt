@@ -2,7 +2,7 @@
 use Rattle.std.proofs.Common.{◌≡◌, ℕ, zero, suc, ◌+◌, ◌≤◌, max, List, [], ◌∷◌, ◌++◌, Bool, true, false, cond, ◌&&◌, ◌==◌, refl, sym, ap, subst, inl, inr, arith}
 use Rattle.std.specs.List.{flat_map}
 use Rattle.fc_spec.specs.words.Lists.{is_empty}
-use Rattle.fc_spec.specs.requests.Request.{Kind, terms, range, query, Facet, Nodes, no_nodes, statistic, facet}
+use Rattle.fc_spec.specs.requests.Request.{Kind, terms, range, date_range, query, Facet, Nodes, no_nodes, statistic, facet}
 use Rattle.fc_spec.specs.requests.Buckets.{Key, value}
 use Rattle.fc_spec.specs.replies.Reading.{Reading}
 use Rattle.fc_spec.specs.replies.Chosen.{offering, chosen}
@@ -32,6 +32,7 @@ nothing_at : {B D : Type 0} (R : Reading B D) (kind : Kind) (inner : Nodes) (e n
 nothing_at R (terms t) inner zero n H Y way under h u = absurd (let bad : 1 + terms_depth inner ≤ 0 = h in omega arith)
 nothing_at R (terms t) inner (suc e) n H Y way under h u = u e (let less : 1 + terms_depth inner ≤ suc e = h in omega arith)
 nothing_at R (range g) inner e n H Y way under h u = u e (let less : 0 + terms_depth inner ≤ e = h in omega arith)
+nothing_at R (date_range g) inner e n H Y way under h u = u e (let less : 0 + terms_depth inner ≤ e = h in omega arith)
 nothing_at R (query q) inner e n H Y way under h u = u e (let less : 0 + terms_depth inner ≤ e = h in omega arith)
 
 -- beyond the depth of the nodes nothing is wanted
@@ -78,6 +79,7 @@ at_among R (terms t) inner zero n H Y way under l u m = go (asks_again t inner) 
     go false m = absurd m
 at_among R (terms t) inner (suc e) n H Y way under l u m = u e m
 at_among R (range g) inner e n H Y way under l u m = u e m
+at_among R (date_range g) inner e n H Y way under l u m = u e m
 at_among R (query q) inner e n H Y way under l u m = u e m
 
 pub wanted_among : {B D : Type 0} (R : Reading B D) (nodes : Nodes) (e n : ℕ) (H : List ℕ) (X : B) (way : Way) (l : Lack) → Member l (wanted R e nodes n H X way) → Member l.shard H

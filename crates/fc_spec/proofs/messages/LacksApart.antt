@@ -3,7 +3,7 @@ use Rattle.std.proofs.Common.{◌≡◌, ℕ, zero, suc, ◌≤◌, List, [], �
 use Rattle.std.specs.List.{filter, flat_map}
 use Rattle.std.proofs.lemmas.Bool.{eq-eqb, eqb-true}
 use Rattle.fc_spec.specs.words.Lists.{is_empty, numbers_below}
-use Rattle.fc_spec.specs.requests.Request.{Terms, Kind, terms, range, query, Facet, Nodes, no_nodes, statistic, facet, Request}
+use Rattle.fc_spec.specs.requests.Request.{Terms, Kind, terms, range, date_range, query, Facet, Nodes, no_nodes, statistic, facet, Request}
 use Rattle.fc_spec.specs.requests.Buckets.{Key, value}
 use Rattle.fc_spec.specs.requests.Shape.{asks_again, counts_all}
 use Rattle.fc_spec.specs.replies.Reading.{Reading}
@@ -121,6 +121,7 @@ at_apart R (terms t) inner zero n H Y way under d u = go (asks_again t inner)
     go false = (tt, λ l i. absurd i)
 at_apart R (terms t) inner (suc e) n H Y way under d u = u e
 at_apart R (range g) inner e n H Y way under d u = u e
+at_apart R (date_range g) inner e n H Y way under d u = u e
 at_apart R (query q) inner e n H Y way under d u = u e
 
 part_apart : (way : Way) (n : ℕ) (empty : Bool) (f : Facet) (all : List Lack) → Differ StandApart all × AreAt way n all → Differ StandApart (facet_wanted empty f all) × AreAt way n (facet_wanted empty f all)

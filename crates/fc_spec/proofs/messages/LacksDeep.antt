@@ -1,7 +1,7 @@
 -- What lacks at a depth has one step more to terms facets.
 use Rattle.std.proofs.Common.{◌≡◌, ℕ, zero, suc, ◌+◌, List, [], ◌∷◌, ◌++◌, Bool, true, false, cond, ◌==◌, Some, is_none, refl, sym, ◌∙◌, ap, subst, inl, inr, arith}
 use Rattle.fc_spec.specs.words.Lists.{numbers_below}
-use Rattle.fc_spec.specs.requests.Request.{Terms, Kind, terms, range, query, Facet, Nodes, no_nodes, statistic, facet, Request}
+use Rattle.fc_spec.specs.requests.Request.{Terms, Kind, terms, range, date_range, query, Facet, Nodes, no_nodes, statistic, facet, Request}
 use Rattle.fc_spec.specs.requests.Buckets.{Key, value}
 use Rattle.fc_spec.specs.requests.Paths.{at_root}
 use Rattle.fc_spec.specs.requests.Shape.{asks_again}
@@ -67,6 +67,8 @@ module _ (r : Request) (A : List Told) where
   at_deep way n f (terms t) inner H (suc e) l is at inside m =
       under_deep way n f inner H e l at inside (subst (λ k. Member l (under_held A k inner n H way e)) (sym is) m) ∙ ap (λ k. way_depth r.nodes way + own_depth k + e + 1) is ∙ omega arith
   at_deep way n f (range g) inner H e l is at inside m =
+      under_deep way n f inner H e l at inside (subst (λ k. Member l (under_held A k inner n H way e)) (sym is) m) ∙ ap (λ k. way_depth r.nodes way + own_depth k + e + 1) is ∙ omega arith
+  at_deep way n f (date_range g) inner H e l is at inside m =
       under_deep way n f inner H e l at inside (subst (λ k. Member l (under_held A k inner n H way e)) (sym is) m) ∙ ap (λ k. way_depth r.nodes way + own_depth k + e + 1) is ∙ omega arith
   at_deep way n f (query q) inner H e l is at inside m =
       under_deep way n f inner H e l at inside (subst (λ k. Member l (under_held A k inner n H way e)) (sym is) m) ∙ ap (λ k. way_depth r.nodes way + own_depth k + e + 1) is ∙ omega arith

@@ -4,7 +4,7 @@ use Rattle.std.specs.List.{AllByRecursion}
 use Rattle.std.proofs.lemmas.Bool.{false≢true, and_parts, and_from}
 use Rattle.fc_spec.specs.documents.Val.{Text}
 use Rattle.fc_spec.specs.words.Lists.{numbers_below}
-use Rattle.fc_spec.specs.requests.Request.{Terms, Kind, terms, range, query, DomainChange, Facet, Nodes, no_nodes, statistic, facet, Request}
+use Rattle.fc_spec.specs.requests.Request.{Terms, Kind, terms, range, date_range, query, DomainChange, Facet, Nodes, no_nodes, statistic, facet, Request}
 use Rattle.fc_spec.specs.requests.Buckets.{Key, value, has_prefix, is_key_of}
 use Rattle.fc_spec.specs.requests.Paths.{Path, at_root, into}
 use Rattle.fc_spec.specs.requests.Shape.{asks_again}
@@ -49,6 +49,7 @@ module _ (most : Terms → Option ℕ) (r : Request) (A : List Told) (fitting : 
   held_offers : (way : Way) (n : ℕ) (name : Text) (change : DomainChange) (kind : Kind) (inner : Nodes) → facet_at n (nodes_of r way) ≡ Some (record { name = name; change = change; kind = kind }, inner) → OfferPrefixed (over_held A) kind inner (node_at way n)
   held_offers way n name change (terms t) inner at = λ i. held_prefixed most r A way n i (record { name = name; change = change; kind = terms t }) t inner fitting at refl
   held_offers way n name change (range g) inner at = tt
+  held_offers way n name change (date_range g) inner at = tt
   held_offers way n name change (query q) inner at = tt
 
   names_key : (way : Way) (n : ℕ) (f : Facet) (inner : Nodes) (key : Key) → names_keys r.nodes way ≡ true → facet_at n (nodes_of r way) ≡ Some (f, inner) → is_key_of f.kind key ≡ true → names_keys r.nodes (way ++ step_to n key) ≡ true
@@ -86,6 +87,7 @@ module _ (most : Terms → Option ℕ) (r : Request) (A : List Told) (fitting : 
       go false again there = absurd there
   at_named way n name change (terms t) inner H (suc e) l names at inside m = under_named way n name change (terms t) inner H e l names at inside m
   at_named way n name change (range g) inner H e l names at inside m = under_named way n name change (range g) inner H e l names at inside m
+  at_named way n name change (date_range g) inner H e l names at inside m = under_named way n name change (date_range g) inner H e l names at inside m
   at_named way n name change (query q) inner H e l names at inside m = under_named way n name change (query q) inner H e l names at inside m
 
   pub wanted_named : (nodes : Nodes) (e n m : ℕ) (H : List ℕ) (way : Way) (l : Lack) → names_keys r.nodes way ≡ true → AreFrom r [] way n m nodes → Member l (wanted (over_held A) e nodes n H way way) → IsNamed r l.want

@@ -6,7 +6,7 @@ use Rattle.std.proofs.lemmas.Bool.{false≢true, eq-eqb, and_from}
 use Rattle.std.proofs.lemmas.List.Sums.{sum_by-cons}
 use Rattle.fc_spec.specs.documents.Val.{Val, same_val}
 use Rattle.fc_spec.specs.words.Lists.{numbers_below}
-use Rattle.fc_spec.specs.requests.Request.{Kind, terms, range, query, Nodes, no_nodes, statistic, facet}
+use Rattle.fc_spec.specs.requests.Request.{Kind, terms, range, date_range, query, Nodes, no_nodes, statistic, facet}
 use Rattle.fc_spec.specs.requests.Ranks.{Entry, rank}
 use Rattle.fc_spec.specs.requests.Least.{count_first, count_or_one, count_at, least_count}
 use Rattle.fc_spec.specs.replies.Tops.{top_bound}
@@ -69,6 +69,7 @@ module _ (n : ℕ) (A : List ToldCount) (some : 1 ≤ n) (all : AreCounts n A) w
           has_one [] m = absurd m
           has_one (i ∷ is) m = omega arith
   kind_some k (range g) h = absurd h
+  kind_some k (date_range g) h = absurd h
   kind_some k (query q) h = absurd h
 
   nodes_some : (nodes : Nodes) (k : ℕ) → AreTopNodes nodes → AllByRecursion (λ c. 1 ≤ c) (leasts_from A H nodes k)

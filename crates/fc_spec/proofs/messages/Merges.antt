@@ -4,7 +4,7 @@ use Rattle.std.specs.List.{AllByRecursion, flat_map, slice_get}
 use Rattle.fc_spec.specs.documents.Val.{Text}
 use Rattle.fc_spec.specs.words.Lists.{is_empty}
 use Rattle.fc_spec.specs.documents.World.{World, on_shards}
-use Rattle.fc_spec.specs.requests.Request.{Stat, Kind, terms, range, query, DomainChange, Facet, Nodes, no_nodes, statistic, facet, Request, stats_of}
+use Rattle.fc_spec.specs.requests.Request.{Stat, Kind, terms, range, date_range, query, DomainChange, Facet, Nodes, no_nodes, statistic, facet, Request, stats_of}
 use Rattle.fc_spec.specs.requests.Buckets.{Key, value, whole, bucket_places}
 use Rattle.fc_spec.specs.requests.Statistics.{shown}
 use Rattle.fc_spec.specs.replies.Reply.{bucket, Facets, row_of, part, with_buckets, many, one, spot_of, val_of}
@@ -39,11 +39,13 @@ with_buckets_alike : (name : Text) (kind : Kind) (c d : Key → ℕ) (i j : Key 
     → with_buckets name kind c i keys more ≡ with_buckets name kind d j keys more
 with_buckets_alike name (terms t) c d i j keys more w h e = ap (λ row. many name row more) (row_of_alike (terms t) c d i j keys h e)
 with_buckets_alike name (range g) c d i j keys more w h e = ap (λ row. many name row more) (row_of_alike (range g) c d i j keys h e)
+with_buckets_alike name (date_range g) c d i j keys more w h e = ap (λ row. many name row more) (row_of_alike (date_range g) c d i j keys h e)
 with_buckets_alike name (query q) c d i j keys more w h e = λ x. one name (bucket None (h whole w x) (e whole w x)) more
 
 has_whole : (r : Request) (W : World) (kind : Kind) (inner : Nodes) (H : List ℕ) (Y : PathDomain) → HasWhole kind (printed_keys (over_places r W) kind inner H Y)
 has_whole r W (terms t) inner H Y = tt
 has_whole r W (range g) inner H Y = tt
+has_whole r W (date_range g) inner H Y = tt
 has_whole r W (query q) inner H Y = inl refl
 
 -- each shard has told of what is wanted of it
@@ -85,6 +87,7 @@ facet_told r W A H way X n name change (terms t) inner all state at e = λ asks 
     (subst (λ b. AllTold A (cond b (wanted_values (over_held A) t inner n H (node_at way n) way) [])) asks e)
     (subst (λ vs. Member v vs) (sym (chosen_agree r W A H way X n name change t inner all state at)) m)) here
 facet_told r W A H way X n name change (range g) inner all state at e = tt
+facet_told r W A H way X n name change (date_range g) inner all state at e = tt
 facet_told r W A H way X n name change (query q) inner all state at e = tt
 
 -- the nodes from the n-th on, and the statistics from the m-th on
@@ -116,6 +119,7 @@ Inside r W A inner = (H : List ℕ) (way : Way) (X : PathBucket) → IsState r W
 told_inside : (A : List Told) (H : List ℕ) (way : Way) (n : ℕ) (kind : Kind) (inner : Nodes) → ((e : ℕ) → AllTold A (wanted_held A kind inner n H way e)) → (e : ℕ) → AllTold A (under_held A kind inner n H way e)
 told_inside A H way n (terms t) inner told e = told (suc e)
 told_inside A H way n (range g) inner told e = told e
+told_inside A H way n (date_range g) inner told e = told e
 told_inside A H way n (query q) inner told e = told e
 
 -- the buckets of a facet

@@ -9,14 +9,14 @@ use Rattle.fc_spec.specs.documents.Document.{Document, Block}
 use Rattle.fc_spec.specs.words.Lists.{is_empty}
 use Rattle.fc_spec.specs.queries.Matching.{matches}
 use Rattle.fc_spec.specs.documents.World.{World, Place, places, places_from, shard_places, block_places, on_shards, same_block}
-use Rattle.fc_spec.specs.requests.Request.{Stat, Request, BlockStep, stay, parents, children, DomainChange, Kind, terms, range, query, Nodes, no_nodes, statistic, facet, stats_of}
+use Rattle.fc_spec.specs.requests.Request.{Stat, Request, BlockStep, stay, parents, children, DomainChange, Kind, terms, range, date_range, query, Nodes, no_nodes, statistic, facet, stats_of}
 use Rattle.fc_spec.specs.requests.Base.{meets_base}
 use Rattle.fc_spec.specs.requests.Domain.{moved, filtered, is_parent_of}
 use Rattle.fc_spec.specs.requests.Buckets.{Key, value, missing, whole, in_bucket, bucket_places}
 use Rattle.fc_spec.specs.requests.Paths.{Path, at_root, into, meets_rebuilt, rebuilt, domain, path_places}
 use Rattle.fc_spec.specs.requests.Shape.{no_exclusions}
 use Rattle.fc_spec.specs.requests.Statistics.{stats_over}
-use Rattle.fc_spec.specs.replies.Printed.{asked, range_keys}
+use Rattle.fc_spec.specs.replies.Printed.{asked, range_keys, date_range_keys}
 use Rattle.fc_spec.specs.requests.Ranks.{below_rank, rank_bound}
 use Rattle.fc_spec.specs.replies.Values.{entries_in}
 use Rattle.fc_spec.specs.messages.Message.{Partials, no_partials, partial, row, Way, Want, way_of, Ask, first, more}
@@ -181,6 +181,7 @@ keys_put i j (terms t) inner D alike =
     let entries = ap (entries_in t (stats_of inner)) alike ∙ entries_renumbered (to_shard j) t (stats_of inner) (part i D) in
     λ k. map value (map (λ e. e.val) (below_rank t.sort (rank_bound t.offset t.limit t.overrequest) (entries k))) ++ listed_put j (terms t) inner D (asked t.missing missing) k
 keys_put i j (range g) inner D alike = listed_put j (range g) inner D (range_keys g)
+keys_put i j (date_range g) inner D alike = listed_put j (date_range g) inner D (date_range_keys g)
 keys_put i j (query q) inner D alike = refl
 
 -- the statistics of a bucket are the same
@@ -231,6 +232,7 @@ least_keys_put i j n (terms t) inner D alike =
     let entries = ap (entries_in t []) alike ∙ entries_renumbered (to_shard j) t [] (part i D) in
     λ k. map value (map (λ e. e.val) (filter (λ e. nat_le n e.stats.count) (entries k))) ++ listed_put j (terms t) inner D (asked t.missing missing) k
 least_keys_put i j n (range g) inner D alike = keys_put i j (range g) inner D alike
+least_keys_put i j n (date_range g) inner D alike = keys_put i j (date_range g) inner D alike
 least_keys_put i j n (query q) inner D alike = keys_put i j (query q) inner D alike
 
 least_rows_alike : (r : Request) (V W : World) (i j : ℕ) (nodes : Nodes) (ns : List ℕ) (X Y : List Place) → SameAt i j V W → Alike i j X Y → least_rows r W j nodes ns Y ≡ least_rows r V i nodes ns X

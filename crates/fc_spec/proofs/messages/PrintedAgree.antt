@@ -3,7 +3,7 @@ use Rattle.std.proofs.Common.{◌≡◌, ◌⊎◌, ℕ, List, ◌++◌, map, Bo
 use Rattle.std.specs.List.{AllByRecursion, filter}
 use Rattle.fc_spec.specs.documents.Val.{Text, Val}
 use Rattle.fc_spec.specs.documents.World.{World}
-use Rattle.fc_spec.specs.requests.Request.{Terms, Kind, terms, range, query, DomainChange, Facet, Nodes, Request}
+use Rattle.fc_spec.specs.requests.Request.{Terms, Kind, terms, range, date_range, query, DomainChange, Facet, Nodes, Request}
 use Rattle.fc_spec.specs.requests.Buckets.{Key, value, missing}
 use Rattle.fc_spec.specs.requests.Ranks.{Entry, rank, page}
 use Rattle.fc_spec.specs.replies.Printed.{asked, terms_keys}
@@ -82,6 +82,7 @@ pub keys_agree : (r : Request) (W : World) (A : List Told) (H : List ℕ) (way :
     → printed_keys (over_held A) kind inner H (node_at way n) ≡ printed_keys (over_places r W) kind inner H (domain_there r W H (facet_of name change kind) X)
 keys_agree r W A H way X n name change (terms t) inner all state at told = ap (terms_keys t) (chosen_entries_agree r W A H way X n name change t inner all state at told)
 keys_agree r W A H way X n name change (range g) inner all state at told = refl
+keys_agree r W A H way X n name change (date_range g) inner all state at told = refl
 keys_agree r W A H way X n name change (query q) inner all state at told = refl
 
 -- the shards that the bucket of a key carries
@@ -122,4 +123,5 @@ printed_state r W A H way X n name change (terms t) inner key all state at told 
           (other_state r W A H way X n (facet_of name change (terms t)) inner missing all state at (subst (λ k. Member k (asked t.missing missing)) (asked_is t.missing missing key b) b))
     ]
 printed_state r W A H way X n name change (range g) inner key all state at told m = other_state r W A H way X n (facet_of name change (range g)) inner key all state at m
+printed_state r W A H way X n name change (date_range g) inner key all state at told m = other_state r W A H way X n (facet_of name change (date_range g)) inner key all state at m
 printed_state r W A H way X n name change (query q) inner key all state at told m = other_state r W A H way X n (facet_of name change (query q)) inner key all state at m

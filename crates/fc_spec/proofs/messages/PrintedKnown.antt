@@ -5,10 +5,10 @@ use Rattle.std.proofs.lemmas.Bool.{false≢true, eqb-true, not-false}
 use Rattle.fc_spec.specs.documents.Val.{Text, Val, has_val}
 use Rattle.fc_spec.specs.words.Lists.{is_empty}
 use Rattle.fc_spec.specs.documents.World.{World, Place}
-use Rattle.fc_spec.specs.requests.Request.{Terms, Kind, terms, range, query, DomainChange, Facet, Nodes, Request}
+use Rattle.fc_spec.specs.requests.Request.{Terms, Kind, terms, range, date_range, query, DomainChange, Facet, Nodes, Request}
 use Rattle.fc_spec.specs.requests.Paths.{domain}
 use Rattle.fc_spec.specs.requests.Buckets.{Key, value, missing, whole, bucket_places}
-use Rattle.fc_spec.specs.replies.Printed.{asked, range_keys}
+use Rattle.fc_spec.specs.replies.Printed.{asked, range_keys, date_range_keys}
 use Rattle.fc_spec.specs.replies.Values.{value_places, values_in}
 use Rattle.fc_spec.specs.replies.Reading.{PathBucket, PathDomain, offered, over_places}
 use Rattle.fc_spec.specs.replies.Chosen.{offering, known}
@@ -46,6 +46,7 @@ none_held o e h = false≢true (sym (ap is_some e) ∙ h)
 abbrev pub other_keys : Kind → List Key
 other_keys (terms t) = asked t.missing missing
 other_keys (range g) = range_keys g
+other_keys (date_range g) = date_range_keys g
 other_keys (query q) = whole ∷ []
 
 member_behind : {X : Type 0} (xs ys : List X) (x : X) → Member x ys → Member x (xs ++ ys)
@@ -75,11 +76,13 @@ listed_or_empty (terms t) inner Y i key m = elim (listed_among (terms t) inner Y
   | inr empty ↦ inr empty
 ]
 listed_or_empty (range g) inner Y i key m = listed_among (range g) inner Y (range_keys g) key m
+listed_or_empty (date_range g) inner Y i key m = listed_among (date_range g) inner Y (date_range_keys g) key m
 listed_or_empty (query q) inner Y i key m = inl m
 
 all_others_listed : (kind : Kind) (inner : Nodes) (Y : List Place) (i : ℕ) (key : Key) → no_exclusions inner ≡ false → Member key (other_keys kind) → Member key (answer_keys kind inner Y i)
 all_others_listed (terms t) inner Y i key holds m = member_behind (map value (offered t inner Y i)) (listed_keys (terms t) inner Y (asked t.missing missing)) key (all_listed (terms t) inner Y (asked t.missing missing) key holds m)
 all_others_listed (range g) inner Y i key holds m = all_listed (range g) inner Y (range_keys g) key holds m
+all_others_listed (date_range g) inner Y i key holds m = all_listed (date_range g) inner Y (date_range_keys g) key holds m
 all_others_listed (query q) inner Y i key holds m = m
 
 -- a shard without a place in the bucket around has none in the bucket of a key

@@ -1,7 +1,7 @@
 -- With query facets in the place of exact ones, terms facets nest no deeper.
 use Rattle.std.proofs.Common.{◌≡◌, ◌+◌, ◌≤◌, max, List, [], ◌∷◌, Bool, true, false, cond, refl, sym, subst, arith}
 use Rattle.fc_spec.specs.documents.Val.{Val}
-use Rattle.fc_spec.specs.requests.Request.{Terms, Kind, terms, range, query, Facet, Nodes, no_nodes, statistic, facet}
+use Rattle.fc_spec.specs.requests.Request.{Terms, Kind, terms, range, date_range, query, Facet, Nodes, no_nodes, statistic, facet}
 use Rattle.fc_spec.specs.requests.Shape.{is_exact}
 use Rattle.fc_spec.specs.requests.Buckets.{Key}
 use Rattle.fc_spec.specs.replies.Tops.{key_nodes, top_keys, first_list, lists_after, replaced_facet, replaced_nodes}
@@ -18,6 +18,7 @@ facet_depth f (terms t) inner vs more e = go (is_exact (terms t))
     go true = let keys = keys_depth f t inner (top_keys t vs) more in omega arith
     go false = subst (λ k. max (own_depth k + terms_depth inner) (terms_depth more) ≤ max (1 + terms_depth inner) (terms_depth more)) (sym e) (omega arith)
 facet_depth f (range g) inner vs more e = subst (λ k. max (own_depth k + terms_depth inner) (terms_depth more) ≤ max (0 + terms_depth inner) (terms_depth more)) (sym e) (omega arith)
+facet_depth f (date_range g) inner vs more e = subst (λ k. max (own_depth k + terms_depth inner) (terms_depth more) ≤ max (0 + terms_depth inner) (terms_depth more)) (sym e) (omega arith)
 facet_depth f (query q) inner vs more e = subst (λ k. max (own_depth k + terms_depth inner) (terms_depth more) ≤ max (0 + terms_depth inner) (terms_depth more)) (sym e) (omega arith)
 
 pub replaced_depth : (nodes : Nodes) (vss : List (List Val)) → terms_depth (replaced_nodes nodes vss) ≤ terms_depth nodes

@@ -10,15 +10,15 @@ use Rattle.std.proofs.lemmas.List.Kept.{IsStrictlySortedBy-filter}
 use Rattle.fc_spec.specs.documents.Val.{Text, Val, val_cmp, distinct}
 use Rattle.fc_spec.specs.words.Lists.{is_empty, numbers_below}
 use Rattle.fc_spec.specs.documents.World.{World, Place, on_shards}
-use Rattle.fc_spec.specs.requests.Request.{Stat, Terms, Range, Kind, terms, range, query, Nodes, no_nodes, statistic, facet, Request, stats_of}
+use Rattle.fc_spec.specs.requests.Request.{Stat, Terms, Range, Kind, terms, range, date_range, query, Nodes, no_nodes, statistic, facet, Request, stats_of, DateRange}
 use Rattle.fc_spec.specs.requests.Base.{root_domain}
 use Rattle.fc_spec.specs.requests.Paths.{Path, at_root, into, domain}
 use Rattle.fc_spec.specs.requests.Shape.{no_exclusions, holds_exclusion}
 use Rattle.fc_spec.specs.requests.Gaps.{gap_count}
-use Rattle.fc_spec.specs.requests.Buckets.{Key, value, missing, gap, before, between, after, whole, is_key_of, is_range_key, is_whole, has_prefix, bucket_places}
+use Rattle.fc_spec.specs.requests.Buckets.{Key, value, missing, gap, before, between, after, whole, is_key_of, is_range_key, is_whole, has_prefix, bucket_places, is_date_range_key}
 use Rattle.fc_spec.specs.requests.Statistics.{Stats, stats_over, pair_values}
 use Rattle.fc_spec.specs.requests.Ranks.{offered_bound}
-use Rattle.fc_spec.specs.replies.Printed.{asked, range_keys}
+use Rattle.fc_spec.specs.replies.Printed.{asked, range_keys, date_range_keys}
 use Rattle.fc_spec.specs.replies.Values.{value_places, values_in}
 use Rattle.fc_spec.specs.replies.Reading.{offered}
 use Rattle.fc_spec.specs.replies.Tops.{values_from}
@@ -35,10 +35,11 @@ use Rattle.fc_spec.proofs.requests.FoundValues.{ascending-values_in}
 use Rattle.fc_spec.proofs.requests.Locality.{filter_twice}
 use Rattle.fc_spec.proofs.words.SortedLists.{sorted-map}
 use Rattle.fc_spec.proofs.replies.OfferedValues.{vals_of_some, places_of_offered, offered_ascend, offered_few}
-use Rattle.fc_spec.proofs.replies.PrintedKeys.{prefixed_values_in, prefixed_offered, every_asked, every_range_key}
+use Rattle.fc_spec.proofs.replies.PrintedKeys.{prefixed_values_in, prefixed_offered, every_asked, every_range_key, every_date_range_key}
 use Rattle.fc_spec.proofs.messages.Keys.{same_key_itself}
 use Rattle.fc_spec.proofs.messages.OfferedHeld.{listed_values-partials_of, key_values-answer_keys}
 use Rattle.fc_spec.proofs.messages.ShapedStatistics.{values_fit-stats_over}
+use Rattle.fc_spec.specs.requests.DateGaps.{date_gap_count}
 
 -- ---- the keys ascend
 
@@ -92,10 +93,6 @@ each_before : {X : Type 0} (key : X → Key) (ls : List Key) → ((x : X) → Is
 each_before key ls h [] = tt
 each_before key ls h (x ∷ xs) = (h x, each_before key ls h xs)
 
--- the keys beside the gaps
-abbrev beside : Range → List Key
-beside g = asked g.before before ++ (asked g.between between ++ asked g.after after)
-
 beside_up : (x y z : Bool) → IsStrictlySortedBy key_cmp (asked x before ++ (asked y between ++ asked z after))
 beside_up x y z =
     both_up (asked x before) (asked y between ++ asked z after) (asked_up x before)
@@ -120,15 +117,17 @@ numbers_up zero a = tt
 numbers_up (suc n) a = (numbers_behind n a (a + 1) (omega arith), numbers_up n (a + 1))
 
 -- gaps stand before them
-gap_before : (g : Range) (i : ℕ) → IsBefore (gap i) (beside g)
-gap_before g i =
-    before_both (gap i) (asked g.before before) _ (before_asked (gap i) before g.before refl)
-    (before_both (gap i) (asked g.between between) _ (before_asked (gap i) between g.between refl) (before_asked (gap i) after g.after refl))
+gap_before : (b m a : Bool) (i : ℕ) → IsBefore (gap i) (asked b before ++ (asked m between ++ asked a after))
+gap_before b m a i =
+    before_both (gap i) (asked b before) _ (before_asked (gap i) before b refl)
+    (before_both (gap i) (asked m between) _ (before_asked (gap i) between m refl) (before_asked (gap i) after a refl))
 
-range_up : (g : Range) → IsStrictlySortedBy key_cmp (range_keys g)
-range_up g =
-    let gaps = numbers_below (gap_count g) in
-    both_up (map gap gaps) (beside g) (sorted-map gap key_cmp gaps (numbers_up (gap_count g) 0)) (beside_up g.before g.between g.after) (each_before gap (beside g) (gap_before g) gaps)
+-- so many gaps, and what is asked for beside them
+gaps_up : (n : ℕ) (b m a : Bool) → IsStrictlySortedBy key_cmp (map gap (numbers_below n) ++ (asked b before ++ (asked m between ++ asked a after)))
+gaps_up n b m a =
+    let gaps = numbers_below n in
+    let rest = asked b before ++ (asked m between ++ asked a after) in
+    both_up (map gap gaps) rest (sorted-map gap key_cmp gaps (numbers_up n 0)) (beside_up b m a) (each_before gap rest (gap_before b m a) gaps)
 
 -- what holds of some keys and of those of them that are not empty holds of those that are listed
 of_listed : (P : List Key → Type 0) (kind : Kind) (inner : Nodes) (Y : List Place) (keys : List Key) → P keys → P (not_empty kind Y keys) → P (listed_keys kind inner Y keys)
@@ -149,7 +148,9 @@ keys_up (terms t) inner Y i =
     (each_before value (listed_keys (terms t) inner Y lacking)
     (λ v. let below = before_asked (value v) missing t.missing refl in of_listed (IsBefore (value v)) (terms t) inner Y lacking below (before_some has_places (value v) lacking below)) (offered t inner Y i))
 keys_up (range g) inner Y i =
-    of_listed (IsStrictlySortedBy key_cmp) (range g) inner Y (range_keys g) (range_up g) (IsStrictlySortedBy-filter key_cmp (λ k. not (is_empty (bucket_places (range g) k Y))) (range_keys g) (range_up g))
+    of_listed (IsStrictlySortedBy key_cmp) (range g) inner Y (range_keys g) (gaps_up (gap_count g) g.before g.between g.after) (IsStrictlySortedBy-filter key_cmp (λ k. not (is_empty (bucket_places (range g) k Y))) (range_keys g) (gaps_up (gap_count g) g.before g.between g.after))
+keys_up (date_range g) inner Y i =
+    of_listed (IsStrictlySortedBy key_cmp) (date_range g) inner Y (date_range_keys g) (gaps_up (date_gap_count g) g.before g.between g.after) (IsStrictlySortedBy-filter key_cmp (λ k. not (is_empty (bucket_places (date_range g) k Y))) (date_range_keys g) (gaps_up (date_gap_count g) g.before g.between g.after))
 keys_up (query q) inner Y i = (tt, tt)
 
 -- ---- they are keys of the facet
@@ -161,6 +162,8 @@ own_keys (terms t) inner Y i =
     of_listed (Every (is_key_of (terms t))) (terms t) inner Y (asked t.missing missing) own (every_filter (is_key_of (terms t)) (λ k. not (is_empty (bucket_places (terms t) k Y))) (asked t.missing missing) own))
 own_keys (range g) inner Y i =
     of_listed (Every (is_range_key g)) (range g) inner Y (range_keys g) (every_range_key g) (every_filter (is_range_key g) (λ k. not (is_empty (bucket_places (range g) k Y))) (range_keys g) (every_range_key g))
+own_keys (date_range g) inner Y i =
+    of_listed (Every (is_date_range_key g)) (date_range g) inner Y (date_range_keys g) (every_date_range_key g) (every_filter (is_date_range_key g) (λ k. not (is_empty (bucket_places (date_range g) k Y))) (date_range_keys g) (every_date_range_key g))
 own_keys (query q) inner Y i = (refl, tt)
 
 -- ---- their buckets have places, where they need any
@@ -186,6 +189,12 @@ range_others g =
     (every_append (λ k. not (is_value k)) (asked g.before before) _ (asked_others g.before before refl)
     (every_append (λ k. not (is_value k)) (asked g.between between) _ (asked_others g.between between refl) (asked_others g.after after refl)))
 
+date_range_others : (g : DateRange) → AreOthers (date_range_keys g)
+date_range_others g =
+    every_append (λ k. not (is_value k)) (map gap (numbers_below (date_gap_count g))) _ (every_map (λ k. not (is_value k)) gap (numbers_below (date_gap_count g)) (every_from_members (λ i. true) (numbers_below (date_gap_count g)) (λ i m. refl)))
+    (every_append (λ k. not (is_value k)) (asked g.before before) _ (asked_others g.before before refl)
+    (every_append (λ k. not (is_value k)) (asked g.between between) _ (asked_others g.between between refl) (asked_others g.after after refl)))
+
 with_places_listed : (kind : Kind) (inner : Nodes) (Y : List Place) (keys : List Key) → AreOthers keys → Every (has_place kind inner Y) (listed_keys kind inner Y keys)
 with_places_listed kind inner Y keys others = go (no_exclusions inner) refl
   where
@@ -203,6 +212,7 @@ with_places (terms t) inner Y i own =
     (every_member (λ v. not (is_empty (value_places t v Y))) (offered t inner Y i) v (subst (λ Z. Every (λ v. not (is_empty (value_places t v Z))) (offered t inner Y i)) own (places_of_offered t inner Y i)) m))))
     (with_places_listed (terms t) inner Y (asked t.missing missing) (asked_others t.missing missing refl))
 with_places (range g) inner Y i own = with_places_listed (range g) inner Y (range_keys g) (range_others g)
+with_places (date_range g) inner Y i own = with_places_listed (date_range g) inner Y (date_range_keys g) (date_range_others g)
 with_places (query q) inner Y i own = (refl, tt)
 
 -- a list that is not empty has at least one member
@@ -234,6 +244,7 @@ module _ (most : Terms → Option ℕ) (enough : (t : Terms) (inner : Nodes) (Y 
   complete (terms t) inner Y i stats rows =
       ap (λ vs. is_at_most_bound (most t) (length vs)) (listed_values-partials_of stats rows (answer_keys (terms t) inner Y i) ∙ key_values-answer_keys t inner Y i) ∙ enough t inner Y i
   complete (range g) inner Y i stats rows = refl
+  complete (date_range g) inner Y i stats rows = refl
   complete (query q) inner Y i stats rows = refl
 
   -- what is nested in each
@@ -294,6 +305,7 @@ least_up (terms t) inner n Y i =
     (each_before value (listed_keys (terms t) inner Y lacking)
     (λ v. let below = before_asked (value v) missing t.missing refl in of_listed (IsBefore (value v)) (terms t) inner Y lacking below (before_some has_places (value v) lacking below)) (values_from t n Y i))
 least_up (range g) inner n Y i = keys_up (range g) inner Y i
+least_up (date_range g) inner n Y i = keys_up (date_range g) inner Y i
 least_up (query q) inner n Y i = keys_up (query q) inner Y i
 
 least_own : (kind : Kind) (inner : Nodes) (n : ℕ) (Y : List Place) (i : ℕ) → Every (is_key_of kind) (least_keys kind inner n Y i)
@@ -302,6 +314,7 @@ least_own (terms t) inner n Y i =
     (let own = every_asked (is_key_of (terms t)) t.missing missing refl in
     of_listed (Every (is_key_of (terms t))) (terms t) inner Y (asked t.missing missing) own (every_filter (is_key_of (terms t)) (λ k. not (is_empty (bucket_places (terms t) k Y))) (asked t.missing missing) own))
 least_own (range g) inner n Y i = own_keys (range g) inner Y i
+least_own (date_range g) inner n Y i = own_keys (date_range g) inner Y i
 least_own (query q) inner n Y i = own_keys (query q) inner Y i
 
 least_placed : (kind : Kind) (inner : Nodes) (n : ℕ) (Y : List Place) (i : ℕ) → on_shards (i ∷ []) Y ≡ Y → Every (has_place kind inner Y) (least_keys kind inner n Y i)
@@ -314,11 +327,13 @@ least_placed (terms t) inner n Y i own =
     (subst (λ Z. Every (λ v. not (is_empty (value_places t v Z))) (values_from t n Y i)) own (every_from (λ v. not (is_empty (value_places t v here))) t n Y i (every_own_filter (λ v. not (is_empty (value_places t v here))) (distinct (pair_values t.field here))))) m))))
     (with_places_listed (terms t) inner Y (asked t.missing missing) (asked_others t.missing missing refl))
 least_placed (range g) inner n Y i own = with_places (range g) inner Y i own
+least_placed (date_range g) inner n Y i own = with_places (date_range g) inner Y i own
 least_placed (query q) inner n Y i own = with_places (query q) inner Y i own
 
 least_complete : (kind : Kind) (inner : Nodes) (n : ℕ) (Y : List Place) (i : ℕ) (stats : Key → Stats) (rows : Key → Rows) → is_complete (λ (t : Terms). None) kind (partials_of stats rows (least_keys kind inner n Y i)) ≡ true
 least_complete (terms t) inner n Y i stats rows = refl
 least_complete (range g) inner n Y i stats rows = refl
+least_complete (date_range g) inner n Y i stats rows = refl
 least_complete (query q) inner n Y i stats rows = refl
 
 leasts_fit : (r : Request) (W : World) (i : ℕ) (nodes : Nodes) (ns : List ℕ) (X : List Place) → rows_fit (λ (t : Terms). None) (least_rows r W i nodes ns X) nodes ≡ true

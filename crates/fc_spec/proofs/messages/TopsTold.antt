@@ -8,7 +8,7 @@ use Rattle.std.proofs.lemmas.List.Sums.{sum_by-cons}
 use Rattle.fc_spec.specs.documents.Val.{Val, same_val, has_val, distinct}
 use Rattle.fc_spec.specs.words.Lists.{is_empty, numbers_below}
 use Rattle.fc_spec.specs.documents.World.{World, Place, on_shards}
-use Rattle.fc_spec.specs.requests.Request.{Terms, Kind, terms, range, query, Facet, Nodes, no_nodes, statistic, facet, Request, stats_of}
+use Rattle.fc_spec.specs.requests.Request.{Terms, Kind, terms, range, date_range, query, Facet, Nodes, no_nodes, statistic, facet, Request, stats_of}
 use Rattle.fc_spec.specs.requests.Base.{root_domain}
 use Rattle.fc_spec.specs.requests.Paths.{at_root, domain}
 use Rattle.fc_spec.specs.requests.Shape.{is_exact, has_limit}
@@ -313,6 +313,7 @@ module _ (r : Request) (W : World) (top : AreTopNodes r.nodes) (one two three : 
       ap (λ vs. vs ∷ more) (facet_told r W n f t top at one two three first second third limit.0 is.1 limit.1)
       ∙ sym (ap (λ b. cond b (tops r W f.change t (stats_of inner) ∷ more) more) is.0 ∙ ap (λ ns. tops r W f.change t (stats_of ns) ∷ more) none)
   kind_told n f (range g) inner more is none at = absurd is
+  kind_told n f (date_range g) inner more is none at = absurd is
   kind_told n f (query q) inner more is none at = absurd is
 
   nodes_told : (nodes : Nodes) (k : ℕ) → AreTopNodes nodes → ((j : ℕ) → facet_at (k + j) r.nodes ≡ facet_at j nodes) → tops_told_from (exact_told_in ((one ++ two) ++ three)) (numbers_below (length W)) nodes k ≡ tops_in r W nodes
@@ -379,6 +380,7 @@ module _ (r : Request) (W : World) where
           let nodes = ap (λ b. cond b (facet (record { name = f.name; change = f.change; kind = terms t }) no_nodes more) more) e in
           (subst AreTopNodes (sym nodes) top, ap (tops_in r W) nodes ∙ sym (ap (λ b. cond b (tops r W f.change t (stats_of inner) ∷ tops_in r W more) (tops_in r W more)) e))
   only_kind f (range g) inner more sorted top = (top, refl)
+  only_kind f (date_range g) inner more sorted top = (top, refl)
   only_kind f (query q) inner more sorted top = (top, refl)
 
   only_nodes : (nodes : Nodes) → SortExactByCount nodes → AreTopNodes (exact_nodes nodes) × (tops_in r W (exact_nodes nodes) ≡ tops_in r W nodes)

@@ -4,7 +4,7 @@ use Rattle.std.specs.List.{AllByRecursion, flat_map}
 use Rattle.fc_spec.specs.documents.Val.{Text}
 use Rattle.fc_spec.specs.words.Lists.{is_empty}
 use Rattle.fc_spec.specs.documents.World.{World}
-use Rattle.fc_spec.specs.requests.Request.{Kind, terms, range, query, DomainChange, Facet, Nodes, no_nodes, statistic, facet, Request}
+use Rattle.fc_spec.specs.requests.Request.{Kind, terms, range, date_range, query, DomainChange, Facet, Nodes, no_nodes, statistic, facet, Request}
 use Rattle.fc_spec.specs.requests.Buckets.{value}
 use Rattle.fc_spec.specs.replies.Reading.{PathBucket, PathDomain, over_places}
 use Rattle.fc_spec.specs.replies.Distributed.{printed_keys, carried}
@@ -68,6 +68,7 @@ at_agrees r W A H way X n name change (terms t) inner zero all state at told ins
 at_agrees r W A H way X n name change (terms t) inner (suc e) all state at told inside =
     under_agrees r W A H way X n name change (terms t) inner e all state at (facet_told r W A H way X n name change (terms t) inner all state at (told 0 (omega arith))) (λ d less. told (suc d) (omega arith)) inside
 at_agrees r W A H way X n name change (range g) inner e all state at told inside = under_agrees r W A H way X n name change (range g) inner e all state at tt told inside
+at_agrees r W A H way X n name change (date_range g) inner e all state at told inside = under_agrees r W A H way X n name change (date_range g) inner e all state at tt told inside
 at_agrees r W A H way X n name change (query q) inner e all state at told inside = under_agrees r W A H way X n name change (query q) inner e all state at tt told inside
 
 -- of a facet that is not printed nothing is wanted

@@ -2,9 +2,10 @@
 use Rattle.std.proofs.Common.{◌≡◌, sym, refl, subst, ℕ, zero, suc, ◌<◌, ◌≤◌, length, Bool, true, false, cond, ◌&&◌, Option, None, Some, IfSome, arith}
 use Rattle.std.specs.Prelude.{slice_get, Ok, Err, ok_or, IsSomeAnd, List, [], ◌∷◌}
 use Rattle.std.specs.Option.{option_and_then, is_none}
-use Rattle.fc_spec.specs.documents.Val.{Text, long}
-use Rattle.fc_spec.specs.documents.Schema.{FieldType, string, strings, plong, plongs, Field, Schema}
+use Rattle.fc_spec.specs.documents.Val.{Text, text, long}
+use Rattle.fc_spec.specs.documents.Schema.{FieldType, string, strings, plong, plongs, pdate, pdates, Field, Schema}
 use Rattle.fc_spec.specs.documents.IntegerTexts.{long_of, integer_of, is_long}
+use Rattle.fc_spec.specs.dates.DateTexts.{canonical_of}
 use Rattle.fc_spec.specs.queries.Query.{including, excluding, must, must_not, may, Query, has, is, between, Clauses, no_clauses, clause as query_clause}
 use Rattle.fc_spec.specs.queries.QueryFault.{mixed_operators, unknown_field, bad_value}
 use Rattle.fc_spec.specs.queries.QueryTokens.{WrittenRange, Value, word, quoted, range, star}
@@ -27,12 +28,18 @@ spelled_long t = of (integer_of t)
     of None = tt
     of (Some z) = tested z (is_long z) refl
 
+everywhere : (o : Option Text) → IfSome o (λ c. true ≡ true)
+everywhere None = tt
+everywhere (Some c) = refl
+
 -- a written value is of the type
 of_type : (kind : FieldType) (t : Text) → IfSome (written_value kind t) (λ v. is_of_type kind v ≡ true)
 of_type string t = refl
 of_type strings t = refl
 of_type plong t = mapped (λ v. is_of_type plong v ≡ true) (long_of t) long (spelled_long t)
 of_type plongs t = mapped (λ v. is_of_type plongs v ≡ true) (long_of t) long (spelled_long t)
+of_type pdate t = mapped (λ v. is_of_type pdate v ≡ true) (canonical_of t) text (everywhere (canonical_of t))
+of_type pdates t = mapped (λ v. is_of_type pdates v ≡ true) (canonical_of t) text (everywhere (canonical_of t))
 
 -- the field that a number finds
 below_length : {X : Type 0} (xs : List X) (n : ℕ) → IfSome (slice_get xs n) (λ x. n < length xs)

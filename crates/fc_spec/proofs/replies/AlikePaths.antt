@@ -5,7 +5,7 @@ use Rattle.fc_spec.specs.documents.Val.{has_val}
 use Rattle.fc_spec.specs.documents.Document.{Document}
 use Rattle.fc_spec.specs.documents.World.{World, Place, places, on_shards}
 use Rattle.fc_spec.specs.queries.Matching.{matches}
-use Rattle.fc_spec.specs.requests.Request.{Kind, terms, range, query, DomainChange, Facet, Nodes, no_nodes, statistic, facet, Request}
+use Rattle.fc_spec.specs.requests.Request.{Kind, terms, range, date_range, query, DomainChange, Facet, Nodes, no_nodes, statistic, facet, Request}
 use Rattle.fc_spec.specs.requests.Base.{meets_base}
 use Rattle.fc_spec.specs.requests.Domain.{changed}
 use Rattle.fc_spec.specs.requests.Paths.{Path, into, excluded_on, meets_path, domain}
@@ -46,11 +46,13 @@ module _ (r : Request) (W : World) where
   carried_alike (terms t) inner H Y Z e after = refl
   carried_alike (terms t) inner H Y Z e whole = refl
   carried_alike (range g) inner H Y Z e k = refl
+  carried_alike (date_range g) inner H Y Z e k = refl
   carried_alike (query t) inner H Y Z e k = refl
 
   printed_alike : (kind : Kind) (inner : Nodes) (H : List ℕ) (Y Z : PathDomain) → Y.places ≡ Z.places → printed_keys (over_places r W) kind inner H Y ≡ printed_keys (over_places r W) kind inner H Z
   printed_alike (terms t) inner H Y Z e = ap (λ P. terms_keys t (chosen_entries (over_places r W) t inner H (record Y { places = P }))) e
   printed_alike (range g) inner H Y Z e = refl
+  printed_alike (date_range g) inner H Y Z e = refl
   printed_alike (query t) inner H Y Z e = refl
 
   -- the facets of a bucket

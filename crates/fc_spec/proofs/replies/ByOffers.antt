@@ -3,7 +3,7 @@ use Rattle.std.proofs.Common.{◌≡◌, ℕ, suc, List, length, Bool, true, fal
 use Rattle.std.proofs.lemmas.Bool.{false≢true, and_parts, and_from}
 use Rattle.fc_spec.specs.words.Lists.{numbers_below}
 use Rattle.fc_spec.specs.documents.World.{World, Place, on_shards}
-use Rattle.fc_spec.specs.requests.Request.{Kind, terms, range, query, Facet, Nodes, no_nodes, statistic, facet, Request, stats_of}
+use Rattle.fc_spec.specs.requests.Request.{Kind, terms, range, date_range, query, Facet, Nodes, no_nodes, statistic, facet, Request, stats_of}
 use Rattle.fc_spec.specs.requests.Base.{root_domain}
 use Rattle.fc_spec.specs.requests.Paths.{at_root, into, domain}
 use Rattle.fc_spec.specs.requests.Shape.{has_limit, has_no_limit, is_exact, no_exact, no_limits}
@@ -65,6 +65,7 @@ unlimited_not_exact (terms t) h = go t.exact (has_limit t) h
     go true b h = h
     go false b h = refl
 unlimited_not_exact (range g) h = refl
+unlimited_not_exact (date_range g) h = refl
 unlimited_not_exact (query q) h = refl
 
 -- without limits nothing is exact

@@ -3,7 +3,7 @@ use Rattle.std.proofs.Common.{◌≡◌, ℕ, List, length, Bool, true, false, c
 use Rattle.std.proofs.lemmas.Bool.{false≢true, or_cases}
 use Rattle.fc_spec.specs.words.Lists.{is_empty, numbers_below}
 use Rattle.fc_spec.specs.documents.World.{World, Place, places, on_shards}
-use Rattle.fc_spec.specs.requests.Request.{Terms, Kind, terms, range, query, DomainChange, Nodes, Request}
+use Rattle.fc_spec.specs.requests.Request.{Terms, Kind, terms, range, date_range, query, DomainChange, Nodes, Request}
 use Rattle.fc_spec.specs.requests.Domain.{moved, filtered}
 use Rattle.fc_spec.specs.requests.Paths.{Path, meets_rebuilt, rebuilt, domain}
 use Rattle.fc_spec.specs.requests.Buckets.{Key, value, missing, gap, before, between, after, whole, in_bucket, bucket_places}
@@ -77,4 +77,5 @@ carried_holds r W (terms t) inner H Y between h on = on_shards_every H (bucket_p
 carried_holds r W (terms t) inner H Y after h on = on_shards_every H (bucket_places (terms t) after Y.places) (every_filter (is_on H) (λ p. in_bucket (terms t) after p.document) Y.places on)
 carried_holds r W (terms t) inner H Y whole h on = on_shards_every H (bucket_places (terms t) whole Y.places) (every_filter (is_on H) (λ p. in_bucket (terms t) whole p.document) Y.places on)
 carried_holds r W (range g) inner H Y key h on = on_shards_every H (bucket_places (range g) key Y.places) (every_filter (is_on H) (λ p. in_bucket (range g) key p.document) Y.places on)
+carried_holds r W (date_range g) inner H Y key h on = on_shards_every H (bucket_places (date_range g) key Y.places) (every_filter (is_on H) (λ p. in_bucket (date_range g) key p.document) Y.places on)
 carried_holds r W (query q) inner H Y key h on = on_shards_every H (bucket_places (query q) key Y.places) (every_filter (is_on H) (λ p. in_bucket (query q) key p.document) Y.places on)

@@ -7,7 +7,8 @@ use Rattle.std.proofs.lemmas.Bool.{false≢true, eqb-true}
 use Rattle.fc_spec.specs.documents.Val.{Val, val_cmp}
 use Rattle.fc_spec.specs.words.Lists.{numbers_below}
 use Rattle.fc_spec.specs.requests.Gaps.{gap_count}
-use Rattle.fc_spec.specs.requests.Request.{Sort, Terms, Kind, terms, range, query, Nodes}
+use Rattle.fc_spec.specs.requests.DateGaps.{date_gap_count}
+use Rattle.fc_spec.specs.requests.Request.{Sort, Terms, Kind, terms, range, date_range, query, Nodes}
 use Rattle.fc_spec.specs.requests.Buckets.{Key, value, missing, gap, before, between, after}
 use Rattle.fc_spec.specs.requests.Ranks.{Entry, rank, page, of_ranks}
 use Rattle.fc_spec.specs.messages.KeyOrder.{same_key}
@@ -110,6 +111,22 @@ printed_differ R (range g) inner H Y =
       | inr m ↦ (λ k. same_key (asked_is g.before before x i k) (asked_is g.after after y m k))
     ]))
     (λ x y i j. let r = member_map gap (numbers_below (gap_count g)) x i in elim (member_append (asked g.before before) (asked g.between between ++ asked g.after after) y j) [
+      | inl m ↦ (λ k. same_key (r.2 k) (asked_is g.before before y m k))
+      | inr n ↦ elim (member_append (asked g.between between) (asked g.after after) y n) [
+        | inl m ↦ (λ k. same_key (r.2 k) (asked_is g.between between y m k))
+        | inr m ↦ (λ k. same_key (r.2 k) (asked_is g.after after y m k))
+      ]
+    ])
+printed_differ R (date_range g) inner H Y =
+    differ_append OtherKey (map gap (numbers_below (date_gap_count g))) (asked g.before before ++ (asked g.between between ++ asked g.after after))
+    (differ_map Other OtherKey gap (numbers_below (date_gap_count g)) (λ i j m n. gaps_differ i j) (differ_range (date_gap_count g) 0))
+    (differ_append OtherKey (asked g.before before) (asked g.between between ++ asked g.after after) (asked_differ g.before before)
+    (differ_append OtherKey (asked g.between between) (asked g.after after) (asked_differ g.between between) (asked_differ g.after after) (λ x y i j. (λ k. same_key (asked_is g.between between x i k) (asked_is g.after after y j k))))
+    (λ x y i j. elim (member_append (asked g.between between) (asked g.after after) y j) [
+      | inl m ↦ (λ k. same_key (asked_is g.before before x i k) (asked_is g.between between y m k))
+      | inr m ↦ (λ k. same_key (asked_is g.before before x i k) (asked_is g.after after y m k))
+    ]))
+    (λ x y i j. let r = member_map gap (numbers_below (date_gap_count g)) x i in elim (member_append (asked g.before before) (asked g.between between ++ asked g.after after) y j) [
       | inl m ↦ (λ k. same_key (r.2 k) (asked_is g.before before y m k))
       | inr n ↦ elim (member_append (asked g.between between) (asked g.after after) y n) [
         | inl m ↦ (λ k. same_key (r.2 k) (asked_is g.between between y m k))

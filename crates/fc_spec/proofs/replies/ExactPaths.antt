@@ -4,7 +4,7 @@ use Rattle.std.proofs.lemmas.Bool.{and_parts}
 use Rattle.fc_spec.specs.documents.Val.{Text}
 use Rattle.fc_spec.specs.words.Lists.{is_empty, numbers_below}
 use Rattle.fc_spec.specs.documents.World.{World, Place, places, on_shards}
-use Rattle.fc_spec.specs.requests.Request.{Kind, terms, range, query, DomainChange, Facet, Nodes, no_nodes, statistic, facet, Request, stats_of}
+use Rattle.fc_spec.specs.requests.Request.{Kind, terms, range, date_range, query, DomainChange, Facet, Nodes, no_nodes, statistic, facet, Request, stats_of}
 use Rattle.fc_spec.specs.requests.Buckets.{Key, whole, is_key_of, in_bucket, bucket_places}
 use Rattle.fc_spec.specs.requests.Statistics.{value_over, shown}
 use Rattle.fc_spec.specs.replies.Reply.{bucket, Facets, spot_of, val_of, row_of, with_buckets}
@@ -67,6 +67,8 @@ facet_exact r W path name change (terms t) Inside count inside keys more e h =
     (row_of (terms t) count inside keys, refl, row_exact r W path (record { name = name; change = change; kind = terms t }) Inside count inside keys e h)
 facet_exact r W path name change (range g) Inside count inside keys more e h =
     (row_of (range g) count inside keys, refl, row_exact r W path (record { name = name; change = change; kind = range g }) Inside count inside keys e h)
+facet_exact r W path name change (date_range g) Inside count inside keys more e h =
+    (row_of (date_range g) count inside keys, refl, row_exact r W path (record { name = name; change = change; kind = date_range g }) Inside count inside keys e h)
 facet_exact r W path name change (query q) Inside count inside keys more e h =
     (_, refl, bucket_exact r W path (record { name = name; change = change; kind = query q }) Inside count inside whole refl (h whole))
 

@@ -3,7 +3,7 @@ use Rattle.std.proofs.Common.{◌≡◌, ℕ, suc, List, length, true, ◌&&◌,
 use Rattle.std.proofs.lemmas.Bool.{and_parts, or_right}
 use Rattle.fc_spec.specs.words.Lists.{numbers_below}
 use Rattle.fc_spec.specs.documents.World.{World, Place, on_shards}
-use Rattle.fc_spec.specs.requests.Request.{Kind, terms, range, query, Nodes, no_nodes, statistic, facet, Request, stats_of}
+use Rattle.fc_spec.specs.requests.Request.{Kind, terms, range, date_range, query, Nodes, no_nodes, statistic, facet, Request, stats_of}
 use Rattle.fc_spec.specs.requests.Base.{root_domain}
 use Rattle.fc_spec.specs.requests.Paths.{Path, at_root, into, domain}
 use Rattle.fc_spec.specs.requests.Buckets.{Key, bucket_places}
@@ -25,12 +25,14 @@ use Rattle.fc_spec.proofs.replies.ExactPaths.{dist_domain, facets_on, part_is, f
 pub unlimited_refines : (kind : Kind) → has_no_limit kind ≡ true → is_refining kind ≡ true
 unlimited_refines (terms t) h = or_right t.refine (is_none t.limit) h
 unlimited_refines (range g) h = refl
+unlimited_refines (date_range g) h = refl
 unlimited_refines (query q) h = refl
 
 -- the keys printed over places on the shards are those of a single index
 pub keys_are : (r : Request) (W : World) (kind : Kind) (inner : Nodes) (H : List ℕ) (Y : PathDomain) → has_no_limit kind ≡ true → Every (is_on H) Y.places → printed_keys (over_places r W) kind inner H Y ≡ exact_keys kind (stats_of inner) Y.places
 keys_are r W (terms t) inner H Y h on = ap (terms_keys t) (chosen_entries_all r W t inner H Y (no_limit_is_None t.limit h) on)
 keys_are r W (range g) inner H Y h on = refl
+keys_are r W (date_range g) inner H Y h on = refl
 keys_are r W (query q) inner H Y h on = refl
 
 -- the facets of a bucket whose part on its shards is Q are the exact ones over Q

@@ -9,12 +9,12 @@ use Rattle.fc_spec.specs.documents.Val.{Val, val_cmp, has_val, insert_val, disti
 use Rattle.fc_spec.specs.documents.Document.{values_of}
 use Rattle.fc_spec.specs.words.Lists.{numbers_below, is_empty}
 use Rattle.fc_spec.specs.documents.World.{World, Place, on_shards}
-use Rattle.fc_spec.specs.requests.Request.{Stat, Terms, Range, Kind, terms, range, query, Sort, Nodes, Request}
+use Rattle.fc_spec.specs.requests.Request.{Stat, Terms, Range, Kind, terms, range, date_range, query, Sort, Nodes, Request, DateRange}
 use Rattle.fc_spec.specs.requests.Gaps.{gap_count}
-use Rattle.fc_spec.specs.requests.Buckets.{Key, value, missing, gap, before, between, after, has_prefix, is_key_of, is_range_key}
+use Rattle.fc_spec.specs.requests.Buckets.{Key, value, missing, gap, before, between, after, has_prefix, is_key_of, is_range_key, is_date_range_key}
 use Rattle.fc_spec.specs.requests.Statistics.{pair_values, stats_over}
 use Rattle.fc_spec.specs.requests.Ranks.{Entry, rank, page}
-use Rattle.fc_spec.specs.replies.Printed.{asked, range_keys, terms_keys}
+use Rattle.fc_spec.specs.replies.Printed.{asked, range_keys, terms_keys, date_range_keys}
 use Rattle.fc_spec.specs.replies.Values.{value_places, values_in, entries_in}
 use Rattle.fc_spec.specs.replies.Exact.{exact_keys}
 use Rattle.fc_spec.specs.replies.Reading.{Reading, PathDomain, offered, over_places}
@@ -23,6 +23,7 @@ use Rattle.fc_spec.specs.replies.Distributed.{printed_keys}
 use Rattle.fc_spec.proofs.words.Members.{Every, every_from_members, every_filter, every_append, every_flat_map, every_map, filter_member, passing_member}
 use Rattle.fc_spec.proofs.replies.OfferedValues.{every_offered}
 use Rattle.fc_spec.proofs.requests.FoundValues.{holds_value, not-is_empty-filter}
+use Rattle.fc_spec.specs.requests.DateGaps.{date_gap_count}
 
 every_insert_val : (p : Val → Bool) (v : Val) (ws : List Val) → p v ≡ true → Every p ws → Every p (insert_val v ws)
 every_insert_val p v [] h e = (h, tt)
@@ -81,6 +82,12 @@ every_range_key g =
     (every_append (is_range_key g) (asked g.before before) _ (every_asked (is_range_key g) g.before before refl)
     (every_append (is_range_key g) (asked g.between between) _ (every_asked (is_range_key g) g.between between refl) (every_asked (is_range_key g) g.after after refl)))
 
+pub every_date_range_key : (g : DateRange) → Every (is_date_range_key g) (date_range_keys g)
+every_date_range_key g =
+    every_append (is_date_range_key g) (map gap (numbers_below (date_gap_count g))) _ (every_map (is_date_range_key g) gap (numbers_below (date_gap_count g)) (every_below (date_gap_count g) 0 (date_gap_count g) (omega arith)))
+    (every_append (is_date_range_key g) (asked g.before before) _ (every_asked (is_date_range_key g) g.before before refl)
+    (every_append (is_date_range_key g) (asked g.between between) _ (every_asked (is_date_range_key g) g.between between refl) (every_asked (is_date_range_key g) g.after after refl)))
+
 -- what shards offer of a terms facet begins with its prefix
 abbrev pub OfferPrefixed : {B D : Type 0} → Reading B D → Kind → Nodes → D → Type 0
 OfferPrefixed R (terms t) inner Y = (i : ℕ) → Every (has_prefix t.prefix) (R.offered_by t inner Y i)
@@ -99,17 +106,20 @@ every_terms_key t entries prefixed =
 pub every_exact_key : (kind : Kind) (ss : List Stat) (Y : List Place) → Every (is_key_of kind) (exact_keys kind ss Y)
 every_exact_key (terms t) ss Y = every_terms_key t (entries_in t ss Y) (every_map (λ e. has_prefix t.prefix e.val) (λ v. record { val = v; stats = stats_over ss (value_places t v Y) }) (values_in t Y) (prefixed_values_in t Y))
 every_exact_key (range g) ss Y = every_range_key g
+every_exact_key (date_range g) ss Y = every_date_range_key g
 every_exact_key (query q) ss Y = (refl, tt)
 
 -- the printed keys are the facet's
 pub every_printed_key_of : {B D : Type 0} (R : Reading B D) (kind : Kind) (inner : Nodes) (H : List ℕ) (Y : D) → OfferPrefixed R kind inner Y → Every (is_key_of kind) (printed_keys R kind inner H Y)
 every_printed_key_of R (terms t) inner H Y offers = every_terms_key t (chosen_entries R t inner H Y) (prefixed_chosen_entries R t inner H Y offers)
 every_printed_key_of R (range g) inner H Y offers = every_range_key g
+every_printed_key_of R (date_range g) inner H Y offers = every_date_range_key g
 every_printed_key_of R (query q) inner H Y offers = (refl, tt)
 
 prefixed_over_places : (r : Request) (W : World) (kind : Kind) (inner : Nodes) (Y : PathDomain) → OfferPrefixed (over_places r W) kind inner Y
 prefixed_over_places r W (terms t) inner Y = prefixed_offered t inner Y.places
 prefixed_over_places r W (range g) inner Y = tt
+prefixed_over_places r W (date_range g) inner Y = tt
 prefixed_over_places r W (query q) inner Y = tt
 
 pub every_printed_key : (r : Request) (W : World) (kind : Kind) (inner : Nodes) (H : List ℕ) (Y : PathDomain) → Every (is_key_of kind) (printed_keys (over_places r W) kind inner H Y)

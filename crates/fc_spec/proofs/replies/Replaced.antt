@@ -7,7 +7,7 @@ use Rattle.fc_spec.specs.documents.Document.{Document, values_of}
 use Rattle.fc_spec.specs.words.Lists.{is_empty, numbers_below}
 use Rattle.fc_spec.specs.documents.World.{World, Place, on_shards}
 use Rattle.fc_spec.specs.queries.Matching.{matches}
-use Rattle.fc_spec.specs.requests.Request.{Terms, Kind, terms, range, query, DomainChange, Facet, Nodes, no_nodes, statistic, facet, Request, stats_of}
+use Rattle.fc_spec.specs.requests.Request.{Terms, Kind, terms, range, date_range, query, DomainChange, Facet, Nodes, no_nodes, statistic, facet, Request, stats_of}
 use Rattle.fc_spec.specs.requests.Base.{root_domain}
 use Rattle.fc_spec.specs.requests.Paths.{Path, at_root, into, domain}
 use Rattle.fc_spec.specs.requests.Buckets.{Key, value, missing, gap, before, between, after, whole, in_terms, is_terms_key, bucket_places}
@@ -77,12 +77,14 @@ statistic_front false name (Some n) more = refl
 front_buckets : Kind → (Key → ℕ) → (Key → Facets) → List Key → Front
 front_buckets (terms t) count inside keys = a_row (row_of (terms t) count inside keys)
 front_buckets (range g) count inside keys = a_row (row_of (range g) count inside keys)
+front_buckets (date_range g) count inside keys = a_row (row_of (date_range g) count inside keys)
 front_buckets (query q) count inside keys = a_bucket (bucket None (count whole) (inside whole))
 
 buckets_front : (name : Text) (kind : Kind) (count : Key → ℕ) (inside : Key → Facets) (keys : List Key) (more : Facets) → with_buckets name kind count inside keys more ≡ put_front name (front_buckets kind count inside keys) more
 unfolding front_buckets
 buckets_front name (terms t) count inside keys more = refl
 buckets_front name (range g) count inside keys more = refl
+buckets_front name (date_range g) count inside keys more = refl
 buckets_front name (query q) count inside keys more = refl
 
 -- not printed, or printed
@@ -244,6 +246,10 @@ module _ (r : Request) (W : World) (N : Nodes) where
       let f : Facet = record { name = name; change = change; kind = range g } in
       subst (λ us. AreReplaced (facet f inner rest) (root_facets r W (facet f inner rest) n m) (root_facets other W (facet f inner (replaced_nodes rest us)) k l)) (sym (lists_after-not vss))
       (other_facet f inner rest vss n m k l refl same goal)
+  facet_replaced name change (date_range g) inner rest goal vss n m k l same =
+      let f : Facet = record { name = name; change = change; kind = date_range g } in
+      subst (λ us. AreReplaced (facet f inner rest) (root_facets r W (facet f inner rest) n m) (root_facets other W (facet f inner (replaced_nodes rest us)) k l)) (sym (lists_after-not vss))
+      (other_facet f inner rest vss n m k l refl same goal)
   facet_replaced name change (query q) inner rest goal vss n m k l same =
       let f : Facet = record { name = name; change = change; kind = query q } in
       subst (λ us. AreReplaced (facet f inner rest) (root_facets r W (facet f inner rest) n m) (root_facets other W (facet f inner (replaced_nodes rest us)) k l)) (sym (lists_after-not vss))
@@ -286,6 +292,7 @@ module _ (r : Request) (W : World) (N : Nodes) where
       go kind true = h
       go (terms t) false = either (is_exact (terms t)) _ _ _
       go (range g) false = refl
+      go (date_range g) false = refl
       go (query q) false = refl
 
   number_of_replaced : (name : Text) (f : Facet) (kind : Kind) (inner : Nodes) (vs : List Val) (rest : Nodes) (k l : ℕ) → ((j : ℕ) → is_number_of name (root_facets other W rest j l) ≡ false)
@@ -296,6 +303,7 @@ module _ (r : Request) (W : World) (N : Nodes) where
       go true = number_of_keys name (record { name = f.name; change = f.change; kind = terms t }) t inner (top_keys t vs) rest k l h
       go false = number_of_facet name f (terms t) inner rest k l (h (suc k))
   number_of_replaced name f (range g) inner vs rest k l h = number_of_facet name f (range g) inner rest k l (h (suc k))
+  number_of_replaced name f (date_range g) inner vs rest k l h = number_of_facet name f (date_range g) inner rest k l (h (suc k))
   number_of_replaced name f (query q) inner vs rest k l h = number_of_facet name f (query q) inner rest k l (h (suc k))
 
   number_of_nodes : (name : Text) (nodes : Nodes) (vss : List (List Val)) (k l : ℕ) → has_statistic name nodes ≡ false → is_number_of name (root_facets other W (replaced_nodes nodes vss) k l) ≡ false
@@ -325,11 +333,13 @@ module _ (r : Request) (W : World) (N : Nodes) where
   front_again : (name : Text) (kind : Kind) (count : Key → ℕ) (inside : Key → Facets) (keys : List Key) (last more : Facets) → with_first (with_buckets name kind count inside keys last) more ≡ with_buckets name kind count inside keys more
   front_again name (terms t) count inside keys last more = refl
   front_again name (range g) count inside keys last more = refl
+  front_again name (date_range g) count inside keys last more = refl
   front_again name (query q) count inside keys last more = refl
 
   behind_front : (name : Text) (kind : Kind) (count : Key → ℕ) (inside : Key → Facets) (keys : List Key) (last : Facets) → after_first (with_buckets name kind count inside keys last) ≡ last
   behind_front name (terms t) count inside keys last = refl
   behind_front name (range g) count inside keys last = refl
+  behind_front name (date_range g) count inside keys last = refl
   behind_front name (query q) count inside keys last = refl
 
   -- the row of an exact one
@@ -426,6 +436,9 @@ module _ (r : Request) (W : World) (N : Nodes) where
   kind_again name change (range g) inner rest goal vss n m k l same =
       let f : Facet = record { name = name; change = change; kind = range g } in
       ap (plain_shape f inner rest k l) (lists_after-not vss) ∙ same_again f inner rest vss n m k l refl same goal
+  kind_again name change (date_range g) inner rest goal vss n m k l same =
+      let f : Facet = record { name = name; change = change; kind = date_range g } in
+      ap (plain_shape f inner rest k l) (lists_after-not vss) ∙ same_again f inner rest vss n m k l refl same goal
   kind_again name change (query q) inner rest goal vss n m k l same =
       let f : Facet = record { name = name; change = change; kind = query q } in
       ap (plain_shape f inner rest k l) (lists_after-not vss) ∙ same_again f inner rest vss n m k l refl same goal
@@ -451,6 +464,7 @@ facet_offered name change (terms t) inner vs more h = go (is_exact (terms t)) re
     go true e = keys_offered (record { name = name; change = change; kind = terms t }) t inner (top_keys t vs) more h
     go false e = and_from (not (is_exact (terms t))) (no_exact more) (ap not e) h
 facet_offered name change (range g) inner vs more h = h
+facet_offered name change (date_range g) inner vs more h = h
 facet_offered name change (query q) inner vs more h = h
 
 nodes_offered : (nodes : Nodes) (vss : List (List Val)) → no_exact (replaced_nodes nodes vss) ≡ true

@@ -11,7 +11,7 @@ use Rattle.fc_spec.specs.documents.Schema.{Field, string, Schema}
 use Rattle.fc_spec.specs.documents.ValidBlocks.{is_of_type, is_value_of, IsDocumentOf, IsBlockOf}
 use Rattle.fc_spec.specs.documents.World.{World, Place, places, places_from, shard_places, block_places}
 use Rattle.fc_spec.specs.queries.ValidQueries.{IsValidQuery}
-use Rattle.fc_spec.specs.requests.Request.{Stat, Terms, Kind, terms, range, query, DomainChange, BlockStep, stay, parents, children, Facet, Nodes, no_nodes, statistic, facet, Request, stats_of}
+use Rattle.fc_spec.specs.requests.Request.{Stat, Terms, Kind, terms, range, date_range, query, DomainChange, BlockStep, stay, parents, children, Facet, Nodes, no_nodes, statistic, facet, Request, stats_of}
 use Rattle.fc_spec.specs.requests.Shape.{is_exact, stays, none_says_exact, outermost_exact}
 use Rattle.fc_spec.specs.requests.Base.{meets_base, root_domain}
 use Rattle.fc_spec.specs.requests.Domain.{moved}
@@ -176,6 +176,8 @@ module _ (s : Schema) where
             subst (AreReplacedValid (facet f inner rest)) (sym (ap (λ c. made f t inner rest c vss) e)) (same_valid f inner rest (replaced_nodes rest (lists_after false vss)) h k (later (lists_after false vss) (lists_after-not vss ∙ tops_are false e)))
     kind_valid name change (range g) inner rest vss h k same later =
         same_valid (record { name = name; change = change; kind = range g }) inner rest (replaced_nodes rest (lists_after false vss)) h k (later (lists_after false vss) (lists_after-not vss ∙ same))
+    kind_valid name change (date_range g) inner rest vss h k same later =
+        same_valid (record { name = name; change = change; kind = date_range g }) inner rest (replaced_nodes rest (lists_after false vss)) h k (later (lists_after false vss) (lists_after-not vss ∙ same))
     kind_valid name change (query q) inner rest vss h k same later =
         same_valid (record { name = name; change = change; kind = query q }) inner rest (replaced_nodes rest (lists_after false vss)) h k (later (lists_after false vss) (lists_after-not vss ∙ same))
 
@@ -197,6 +199,7 @@ facet_stands f (terms t) inner vs more none later = go (is_exact (terms t))
     go true = keys_stand f t inner (top_keys t vs) more none later
     go false = and_from (none_says_exact inner) (outermost_exact more) none later
 facet_stands f (range g) inner vs more none later = and_from (none_says_exact inner) (outermost_exact more) none later
+facet_stands f (date_range g) inner vs more none later = and_from (none_says_exact inner) (outermost_exact more) none later
 facet_stands f (query q) inner vs more none later = and_from (none_says_exact inner) (outermost_exact more) none later
 
 replaced_stand : (nodes : Nodes) (vss : List (List Val)) → outermost_exact nodes ≡ true → outermost_exact (replaced_nodes nodes vss) ≡ true

@@ -1,10 +1,9 @@
 -- Of the exact facets of a valid request, with nothing nested in them, a search can be made.
-use Rattle.std.proofs.Common.{◌≡◌, ℕ, suc, ◌≤◌, max, Bool, true, false, cond, refl, sym, ap, subst, IsTrue, arith}
-use Rattle.std.proofs.lemmas.Bool.{and_parts, and_from}
+use Rattle.std.proofs.Common.{◌≡◌, ◌≤◌, Bool, true, false, cond, refl, sym, subst, IsTrue, arith}
+use Rattle.std.proofs.lemmas.Bool.{and_parts}
 use Rattle.fc_spec.specs.documents.Schema.{Schema}
-use Rattle.fc_spec.specs.requests.Request.{Sort, by_count, Terms, Kind, terms, range, query, Facet, Nodes, no_nodes, statistic, facet}
+use Rattle.fc_spec.specs.requests.Request.{Terms, Kind, terms, range, date_range, query, Nodes, no_nodes, statistic, facet}
 use Rattle.fc_spec.specs.requests.Shape.{has_limit, is_exact, outermost_exact}
-use Rattle.fc_spec.specs.requests.Least.{count_first}
 use Rattle.fc_spec.specs.requests.ValidRequests.{NamesStatistic, IsValidTerms, IsValidKind, AreValidNodes, node_depth}
 use Rattle.fc_spec.specs.replies.Tops.{exact_nodes}
 use Rattle.fc_spec.specs.laws.RequestLaws.{OnlyExactAreSearchable}
@@ -28,6 +27,7 @@ terms_alone s inner t h e = record {
 kind_alone : (s : Schema) (inner : Nodes) (kind : Kind) → IsValidKind s inner kind → is_exact kind ≡ true → IsValidKind s no_nodes kind
 kind_alone s inner (terms t) h e = terms_alone s inner t h (and_parts t.exact (has_limit t) e).0
 kind_alone s inner (range g) h e = h
+kind_alone s inner (date_range g) h e = h
 kind_alone s inner (query q) h e = h
 
 -- what is shown of nodes

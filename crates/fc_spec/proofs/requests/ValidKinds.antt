@@ -29,7 +29,7 @@ use Rattle.fc_spec.proofs.requests.ValidChanges.{text_query_valid}
 
 -- ---- fields
 
-field_in_valid : (s : Schema) (d : Data) → IfOk (field_in s d) (λ n. n < length s.fields)
+pub field_in_valid : (s : Schema) (d : Data) → IfOk (field_in s d) (λ n. n < length s.fields)
 field_in_valid s d = whatever (λ n. n < length s.fields) (text_in d) _ (λ name. there (λ n. n < length s.fields) (field_named s name) unknown_field (field_there s name))
 
 -- ---- numbers

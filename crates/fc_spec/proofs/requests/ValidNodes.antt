@@ -8,7 +8,7 @@ use Rattle.std.proofs.lemmas.Bool.{and_parts}
 use Rattle.fc_spec.specs.documents.Schema.{Schema}
 use Rattle.fc_spec.specs.documents.Val.{Text, text_cmp}
 use Rattle.fc_spec.specs.documents.World.{World, Place, on_shards}
-use Rattle.fc_spec.specs.requests.Request.{Kind, terms, range, query, Facet, Nodes, no_nodes, statistic, facet, Request, stats_of}
+use Rattle.fc_spec.specs.requests.Request.{Kind, terms, range, date_range, query, Facet, Nodes, no_nodes, statistic, facet, Request, stats_of}
 use Rattle.fc_spec.specs.requests.Buckets.{Key, whole, bucket_places}
 use Rattle.fc_spec.specs.requests.Paths.{Path, at_root, into}
 use Rattle.fc_spec.specs.requests.Statistics.{Stats, stats_over}
@@ -32,6 +32,7 @@ use Rattle.fc_spec.proofs.messages.SearchEnds.{rounds_are_few}
 own_is_one : (kind : Kind) → own_depth kind ≤ 1
 own_is_one (terms t) = omega arith
 own_is_one (range g) = omega arith
+own_is_one (date_range g) = omega arith
 own_is_one (query q) = omega arith
 
 -- terms facets are among the nodes
@@ -134,6 +135,7 @@ exact_answers_nest_little s x W i (exact_least ns) h =
 top_kind : (s : Schema) (inner : Nodes) (kind : Kind) → IsValidKind s inner kind → IsTrue (is_exact kind) → IsTopKind kind
 top_kind s inner (terms t) valid h = (h, (valid.exact (and_parts t.exact (has_limit t) h).0).1)
 top_kind s inner (range g) valid h = absurd cc
+top_kind s inner (date_range g) valid h = absurd cc
 top_kind s inner (query q) valid h = absurd cc
 
 sorted_by_count : (s : Schema) (unmoved : Bool) (nodes : Nodes) → AreValidNodes s unmoved nodes → SortExactByCount nodes

@@ -10,27 +10,29 @@ use Rattle.serde_json.specs.Find.{get_member}
 use Rattle.fc_spec.specs.documents.Val.{Text, text_cmp}
 use Rattle.fc_spec.specs.documents.Schema.{Schema}
 use Rattle.fc_spec.specs.queries.Query.{all}
-use Rattle.fc_spec.specs.requests.Request.{Stat, SortKey, by_count, by_index, by_statistic, Sort, Kind, range, Facet, Nodes, no_nodes, statistic, facet, Request}
+use Rattle.fc_spec.specs.requests.Request.{Stat, SortKey, by_count, by_index, by_statistic, Sort, Kind, Facet, Nodes, no_nodes, statistic, facet, Request}
 use Rattle.fc_spec.specs.requests.RequestFault.{RequestFault, bad_parameter, reserved_name, too_large}
 use Rattle.fc_spec.specs.requests.RequestWalk.{outside, inside, check_names, required, optional, said_or, text_in}
 use Rattle.fc_spec.specs.requests.StatisticReading.{statistic_of}
 use Rattle.fc_spec.specs.requests.DomainReading.{change_in}
 use Rattle.fc_spec.specs.requests.SortReading.{sort_in, is_by_count, sorts_by_count, allows_exact}
 use Rattle.fc_spec.specs.requests.Least.{count_first}
-use Rattle.fc_spec.specs.requests.FacetReading.{terms_parts, range_parts, query_part}
+use Rattle.fc_spec.specs.requests.FacetReading.{terms_parts, query_part}
+use Rattle.fc_spec.specs.requests.DateRangeReading.{range_part}
 use Rattle.fc_spec.specs.requests.RequestReading.{Node, of_statistic, of_facet, Walked, with_node, Reader, members_read, is_reserved, inner_read, own, facet_read, terms_read, range_read, query_read, statistic_read, func_read, FacetType, terms_type, range_type, query_type, func_type, parameters, typed_read, type_of, command_read, node_read, nodes_within, filters_in, zero_in, request_members, request_of}
 use Rattle.fc_spec.specs.scripts.JsonValues.{HasNumbers, MembersHaveNumbers, keys_in, HasAscendingKeys, MembersHaveAscendingKeys}
 use Rattle.fc_spec.specs.laws.RequestLaws.{ReadAreValid, ReadAreValidWhole}
 use Rattle.fc_spec.specs.queries.ValidQueries.{IsValidQuery}
 use Rattle.fc_spec.specs.requests.DomainReading.{text_query}
-use Rattle.fc_spec.specs.requests.ValidRequests.{IsValidFilter, IsValidChange, IsValidKind, IsValidTerms, IsValidRange, IsValidStatistic, node_names, AreValidNodes, AreOrderedInside, AreOrderedNodes, node_depth}
+use Rattle.fc_spec.specs.requests.ValidRequests.{IsValidFilter, IsValidChange, IsValidKind, IsValidTerms, IsValidStatistic, node_names, AreValidNodes, AreOrderedInside, AreOrderedNodes, node_depth}
 use Rattle.fc_spec.specs.requests.Shape.{stays, says_exact, none_says_exact, outermost_exact}
 use Rattle.fc_spec.specs.words.Walks.{◌>>=◌, unless, with_fault}
 use Rattle.fc_spec.proofs.scripts.JsonMembers.{member_numbers, member_keys}
 use Rattle.fc_spec.proofs.words.ReadingWords.{going_on, whatever, seen, passed, if_there}
 use Rattle.fc_spec.proofs.requests.ValidStatistics.{statistic_valid, NamesItsStatistic, sort_in_valid}
 use Rattle.fc_spec.proofs.requests.ValidChanges.{text_query_valid, change_in_valid, filters_in_valid}
-use Rattle.fc_spec.proofs.requests.ValidKinds.{parts_valid, terms_valid, range_valid, IsKindAnywhere, query_part_valid}
+use Rattle.fc_spec.proofs.requests.ValidKinds.{parts_valid, terms_valid, IsKindAnywhere, query_part_valid}
+use Rattle.fc_spec.proofs.requests.ValidDateRanges.{range_part_valid}
 
 -- of nodes outermost or nested, exact facets stand where they may
 abbrev exact_stands : (outermost : Bool) → Nodes → Bool
@@ -131,7 +133,7 @@ kind_read_valid s outermost unmoved left deeper valid n ms numbers kind h =
 
 range_read_valid : (s : Schema) (outermost unmoved : Bool) (left : ℕ) (deeper : Bool → Reader) → ((b : Bool) → ReadsValid s false b left (deeper b)) → (n : ℕ) (ms : Members) → MembersHaveNumbers ms → IfOk (range_read s unmoved deeper n ms) (IsNodeOf s outermost unmoved left ms)
 range_read_valid s outermost unmoved left deeper valid n ms numbers =
-    going_on (IsNodeOf s outermost unmoved left ms) (IsValidRange s) (own (range_parts s ms)) _ (seen (IsValidRange s) outside (range_parts s ms) (range_valid s ms numbers)) (λ g h. kind_read_valid s outermost unmoved left deeper valid n ms numbers (range g) (λ inner. h, refl))
+    going_on (IsNodeOf s outermost unmoved left ms) (IsKindAnywhere s) (own (range_part s ms)) _ (seen (IsKindAnywhere s) outside (range_part s ms) (range_part_valid s ms numbers)) (λ kind h. kind_read_valid s outermost unmoved left deeper valid n ms numbers kind h)
 
 query_read_valid : (s : Schema) (outermost unmoved : Bool) (left : ℕ) (deeper : Bool → Reader) → ((b : Bool) → ReadsValid s false b left (deeper b)) → (n : ℕ) (ms : Members) → MembersHaveNumbers ms → IfOk (query_read s unmoved deeper n ms) (IsNodeOf s outermost unmoved left ms)
 query_read_valid s outermost unmoved left deeper valid n ms numbers =

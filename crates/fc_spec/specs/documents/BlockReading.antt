@@ -6,9 +6,10 @@ use Rattle.serde_json.specs.Find.{get, get_member, as_i64}
 use Rattle.fc_spec.specs.documents.Val.{Text, same_text, Val, text, long, distinct}
 use Rattle.fc_spec.specs.words.Lists.{is_empty}
 use Rattle.fc_spec.specs.documents.Document.{Document, values_of, Block}
-use Rattle.fc_spec.specs.documents.Schema.{FieldType, string, strings, plong, plongs, Field, Schema, field_named}
+use Rattle.fc_spec.specs.documents.Schema.{FieldType, string, strings, plong, plongs, pdate, pdates, Field, Schema, field_named}
 use Rattle.fc_spec.specs.documents.SchemaReading.{is_underscored}
 use Rattle.fc_spec.specs.documents.IntegerTexts.{decimal_text, long_of}
+use Rattle.fc_spec.specs.dates.DateTexts.{canonical_of}
 use Rattle.fc_spec.specs.documents.DocFault.{DocFault, unknown_field, wrong_type, too_many_values, no_id, long_term, deep_children}
 use Rattle.fc_spec.specs.words.Walks.{◌>>=◌, unless, each}
 
@@ -34,11 +35,18 @@ long_item (json_string t) = do
 long_item (number n) = ok_or (option_map long (as_i64 n)) wrong_type
 long_item _ = Err wrong_type
 
+-- an item of a field of dates: a date text, which stands for its canonical text
+abbrev pub date_item : Data → Result Val DocFault
+date_item (json_string t) = ok_or (option_map text (canonical_of t)) wrong_type
+date_item _ = Err wrong_type
+
 abbrev pub value_of : FieldType → Data → Result Val DocFault
 value_of string d = text_item d
 value_of strings d = text_item d
 value_of plong d = long_item d
 value_of plongs d = long_item d
+value_of pdate d = date_item d
+value_of pdates d = date_item d
 
 -- the items without the nulls
 abbrev pub without_nulls : Items → List Data
@@ -58,6 +66,8 @@ takes string n = nat_le n 1
 takes strings n = true
 takes plong n = nat_le n 1
 takes plongs n = true
+takes pdate n = nat_le n 1
+takes pdates n = true
 
 -- the different values of a member, in index order
 abbrev pub values_for : FieldType → Data → Result (List Val) DocFault

@@ -2,19 +2,29 @@
 use Rattle.std.specs.Prelude.{ℕ, List, Bool, true, false, Option, map, position}
 use Rattle.fc_spec.specs.documents.Val.{Text, same_text}
 
--- at most one text, texts, at most one integer, integers
+-- at most one text, texts, at most one integer, integers, at most one date, dates
 pub data FieldType : Type 0 where
   string : FieldType
   strings : FieldType
   plong : FieldType
   plongs : FieldType
+  pdate : FieldType
+  pdates : FieldType
 
--- a field of the type holds texts; else it holds integers
+-- a field of the type holds texts, as dates are by their canonical texts; else it holds integers
 abbrev pub holds_texts : FieldType → Bool
 holds_texts string = true
 holds_texts strings = true
 holds_texts plong = false
 holds_texts plongs = false
+holds_texts pdate = true
+holds_texts pdates = true
+
+-- the texts are canonical texts of dates
+abbrev pub holds_dates : FieldType → Bool
+holds_dates pdate = true
+holds_dates pdates = true
+holds_dates _ = false
 
 -- a field
 pub record Field : Type 0 where

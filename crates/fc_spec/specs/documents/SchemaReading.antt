@@ -4,7 +4,7 @@ use Rattle.std.specs.List.{list_all}
 use Rattle.serde_json.specs.Data.{Data, Members, no_members, member}
 use Rattle.serde_json.specs.Find.{get_member, as_str, as_object}
 use Rattle.fc_spec.specs.documents.Val.{Text, same_text}
-use Rattle.fc_spec.specs.documents.Schema.{FieldType, string, strings, plong, plongs, Field, Schema}
+use Rattle.fc_spec.specs.documents.Schema.{FieldType, string, strings, plong, plongs, pdate, pdates, Field, Schema}
 use Rattle.fc_spec.specs.scripts.JsonObjects.{member_count, natural_in}
 
 -- the byte is from one to another, both included
@@ -29,7 +29,7 @@ is_field_name t = nat_le 1 (length t) && nat_le (length t) 64 && list_all is_nam
 -- the type of this name
 abbrev pub type_named : Text → Option FieldType
 type_named t =
-    if same_text t (codes "string") then Some string else (if same_text t (codes "strings") then Some strings else (if same_text t (codes "plong") then Some plong else (if same_text t (codes "plongs") then Some plongs else None)))
+    if same_text t (codes "string") then Some string else (if same_text t (codes "strings") then Some strings else (if same_text t (codes "plong") then Some plong else (if same_text t (codes "plongs") then Some plongs else (if same_text t (codes "pdate") then Some pdate else (if same_text t (codes "pdates") then Some pdates else None)))))
 
 abbrev pub type_of : Data → Option FieldType
 type_of d = option_and_then type_named (as_str d)

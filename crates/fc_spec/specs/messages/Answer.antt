@@ -3,12 +3,12 @@ use Rattle.std.specs.Prelude.{ℕ, List, [], ◌∷◌, ◌++◌, map, not, if�
 use Rattle.std.specs.List.{filter}
 use Rattle.fc_spec.specs.words.Lists.{is_empty}
 use Rattle.fc_spec.specs.documents.World.{World, Place, on_shards}
-use Rattle.fc_spec.specs.requests.Request.{Kind, terms, range, query, Facet, Nodes, no_nodes, statistic, facet, Request, stats_of}
+use Rattle.fc_spec.specs.requests.Request.{Kind, terms, range, date_range, query, Facet, Nodes, no_nodes, statistic, facet, Request, stats_of}
 use Rattle.fc_spec.specs.requests.Paths.{Path, into, domain}
 use Rattle.fc_spec.specs.requests.Shape.{holds_exclusion}
 use Rattle.fc_spec.specs.requests.Buckets.{Key, value, missing, whole, bucket_places}
 use Rattle.fc_spec.specs.requests.Statistics.{Stats, stats_over}
-use Rattle.fc_spec.specs.replies.Printed.{asked, range_keys}
+use Rattle.fc_spec.specs.replies.Printed.{asked, range_keys, date_range_keys}
 use Rattle.fc_spec.specs.replies.Reading.{offered}
 use Rattle.fc_spec.specs.messages.Target.{target_of, target_path, target_places, target_nodes}
 use Rattle.fc_spec.specs.messages.Message.{Partials, no_partials, partial, Rows, no_rows, row, Way, Want, way_of, Ask, first, more}
@@ -25,6 +25,7 @@ listed_keys kind inner Y keys = if holds_exclusion inner then keys else not_empt
 abbrev pub answer_keys : Kind → Nodes → List Place → ℕ → List Key
 answer_keys (terms t) inner Y i = map value (offered t inner Y i) ++ listed_keys (terms t) inner Y (asked t.missing missing)
 answer_keys (range g) inner Y i = listed_keys (range g) inner Y (range_keys g)
+answer_keys (date_range g) inner Y i = listed_keys (date_range g) inner Y (date_range_keys g)
 answer_keys (query q) inner Y i = whole ∷ []
 
 -- one bucket for each key

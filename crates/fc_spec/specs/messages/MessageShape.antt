@@ -1,7 +1,7 @@
 -- The shape of a message for an ask.
 use Rattle.std.specs.Prelude.{ℕ, List, [], ◌∷◌, length, Bool, true, false, not, ◌&&◌, ◌||◌, nat_le, Option, None, Some}
 use Rattle.std.specs.Ordering.{is_lt}
-use Rattle.fc_spec.specs.requests.Request.{Stat, StatKind, min, max, Terms, Kind, terms, range, query, Nodes, no_nodes, statistic, facet, Request, stats_of}
+use Rattle.fc_spec.specs.requests.Request.{Stat, StatKind, min, max, Terms, Kind, terms, range, date_range, query, Nodes, no_nodes, statistic, facet, Request, stats_of}
 use Rattle.fc_spec.specs.requests.Buckets.{Key, value, whole, is_key_of, is_whole}
 use Rattle.fc_spec.specs.requests.Shape.{holds_exclusion}
 use Rattle.fc_spec.specs.messages.KeyOrder.{key_cmp, same_key}
@@ -67,6 +67,7 @@ module _ (most : Terms → Option ℕ) where
   abbrev pub is_complete : Kind → Partials → Bool
   is_complete (terms t) ps = is_at_most_bound (most t) (length (listed_values ps))
   is_complete (range g) ps = true
+  is_complete (date_range g) ps = true
   is_complete (query q) ps = not (is_nothing ps)
 
   abbrev mutual

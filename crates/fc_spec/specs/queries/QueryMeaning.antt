@@ -1,8 +1,9 @@
--- What a tree means for a schema, and its faults. Guide: Standard Query Parser, "Boolean Operators Supported by the Standard Query Parser", "WrittenRange Searches", "Existence Searches".
+-- What a tree means for a schema, and its faults. Guide: Standard Query Parser, "Boolean Operators Supported by the Standard Query Parser", "Range Searches", "Existence Searches".
 use Rattle.std.specs.Prelude.{ℕ, Bool, true, false, ◌&&◌, ◌||◌, Option, None, Some, is_none, option_map, slice_get, Result, Err, ok_or, if◌then◌else◌}
 use Rattle.fc_spec.specs.documents.Val.{Text, Val, text, long}
-use Rattle.fc_spec.specs.documents.Schema.{FieldType, holds_texts, Schema, field_named}
+use Rattle.fc_spec.specs.documents.Schema.{FieldType, string, strings, plong, plongs, pdate, pdates, Schema, field_named}
 use Rattle.fc_spec.specs.documents.IntegerTexts.{long_of}
+use Rattle.fc_spec.specs.dates.DateTexts.{canonical_of}
 use Rattle.fc_spec.specs.queries.Query.{Bound, unbounded, including, excluding, Need, must, must_not, may, Query, all, has, is, between, group, Clauses, no_clauses, clause as query_clause}
 use Rattle.fc_spec.specs.queries.QueryTokens.{WrittenRange, Value, word, quoted, range, star, Sign, plus, minus, exclamation, negation, Operator, and, or}
 use Rattle.fc_spec.specs.queries.QueryTrees.{Atom, plain, everything, nested, Group, no_more, clause}
@@ -63,7 +64,12 @@ abbrev mutual
 
 -- the value of a field of this type that a text writes
 abbrev pub written_value : FieldType → Text → Option Val
-written_value kind t = if holds_texts kind then Some (text t) else option_map long (long_of t)
+written_value string t = Some (text t)
+written_value strings t = Some (text t)
+written_value plong t = option_map long (long_of t)
+written_value plongs t = option_map long (long_of t)
+written_value pdate t = option_map text (canonical_of t)
+written_value pdates t = option_map text (canonical_of t)
 
 -- a range's bound from its end, which is in the range or not
 abbrev pub written_bound : FieldType → (has_end : Bool) → Option Text → Option Bound

@@ -2,12 +2,12 @@
 use Rattle.std.specs.Prelude.{ℕ, suc, List, [], ◌∷◌, length, None, ◌==◌}
 use Rattle.fc_spec.specs.words.Lists.{numbers_below}
 use Rattle.fc_spec.specs.documents.World.{World}
-use Rattle.fc_spec.specs.requests.Request.{Kind, terms, range, query, Facet, Nodes, no_nodes, statistic, facet, Request}
+use Rattle.fc_spec.specs.requests.Request.{Kind, terms, range, date_range, query, Facet, Nodes, no_nodes, statistic, facet, Request}
 use Rattle.fc_spec.specs.requests.Base.{root_domain}
 use Rattle.fc_spec.specs.requests.Buckets.{Key, value, whole}
 use Rattle.fc_spec.specs.requests.Statistics.{shown}
 use Rattle.fc_spec.specs.replies.Reply.{Bucket, bucket, Facets, no_facets, with_buckets}
-use Rattle.fc_spec.specs.replies.Printed.{range_keys, terms_keys, statistic_part, facet_part}
+use Rattle.fc_spec.specs.replies.Printed.{range_keys, terms_keys, statistic_part, facet_part, date_range_keys}
 use Rattle.fc_spec.specs.requests.Paths.{at_root}
 use Rattle.fc_spec.specs.replies.Reading.{Reading, PathBucket, over_places}
 use Rattle.fc_spec.specs.replies.Chosen.{known, chosen_entries}
@@ -16,6 +16,7 @@ use Rattle.fc_spec.specs.replies.Chosen.{known, chosen_entries}
 abbrev pub printed_keys : {B D : Type 0} → Reading B D → Kind → Nodes → List ℕ → D → List Key
 printed_keys R (terms t) inner H Y = terms_keys t (chosen_entries R t inner H Y)
 printed_keys R (range g) inner H Y = range_keys g
+printed_keys R (date_range g) inner H Y = date_range_keys g
 printed_keys R (query q) inner H Y = whole ∷ []
 
 -- the shards that the bucket of a key carries: of a value its known shards, of another key those of the bucket around it

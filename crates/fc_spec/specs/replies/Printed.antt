@@ -3,8 +3,9 @@ use Rattle.std.specs.Prelude.{ℤ, Option, List, [], ◌∷◌, ◌++◌, map, B
 use Rattle.std.specs.List.{filter}
 use Rattle.fc_spec.specs.documents.Val.{Text}
 use Rattle.fc_spec.specs.words.Lists.{is_empty, numbers_below}
-use Rattle.fc_spec.specs.requests.Request.{Terms, Range, Facet}
+use Rattle.fc_spec.specs.requests.Request.{Terms, Range, DateRange, Facet}
 use Rattle.fc_spec.specs.requests.Gaps.{gap_count}
+use Rattle.fc_spec.specs.requests.DateGaps.{date_gap_count}
 use Rattle.fc_spec.specs.requests.Buckets.{Key, value, missing, gap, before, between, after}
 use Rattle.fc_spec.specs.requests.Ranks.{Entry, page}
 use Rattle.fc_spec.specs.replies.Reply.{Facets, with_number}
@@ -16,6 +17,9 @@ asked wanted key = if wanted then key ∷ [] else []
 -- the keys of a range facet's buckets: every gap in order, and those beside them where asked
 abbrev pub range_keys : Range → List Key
 range_keys g = map gap (numbers_below (gap_count g)) ++ (asked g.before before ++ (asked g.between between ++ asked g.after after))
+
+abbrev pub date_range_keys : DateRange → List Key
+date_range_keys g = map gap (numbers_below (date_gap_count g)) ++ (asked g.before before ++ (asked g.between between ++ asked g.after after))
 
 -- the keys of the buckets that a terms facet prints: of the entries whose count is at least mincount the page, and `missing` where asked
 abbrev pub terms_keys : Terms → List Entry → List Key

@@ -1,9 +1,10 @@
 -- Reply trees: what is printed, and nothing else. Guide: JSON Facet API, "Bucketing Facet Example".
 use Rattle.std.specs.Prelude.{ℕ, ℤ, Option, None, Some, List, [], ◌∷◌}
-use Rattle.fc_spec.specs.documents.Val.{Text, Val, long}
-use Rattle.fc_spec.specs.requests.Request.{Kind, terms, range, query}
+use Rattle.fc_spec.specs.documents.Val.{Text, Val, text, long}
+use Rattle.fc_spec.specs.requests.Request.{Kind, terms, range, query, date_range}
 use Rattle.fc_spec.specs.requests.Buckets.{Key, value, missing, gap, before, between, after, whole}
 use Rattle.fc_spec.specs.requests.Gaps.{low_end}
+use Rattle.fc_spec.specs.requests.DateGaps.{low_date}
 
 -- where a bucket of a facet is printed: in its list of buckets, or beside it under a name of its own
 pub data Spot : Type 0 where
@@ -40,6 +41,7 @@ spot_of _ = listed
 abbrev pub val_of : Kind → Key → Option Val
 val_of (terms t) (value v) = Some v
 val_of (range g) (gap i) = Some (long (low_end g i))
+val_of (date_range g) (gap i) = Some (text (low_date g i))
 val_of _ _ = None
 
 -- a row with one bucket for each key
@@ -56,4 +58,5 @@ with_number name (Some n) more = number name n more
 abbrev pub with_buckets : Text → Kind → (count : Key → ℕ) → (inside : Key → Facets) → List Key → Facets → Facets
 with_buckets name (terms t) count inside keys more = many name (row_of (terms t) count inside keys) more
 with_buckets name (range g) count inside keys more = many name (row_of (range g) count inside keys) more
+with_buckets name (date_range g) count inside keys more = many name (row_of (date_range g) count inside keys) more
 with_buckets name (query q) count inside keys more = one name (bucket None (count whole) (inside whole)) more

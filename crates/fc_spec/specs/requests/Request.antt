@@ -67,6 +67,18 @@ pub record Range : Type 0 where
   pub edge : Bool
   pub outer : Bool
 
+-- a range facet over dates: the canonical texts of the low ends of its gaps, ascending, and then the last high end; the start alone where there is no gap. Guide: JSON Facet API, "Range Facet"
+pub record DateRange : Type 0 where
+  pub field : ℕ
+  pub edges : List Text
+  pub before : Bool
+  pub after : Bool
+  pub between : Bool
+  pub lower : Bool
+  pub upper : Bool
+  pub edge : Bool
+  pub outer : Bool
+
 -- the kinds of statistic. Guide: JSON Facet API, "Stat Facet Functions"
 pub data StatKind : Type 0 where
   sum : StatKind
@@ -85,6 +97,7 @@ pub data Kind : Type 0 where
   terms : Terms → Kind
   range : Range → Kind
   query : Query → Kind
+  date_range : DateRange → Kind
 
 -- a facet: its name, what it does to its domain, its kind
 pub record Facet : Type 0 where

@@ -9,14 +9,15 @@ use Rattle.fc_spec.specs.scripts.JsonObjects.{natural_in}
 use Rattle.fc_spec.specs.queries.Query.{all}
 use Rattle.fc_spec.specs.queries.QueryFault.{FilterFault, shape, query as of_query}
 use Rattle.fc_spec.specs.queries.FilterReading.{filter_of}
-use Rattle.fc_spec.specs.requests.Request.{Filter, Stat, DomainChange, Kind, terms, range, Nodes, no_nodes, statistic, facet, Request}
+use Rattle.fc_spec.specs.requests.Request.{Filter, Stat, DomainChange, Kind, terms, Nodes, no_nodes, statistic, facet, Request}
 use Rattle.fc_spec.specs.requests.RequestFault.{QFault, not_an_object, bad_command, unknown_type, bad_parameter, reserved_name, too_large, RequestFault}
 use Rattle.fc_spec.specs.requests.RequestWalk.{query_fault, outside, inside, check_names, required, optional, text_in, each_item}
 use Rattle.fc_spec.specs.requests.StatisticReading.{statistic_of}
 use Rattle.fc_spec.specs.requests.DomainReading.{change_in, text_query}
 use Rattle.fc_spec.specs.requests.Shape.{stays}
 use Rattle.fc_spec.specs.requests.SortReading.{sort_in, allows_exact}
-use Rattle.fc_spec.specs.requests.FacetReading.{terms_parts, range_parts, query_part}
+use Rattle.fc_spec.specs.requests.FacetReading.{terms_parts, query_part}
+use Rattle.fc_spec.specs.requests.DateRangeReading.{range_part}
 use Rattle.fc_spec.specs.words.Walks.{◌>>=◌, unless, with_fault}
 
 -- ---- nodes
@@ -79,10 +80,10 @@ terms_read s outermost unmoved deeper n ms = do
 
 abbrev pub range_read : Schema → (unmoved : Bool) → (Bool → Reader) → ℕ → Members → Result (Walked Node) RequestFault
 range_read s unmoved deeper n ms = do
-  g ← own (range_parts s ms)
+  kind ← own (range_part s ms)
   change ← own (change_in s unmoved ms)
   inner ← inner_read (deeper (unmoved && stays change)) n (get_member (codes "facet") ms)
-  Ok (facet_read change (range g) inner)
+  Ok (facet_read change kind inner)
 
 abbrev pub query_read : Schema → (unmoved : Bool) → (Bool → Reader) → ℕ → Members → Result (Walked Node) RequestFault
 query_read s unmoved deeper n ms = do

@@ -2,11 +2,12 @@
 use Rattle.std.specs.Prelude.{◌≡◌, ◌<◌, ◌≤◌, ◌≤ℤ◌, ◌<ℤ◌, ℕ, suc, pos, max, List, [], ◌∷◌, length, Bool, true, false, not, ◌&&◌, IsTrue, None, IfSome, All}
 use Rattle.std.specs.List.Sorted.{IsStrictlySortedBy}
 use Rattle.fc_spec.specs.documents.Val.{Text, text_cmp}
-use Rattle.fc_spec.specs.documents.Schema.{Schema, holds_texts}
+use Rattle.fc_spec.specs.documents.Schema.{Schema, holds_texts, holds_dates}
 use Rattle.fc_spec.specs.documents.IntegerTexts.{is_long}
+use Rattle.fc_spec.specs.dates.DateTexts.{IsCanonical}
 use Rattle.fc_spec.specs.queries.ValidQueries.{IsValidQuery}
 use Rattle.fc_spec.specs.queries.FilterReading.{is_tag}
-use Rattle.fc_spec.specs.requests.Request.{Filter, BlockStep, stay, parents, children, DomainChange, SortKey, by_count, by_index, by_statistic, Terms, Range, Stat, Kind, terms, range, query, Facet, Nodes, no_nodes, statistic, facet, Request, stats_of}
+use Rattle.fc_spec.specs.requests.Request.{Filter, BlockStep, stay, parents, children, DomainChange, SortKey, by_count, by_index, by_statistic, Terms, Range, DateRange, Stat, Kind, terms, range, query, date_range, Facet, Nodes, no_nodes, statistic, facet, Request, stats_of}
 use Rattle.fc_spec.specs.requests.Gaps.{gap_count, last_end}
 use Rattle.fc_spec.specs.requests.StatisticReading.{takes_texts, has_type}
 use Rattle.fc_spec.specs.requests.Shape.{stays, outermost_exact}
@@ -68,10 +69,20 @@ pub record IsValidRange (s : Schema) (g : Range) : Type 0 where
   pub last : IsTrue (is_long (last_end g))
   pub few : gap_count g ≤ 10_000
 
+-- its field is there, of dates; its edges are canonical texts, ascending, of at most 10,000 gaps
+pub record IsValidDateRange (s : Schema) (g : DateRange) : Type 0 where
+  pub field : g.field < length s.fields
+  pub of_dates : IsTrue (has_type s holds_dates g.field)
+  pub edges : All IsCanonical g.edges
+  pub ascending : IsStrictlySortedBy text_cmp g.edges
+  pub some : 1 ≤ length g.edges
+  pub few : length g.edges ≤ 10_001
+
 abbrev pub IsValidKind : Schema → Nodes → Kind → Type 0
 IsValidKind s inner (terms t) = IsValidTerms s inner t
 IsValidKind s inner (range g) = IsValidRange s g
 IsValidKind s inner (query q) = IsValidQuery s q
+IsValidKind s inner (date_range g) = IsValidDateRange s g
 
 -- its field is there, of integers where the statistic asks for them
 pub record IsValidStatistic (s : Schema) (st : Stat) : Type 0 where

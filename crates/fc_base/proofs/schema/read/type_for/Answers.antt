@@ -5,7 +5,7 @@ use Rattle.std.specs.Prelude.{codes}
 use Rattle.fc_spec.specs.documents.Val.{Text}
 use Rattle.fc_spec.specs.documents.SchemaReading.{type_for}
 use Rattle.fc_base.specs.declared.field.FieldType.{FieldType}
-use Rattle.fc_base.specs.declared.field.FieldType.TheVariants.{Str, Strs, Long, Longs}
+use Rattle.fc_base.specs.declared.field.FieldType.TheVariants.{Str, Strs, Long, Longs, Date, Dates}
 use Rattle.fc_base.specs.View.{field_type_view}
 use Rattle.fc_base.proofs.schema.read.type_for.Goals as goal
 
@@ -14,6 +14,8 @@ for_another name Str other = refl
 for_another name Strs other = rw (is_eq-slice_cmp, ← other) refl
 for_another name Long other = rw (is_eq-slice_cmp, ← other) refl
 for_another name Longs other = rw (is_eq-slice_cmp, ← other) refl
+for_another name Date other = rw (is_eq-slice_cmp, ← other) refl
+for_another name Dates other = rw (is_eq-slice_cmp, ← other) refl
 
 pub returns-in_default-2 : goal.returns-in_default-2
 returns-in_default-2 c = for_another c.args.name.now c.args.kind c.if-eq.ensures

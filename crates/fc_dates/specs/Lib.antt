@@ -1,0 +1,2 @@
+pub mod MomentView
+pub mod GapView

@@ -1,0 +1,16 @@
+//! Date texts, gap texts and what is a gap later, by the calendar of `jiff`. No call takes memory.
+#![tactic(auto)]
+
+mod date;
+mod digits;
+mod gap;
+mod later;
+mod moment;
+mod parts;
+mod written;
+
+pub use date::{DateText, add_gap, canonical};
+pub use gap::{Gap, Unit, read_gap};
+
+#[cfg(test)]
+mod tests;

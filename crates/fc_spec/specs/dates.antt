@@ -1,0 +1,4 @@
+pub mod Calendar
+pub mod DateTexts
+pub mod GapTexts
+pub mod Adding
