@@ -1,14 +1,14 @@
 -- The days of the definitions are those of the calendar.
-use Rattle.std.proofs.Common.{◌≡◌, ℕ, zero, suc, ◌+◌, ◌-◌, ◌*◌, ◌/◌, ◌%◌, ◌<◌, ◌≤◌, min, Bool, true, false, if◌then◌else◌, refl, ap, sym, ◌∙◌, rules, arith, ℤ, pos, ◌+ℤ◌, ◌*ℤ◌, ◌<ℤ◌, ◌≤ℤ◌, unsigned_abs}
+use Rattle.std.proofs.Common.{◌≡◌, ℕ, zero, suc, ◌+◌, ◌-◌, ◌*◌, ◌/◌, ◌%◌, ◌≤◌, min, Bool, true, false, if◌then◌else◌, refl, ap, sym, ◌∙◌, rules, arith, ℤ, pos, ◌+ℤ◌, ◌≤ℤ◌}
 use Rattle.std.specs.Prelude.{nat_lt}
 use Rattle.std.proofs.lemmas.Bool.Decides.{nat_tests}
 use Rattle.jiff.specs.Types.{Date}
-use Rattle.jiff.specs.Words.{add_months, shifted_year, shifted_month, month_number, days_in_month}
+use Rattle.jiff.specs.Words.{add_months, shifted_year, shifted_month, days_in_month}
 use Rattle.jiff_core.specs.Calendar.{days_from_civil}
 use Rattle.jiff.proofs.Family.{days_from_civil-day, days_from_civil-next_month, days_from_civil-next_year, days_from_civil-max, days_from_civil-month}
 use Rattle.jiff.proofs.SpanFacts.{signed_arith}
 use Rattle.fc_spec.specs.dates.Calendar.{Moment, month_length}
-use Rattle.fc_spec.specs.dates.Adding.{next_day, days_later, in_month, months_later}
+use Rattle.fc_spec.specs.dates.Adding.{next_day, days_later, months_later}
 use Rattle.fc_spec.proofs.dates.DateBounds.{IsTime}
 use Rattle.fc_spec.proofs.dates.LaterDates.{days_are}
 

@@ -1,14 +1,14 @@
 -- The moments of the definitions by their nanoseconds.
-use Rattle.std.proofs.Common.{◌≡◌, ℕ, ◌+◌, ◌-◌, ◌*◌, ◌/◌, ◌%◌, ◌<◌, ◌≤◌, Bool, true, false, if◌then◌else◌, Option, Some, None, refl, ap, sym, subst, ◌∙◌, rules, arith, ℤ, pos, negsuc, ◌+ℤ◌, ◌*ℤ◌, ◌<ℤ◌, ◌≤ℤ◌, unsigned_abs}
+use Rattle.std.proofs.Common.{◌≡◌, ℕ, ◌+◌, ◌*◌, ◌/◌, ◌%◌, ◌<◌, ◌≤◌, Bool, true, false, if◌then◌else◌, Some, None, refl, ap, sym, subst, ◌∙◌, arith, ℤ, pos, negsuc, ◌+ℤ◌, ◌*ℤ◌, ◌≤ℤ◌, unsigned_abs}
 use Rattle.std.specs.Prelude.{nat_le}
 use Rattle.std.proofs.lemmas.Bool.Decides.{nat_tests}
-use Rattle.jiff.specs.Types.{Date, Time, DateTime}
+use Rattle.jiff.specs.Types.{DateTime}
 use Rattle.jiff_core.specs.Calendar.{days_from_civil}
 use Rattle.jiff.specs.Words.{days_in_month, add_months, IsShiftable, IsCivilNanos, civil_nanos, time_nanos, epoch_day}
-use Rattle.jiff.proofs.Family.{civil_nanos-parts, civil_nanos_injective, civil_nanos_range, epoch_day_injective, time_nanos_injective, time_nanos_bound}
+use Rattle.jiff.proofs.Family.{civil_nanos-parts, civil_nanos_injective, civil_nanos_range, epoch_day_injective, time_nanos_injective}
 use Rattle.jiff.proofs.SpanFacts.{signed_arith}
-use Rattle.fc_spec.specs.dates.Calendar.{Moment, month_length}
-use Rattle.fc_spec.specs.dates.Adding.{second_of_day, days_later, at_second, seconds_later, months_later}
+use Rattle.fc_spec.specs.dates.Calendar.{Moment}
+use Rattle.fc_spec.specs.dates.Adding.{second_of_day, days_later, seconds_later, months_later}
 use Rattle.fc_spec.proofs.dates.DateBounds.{IsTime}
 use Rattle.fc_spec.proofs.dates.LaterDates.{days_are, months_time, seconds_time}
 use Rattle.fc_dates.specs.MomentView.{moment_view, IsWhole, in_years}
@@ -85,16 +85,18 @@ same_view dt m t h e =
     let same = civil_nanos_injective dt other (e ∙ sym (datetime_nanos m t h)) in
     let date = epoch_day_injective dt.date other.date same.0 in
     let time = time_nanos_injective dt.time other.time same.1 in
-    let milli : dt.time.subsec_nanosecond / 1_000_000 ≡ m.milli = omega (arith, time.3) in
-    (λ i. record {
-      year = unsigned_abs (date.0 i);
-      month = date.1 i;
-      day = date.2 i;
-      hour = time.0 i;
-      minute = time.1 i;
-      second = time.2 i;
-      milli = milli i;
-    }, record { year = omega (arith, signed_arith, date.0, t.year); milli = omega (arith, time.3) })
+    let milli : dt.time.subsec_nanosecond / 1_000_000 ≡ m.milli = omega (arith, time.3) in (
+      λ i. record {
+        year = unsigned_abs (date.0 i);
+        month = date.1 i;
+        day = date.2 i;
+        hour = time.0 i;
+        minute = time.1 i;
+        second = time.2 i;
+        milli = milli i;
+      },
+      record { year = omega (arith, signed_arith, date.0, t.year); milli = omega (arith, time.3) },
+    )
 
 pub found : (dt : DateTime) (m : Moment) → IsTime m → IsCivilNanos (moment_nanos m) → civil_nanos dt ≡ moment_nanos m → (Some (moment_view dt) ≡ in_years m) × IsWhole dt
 found dt m t can e =

@@ -1,2 +1,3 @@
+pub mod DateView
 pub mod MomentView
 pub mod GapView

@@ -1,5 +1,5 @@
 -- What the calendar's datetimes stand for in the definitions.
-use Rattle.std.specs.Prelude.{◌≡◌, ℕ, ◌/◌, ◌%◌, ◌<◌, ◌≤ℤ◌, pos, unsigned_abs, nat_le, Option, Some, None, if◌then◌else◌}
+use Rattle.std.specs.Prelude.{◌≡◌, ◌/◌, ◌%◌, ◌<◌, ◌≤ℤ◌, pos, unsigned_abs, nat_le, Option, Some, None, if◌then◌else◌}
 use Rattle.jiff.specs.Types.{DateTime}
 use Rattle.fc_spec.specs.dates.Calendar.{Moment}
 use Rattle.fc_dates.specs.declared.parts.Parts.{Parts}

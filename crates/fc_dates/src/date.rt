@@ -2,24 +2,20 @@
 ghost use Rattle.std.specs.Prelude.{◌≡◌, length, option_map};
 ghost use Rattle.fc_spec.specs.dates.DateTexts.{canonical_of, IsCanonical};
 ghost use Rattle.fc_spec.specs.dates.Adding.{added};
+ghost use Rattle.fc_dates.specs.DateView.{date_view};
 ghost use Rattle.fc_dates.specs.GapView.{gap_view};
 
 use crate::Gap;
+use crate::date_text::DateText;
 use crate::later::later;
 use crate::moment::moment_of;
 use crate::written::written;
 
-/// The canonical text of a date text: `YYYY-MM-DDThh:mm:ss.sssZ`. Their byte order is the order of time.
-#[derive(Clone, Copy, Debug, PartialEq, Eq)]
-pub struct DateText {
-    bytes: [u8; 24],
-    ghost canonical: { IsCanonical bytes },
-}
-
 impl DateText {
     /// The 24 bytes.
     pub fn text(&self) -> &str
-        ensures bytes { result.now ≡ self.now.bytes }
+        ensures bytes { result.now ≡ date_view self.now }
+        ensures canonical { IsCanonical result.now }
         ensures long { length result.now ≡ 24 }
     {
         match str::from_utf8(&self.bytes) {
@@ -33,7 +29,7 @@ impl DateText {
 /// 9999, on a day of the Gregorian calendar and at a time that a clock shows. Digits behind the third are dropped. There is
 /// none where the text is not so. (Guide: Date Formatting and Date Math, "Date Formatting")
 pub fn canonical(text: &str) -> Option<DateText>
-    ensures { option_map (λ date. date.bytes) result ≡ canonical_of text.now }
+    ensures { option_map date_view result ≡ canonical_of text.now }
 {
     let moment = moment_of(text.as_bytes())?;
     Some(DateText {
@@ -43,7 +39,7 @@ pub fn canonical(text: &str) -> Option<DateText>
 
 /// The date a gap later; none where that is past the year 9999. (Guide: Date Formatting and Date Math, "Date Math Syntax")
 pub fn add_gap(date: &DateText, gap: &Gap) -> Option<DateText>
-    ensures { option_map (λ sum. sum.bytes) result ≡ added date.now.bytes (gap_view gap.now) }
+    ensures { option_map date_view result ≡ added (date_view date.now) (gap_view gap.now) }
 {
     let moment = moment_of(&date.bytes)?;
     let sum = later(moment, gap)?;

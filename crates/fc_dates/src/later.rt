@@ -9,9 +9,10 @@ use crate::{Gap, Unit};
 use jiff::ToSpan;
 use jiff::civil::DateTime;
 
-// No date is more than this many months, or days, behind another.
+// No date is more than this many months behind another.
 const MOST_MONTHS: u32 = 119_988;
 
+// The most days that the calendar adds at once: more than there are from the year 1 to 9999.
 const MOST_DAYS: u32 = 7_304_484;
 
 fn months_later(moment: DateTime, number: u32) -> Option<DateTime>

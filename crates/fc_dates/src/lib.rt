@@ -2,6 +2,7 @@
 #![tactic(auto)]
 
 mod date;
+mod date_text;
 mod digits;
 mod gap;
 mod later;
@@ -9,7 +10,8 @@ mod moment;
 mod parts;
 mod written;
 
-pub use date::{DateText, add_gap, canonical};
+pub use date::{add_gap, canonical};
+pub use date_text::DateText;
 pub use gap::{Gap, Unit, read_gap};
 
 #[cfg(test)]

@@ -1,6 +1,5 @@
-use Rattle.std.proofs.Common.{ℕ, ◌+◌, ◌*◌, ◌<◌, ◌≤◌, ◌^◌, Fits, w32, rules, arith}
+use Rattle.std.proofs.Common.{◌<◌, rules, arith}
 use Rattle.std.proofs.Math.Nat.{pow-le-pow_right}
-use Rattle.std.proofs.lemmas.Bool.Decides.{nat_tests}
 use Rattle.fc_dates.proofs.digits.natural.Goals as goal
 
 pub overflow_mul-number : goal.overflow_mul-number

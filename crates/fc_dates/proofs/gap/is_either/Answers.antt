@@ -1,4 +1,4 @@
-use Rattle.std.proofs.Common.{◌≡◌, true, ◌||◌, ap, sym, ◌∙◌}
+use Rattle.std.proofs.Common.{◌||◌, ap, sym, ◌∙◌}
 use Rattle.std.proofs.lemmas.Map.Text.{is_eq-slice_cmp}
 use Rattle.fc_spec.specs.documents.Val.{same_text}
 use Rattle.fc_dates.proofs.gap.is_either.Goals as goal

@@ -1,6 +1,5 @@
-use Rattle.std.proofs.Common.{rules, arith, ◌∙◌, w64, to_z-of_z, refl, FitsSigned}
+use Rattle.std.proofs.Common.{rules, ◌∙◌, w64, to_z-of_z, refl, FitsSigned}
 use Rattle.std.specs.Prelude.{pos}
-use Rattle.jiff.proofs.SpanFacts.{signed_arith}
 use Rattle.fc_dates.proofs.Sums.{days_sum, days_can}
 use Rattle.fc_dates.proofs.CivilMoments.{days_found, days_missing, days_past}
 use Rattle.fc_dates.proofs.later.days_later.Goals as goal

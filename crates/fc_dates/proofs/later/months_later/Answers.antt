@@ -1,8 +1,7 @@
-use Rattle.std.proofs.Common.{rules, arith, ◌∙◌, w64, to_z-of_z, refl, FitsSigned}
+use Rattle.std.proofs.Common.{rules, ◌∙◌, w64, to_z-of_z, refl, FitsSigned}
 use Rattle.std.specs.Prelude.{pos}
-use Rattle.jiff.proofs.SpanFacts.{signed_arith}
 use Rattle.fc_dates.proofs.Sums.{months_sum, months_can}
-use Rattle.fc_dates.proofs.CivilMoments.{months_found, months_missing, months_past}
+use Rattle.fc_dates.proofs.CivilMoments.{months_found, months_missing}
 use Rattle.fc_dates.proofs.later.months_later.Goals as goal
 
 pub returns-in-Ok-clause-value : goal.returns-in-Ok-clause-value

@@ -1,6 +1,5 @@
-use Rattle.std.proofs.Common.{rules, arith, ◌∙◌, w64, to_z-of_z, refl, FitsSigned}
+use Rattle.std.proofs.Common.{rules, ◌∙◌, w64, to_z-of_z, refl, FitsSigned}
 use Rattle.std.specs.Prelude.{pos}
-use Rattle.jiff.proofs.SpanFacts.{signed_arith}
 use Rattle.fc_dates.proofs.Sums.{seconds_sum, seconds_can}
 use Rattle.fc_dates.proofs.CivilMoments.{seconds_found, seconds_missing}
 use Rattle.fc_dates.proofs.later.seconds_later.Goals as goal

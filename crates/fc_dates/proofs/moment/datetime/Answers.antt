@@ -1,6 +1,6 @@
-use Rattle.std.proofs.Common.{◌≡◌, ◌*◌, Bool, true, false, Option, Some, None, if◌then◌else◌, refl, rules, arith, to_z, w8, w32, pos}
+use Rattle.std.proofs.Common.{◌≡◌, ◌*◌, Bool, true, false, Some, None, if◌then◌else◌, refl, rules, to_z, w8, w32, pos}
 use Rattle.std.specs.Int.{w16}
-use Rattle.fc_spec.specs.dates.Calendar.{Moment, is_moment}
+use Rattle.fc_spec.specs.dates.Calendar.{is_moment}
 use Rattle.fc_dates.specs.MomentView.{parts_view}
 use Rattle.fc_dates.proofs.CivilParts.{civil_parts}
 use Rattle.fc_dates.proofs.moment.datetime.Goals as goal
