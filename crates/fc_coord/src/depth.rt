@@ -15,7 +15,7 @@ fn node_depth(node: &Node) -> u32
 {
     match &node.kind {
         Kind::Terms(_) => 1 + terms_depth(&node.nodes),
-        Kind::Range(_) | Kind::Query(_) => terms_depth(&node.nodes),
+        Kind::Range(_) | Kind::DateRange(_) | Kind::Query(_) => terms_depth(&node.nodes),
         Kind::Stat(_) => 0,
     }
 }

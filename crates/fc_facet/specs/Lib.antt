@@ -1,4 +1,5 @@
 pub mod Asked
+pub mod DateEdges
 pub mod FaultView
 pub mod KindView
 pub mod RangeGaps

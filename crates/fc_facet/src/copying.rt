@@ -1,9 +1,9 @@
 // Copies of kinds and domain changes.
 ghost use Rattle.std.specs.Prelude.{◌≡◌, IfOk};
 ghost use Rattle.fc_facet.specs.Asked.{asked_view};
-ghost use Rattle.fc_facet.specs.KindView.{domain_view, step_view};
+ghost use Rattle.fc_facet.specs.KindView.{date_range_view, domain_view, step_view};
 
-use crate::{BlockStep, Domain, Kind, Terms};
+use crate::{BlockStep, DateRange, Domain, Kind, Terms};
 use fc_base::{Name, WantMemory};
 use fc_query::{copy_names, copy_queries};
 use std::alloc::Global;
@@ -65,6 +65,25 @@ impl Terms {
     }
 }
 
+impl DateRange {
+    /// Another range that is the same.
+    pub fn copy(&self, alloc: Global) -> Result<DateRange, WantMemory>
+        ensures { IfOk result (λ range. date_range_view range ≡ date_range_view self.now) }
+    {
+        Ok(DateRange {
+            field: self.field,
+            edges: copy_names(alloc, &self.edges)?,
+            before: self.before,
+            after: self.after,
+            between: self.between,
+            lower: self.lower,
+            upper: self.upper,
+            edge: self.edge,
+            outer: self.outer,
+        })
+    }
+}
+
 impl Kind {
     /// Another kind that is the same.
     pub fn copy(&self, alloc: Global) -> Result<Kind, WantMemory>
@@ -74,6 +93,7 @@ impl Kind {
             Kind::Terms(terms) => Kind::Terms(terms.copy(alloc)?),
             Kind::Range(range) => Kind::Range(*range),
             Kind::Query(query) => Kind::Query(query.copy(alloc)?),
+            Kind::DateRange(range) => Kind::DateRange(range.copy(alloc)?),
             Kind::Stat(stat) => Kind::Stat(*stat),
         })
     }

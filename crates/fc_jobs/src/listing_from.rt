@@ -101,7 +101,7 @@ pub fn listed_from(
             let list = values_from(alloc, node, terms, tally, least)?;
             Ok(list)
         }
-        Kind::Range(_) => {
+        Kind::Range(_) | Kind::DateRange(_) => {
             let list = listed(alloc, node, tally)?;
             Ok(list)
         }

@@ -3,9 +3,9 @@ use Rattle.std.proofs.Common.{◌≡◌, ◌<◌, ℕ, zero, suc, List, [], ◌�
 use Rattle.std.proofs.lemmas.Bool.{false≢true}
 use Rattle.std.specs.Prelude.{slice_get, IfSome}
 use Rattle.std.proofs.lemmas.List.{length-map}
-use Rattle.fc_spec.specs.documents.Schema.{holds_texts, texts_held, Field, Schema}
+use Rattle.fc_spec.specs.documents.Schema.{FieldType, string, strings, plong, plongs, pdate, pdates, holds_texts, holds_dates, texts_held, Field, Schema}
 use Rattle.fc_spec.specs.documents.Val.{Text}
-use Rattle.fc_spec.specs.requests.Request.{Kind, terms, range, query, Nodes, no_nodes, statistic, facet, stats_of}
+use Rattle.fc_spec.specs.requests.Request.{Kind, terms, range, query, date_range, Nodes, no_nodes, statistic, facet, stats_of}
 use Rattle.fc_spec.specs.requests.StatisticReading.{has_type}
 use Rattle.fc_spec.specs.requests.ValidRequests.{AreValidNodes, IsValidKind}
 use Rattle.fc_domain.specs.FieldsFit.{HasField}
@@ -29,6 +29,20 @@ integers_there [] field h = absurd (false≢true h)
 integers_there (f ∷ fields) zero h = false_from (holds_texts f.kind) h
 integers_there (f ∷ fields) (suc field) h = integers_there fields field h
 
+-- dates are texts
+dates_are_texts : (kind : FieldType) → IsTrue (holds_dates kind) → holds_texts kind ≡ true
+dates_are_texts string h = refl
+dates_are_texts strings h = refl
+dates_are_texts plong h = absurd (false≢true h)
+dates_are_texts plongs h = absurd (false≢true h)
+dates_are_texts pdate h = refl
+dates_are_texts pdates h = refl
+
+dates_there : (fields : List Field) (field : ℕ) → IsTrue (unwrap_or (option_map (λ f. holds_dates f.kind) (slice_get fields field)) false) → get_or (texts_held fields) field false ≡ true
+dates_there [] field h = absurd (false≢true h)
+dates_there (f ∷ fields) zero h = dates_are_texts f.kind h
+dates_there (f ∷ fields) (suc field) h = dates_there fields field h
+
 prefix_fits : (s : Schema) (field : ℕ) (prefix : Option Text) → IfSome prefix (λ p. IsTrue (has_type s holds_texts field)) → IsPrefixOf (texts_held s.fields) field prefix
 prefix_fits s field None valid = tt
 prefix_fits s field (Some p) valid = texts_there s.fields field valid
@@ -38,6 +52,8 @@ kind_fits s inner (terms t) valid = (is_field s.fields t.field valid.field, pref
 kind_fits s inner (range g) valid =
     (is_field s.fields g.field valid.field, integers_there s.fields g.field valid.of_integers, record { ordered = valid.ordered; forward = valid.forward; few = valid.few })
 kind_fits s inner (query q) valid = fields_fit s q valid.fits
+kind_fits s inner (date_range g) valid =
+    (is_field s.fields g.field valid.field, dates_there s.fields g.field valid.of_dates, record { some = valid.some; few = valid.few; ascending = valid.ascending })
 
 pub statistics_fit : (s : Schema) (unmoved : Bool) (nodes : Nodes) → AreValidNodes s unmoved nodes → HaveFields (texts_held s.fields) (stats_of nodes)
 statistics_fit s unmoved no_nodes valid = tt

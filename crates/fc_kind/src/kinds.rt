@@ -1,7 +1,7 @@
 // Lists of kinds of facet.
 ghost use Rattle.std.specs.Prelude.{◌≡◌, ◌↔◌, IfOk, IsSome, IsTrue, IfSome, map};
 ghost use Rattle.fc_kind.specs.Names.{Covers, Has};
-ghost use Rattle.fc_kind.specs.declared.name.KindName.TheVariants.{Query, Range, Terms};
+ghost use Rattle.fc_kind.specs.declared.name.KindName.TheVariants.{DateRange, Query, Range, Terms};
 
 use crate::{FacetKind, KindName};
 use fc_base::WantMemory;
@@ -32,7 +32,10 @@ fn has<K: FacetKind>(kinds: &[K], wanted: KindName) -> bool
 pub fn covers(kinds: &[Box<dyn FacetKind>]) -> bool
     ensures { IsTrue result ↔ Covers (map name kinds.now) }
 {
-    has(kinds, KindName::Terms) && has(kinds, KindName::Range) && has(kinds, KindName::Query)
+    has(kinds, KindName::Terms)
+        && has(kinds, KindName::Range)
+        && has(kinds, KindName::Query)
+        && has(kinds, KindName::DateRange)
 }
 
 /// The first of them that has the name.
@@ -52,15 +55,18 @@ pub fn kinds_of(
     terms: Box<dyn FacetKind>,
     range: Box<dyn FacetKind>,
     query: Box<dyn FacetKind>,
+    date_range: Box<dyn FacetKind>,
 ) -> Result<Vec<Box<dyn FacetKind>>, WantMemory>
     requires terms { name terms ≡ Terms }
     requires range { name range ≡ Range }
     requires query { name query ≡ Query }
+    requires date_range { name date_range ≡ DateRange }
     ensures { IfOk result (λ kinds. Covers (map name kinds.items)) }
 {
     let mut kinds = Vec::new(alloc);
     kinds.push(terms)?;
     kinds.push(range)?;
     kinds.push(query)?;
+    kinds.push(date_range)?;
     Ok(kinds)
 }

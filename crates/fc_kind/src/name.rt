@@ -8,6 +8,7 @@ pub enum KindName {
     Terms,
     Range,
     Query,
+    DateRange,
 }
 
 ghost use Rattle.std.specs.Prelude.{◌≡◌};
@@ -22,6 +23,7 @@ pub fn name_of(node: &Node) -> Option<KindName>
         Kind::Terms(_) => Some(KindName::Terms),
         Kind::Range(_) => Some(KindName::Range),
         Kind::Query(_) => Some(KindName::Query),
+        Kind::DateRange(_) => Some(KindName::DateRange),
         Kind::Stat(_) => None,
     }
 }

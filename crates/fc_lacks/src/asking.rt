@@ -22,7 +22,7 @@ fn node_asks(node: &Node, depth: u32) -> bool
                 asks_at(&node.nodes, depth - 1)
             }
         }
-        Kind::Range(_) | Kind::Query(_) => asks_at(&node.nodes, depth),
+        Kind::Range(_) | Kind::DateRange(_) | Kind::Query(_) => asks_at(&node.nodes, depth),
         Kind::Stat(_) => false,
     }
 }

@@ -4,6 +4,7 @@
 mod complaint;
 
 use complaint::complaint;
+use fc_date_range::DateRangeKind;
 use fc_io::{StdSink, StdSource};
 use fc_kind::kinds_of;
 use fc_range::{QueryKind, RangeKind};
@@ -39,7 +40,10 @@ fn run_program<R: Threads + Wait + Sync + Env + Input + Print + AllocGlobal>(rt:
     let Ok(query) = Box::new(alloc, QueryKind) else {
         return Status::Memory;
     };
-    let Ok(kinds) = kinds_of(alloc, terms, range, query) else {
+    let Ok(date_range) = Box::new(alloc, DateRangeKind) else {
+        return Status::Memory;
+    };
+    let Ok(kinds) = kinds_of(alloc, terms, range, query, date_range) else {
         return Status::Memory;
     };
     let mut source = StdSource::new(rt.reader());

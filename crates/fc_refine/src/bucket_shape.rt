@@ -13,13 +13,14 @@ ghost use Rattle.fc_partial.specs.StatsView.{stats_view};
 ghost use Rattle.fc_partial.specs.View.{key_view, stat_value_view};
 ghost use Rattle.fc_request.specs.FacetNode.{kind_view};
 ghost use Rattle.fc_request.specs.NodeView.{node_view, nodes_view};
+ghost use Rattle.fc_request.specs.Ranged.{IsRange};
 ghost use Rattle.fc_refine.specs.CountableRanges.{IsCountable};
 ghost use Rattle.fc_refine.specs.Leaving.{LeavesValues};
 
 use crate::offered;
 use fc_base::{Name, Stat, StatKind, Val};
 use fc_partial::{Key, PartialBucket, StatValue, Stats};
-use fc_request::{Kind, Node, holds_exclusion};
+use fc_request::{Kind, Node, buckets_of_range, holds_exclusion};
 
 // Whether the statistic is a least or greatest value.
 fn is_extreme(of: StatKind) -> bool
@@ -80,6 +81,21 @@ fn has_prefix(prefix: Option<&Name>, val: &Val) -> bool
     }
 }
 
+// Whether it is a key of a range facet.
+fn is_key_of_range(kind: &Kind, key: &Key) -> bool
+    requires { IsRange (kind_view kind.now) }
+    ensures { result ≡ buckets.is_key_of (kind_view kind.now) (key_view key.now) }
+{
+    let buckets = buckets_of_range(kind);
+    match key {
+        Key::Gap(gap) => *gap < buckets.gaps,
+        Key::Before => buckets.before,
+        Key::Between => buckets.between,
+        Key::After => buckets.after,
+        Key::Value(_) | Key::Missing | Key::Whole => false,
+    }
+}
+
 // Whether it is a key of a facet of this kind.
 fn is_key_of(kind: &Kind, key: &Key) -> bool
     requires { IsCountable (kind_view kind.now) }
@@ -88,10 +104,7 @@ fn is_key_of(kind: &Kind, key: &Key) -> bool
     match (kind, key) {
         (Kind::Terms(terms), Key::Value(val)) => has_prefix(terms.prefix.as_ref(), val),
         (Kind::Terms(terms), Key::Missing) => terms.missing,
-        (Kind::Range(range), Key::Gap(gap)) => *gap < range.gaps(),
-        (Kind::Range(range), Key::Before) => range.before,
-        (Kind::Range(range), Key::Between) => range.between,
-        (Kind::Range(range), Key::After) => range.after,
+        (Kind::Range(_) | Kind::DateRange(_), key) => is_key_of_range(kind, key),
         (Kind::Query(_) | Kind::Stat(_), Key::Whole) => true,
         _ => false,
     }
@@ -170,7 +183,7 @@ pub(crate) fn is_complete(kind: &Kind, all: &[PartialBucket]) -> bool
             Some(most) => value_count(all) as u64 <= most,
             None => true,
         },
-        Kind::Range(_) => true,
+        Kind::Range(_) | Kind::DateRange(_) => true,
         Kind::Query(_) => !all.is_empty(),
         Kind::Stat(_) => !all.is_empty(),
     }

@@ -34,7 +34,7 @@ pub(crate) fn exact_terms(kind: &Kind) -> Option<&Terms>
                 None
             }
         }
-        Kind::Range(_) | Kind::Query(_) | Kind::Stat(_) => None,
+        Kind::Range(_) | Kind::DateRange(_) | Kind::Query(_) | Kind::Stat(_) => None,
     }
 }
 

@@ -6,13 +6,14 @@ use Rattle.serde_json.specs.Data.{Data, null, boolean, number, string, array, ob
 use Rattle.serde_json.specs.Find.{as_object, get_member}
 use Rattle.fc_spec.specs.documents.Val.{Text}
 use Rattle.fc_spec.specs.documents.Schema.{Schema}
-use Rattle.fc_spec.specs.requests.Request.{DomainChange, Sort, Terms, Kind, terms, range, Nodes, no_nodes}
+use Rattle.fc_spec.specs.requests.Request.{DomainChange, Sort, Terms, Kind, terms, Nodes, no_nodes}
 use Rattle.fc_spec.specs.requests.RequestFault.{QFault, not_an_object, bad_parameter, reserved_name, too_large, RequestFault}
 use Rattle.fc_spec.specs.requests.RequestWalk.{inside, check_names, required, said_or, text_in}
 use Rattle.fc_spec.specs.requests.StatisticReading.{statistic_of}
 use Rattle.fc_spec.specs.requests.DomainReading.{change_in}
 use Rattle.fc_spec.specs.requests.SortReading.{sort_in, allows_exact}
-use Rattle.fc_spec.specs.requests.FacetReading.{terms_parts, range_parts, query_part}
+use Rattle.fc_spec.specs.requests.FacetReading.{terms_parts, query_part}
+use Rattle.fc_spec.specs.requests.DateRangeReading.{range_part}
 use Rattle.fc_spec.specs.requests.RequestReading.{Node, Walked, Reader, members_read, with_node, is_reserved, inner_read, own, facet_read, terms_read, statistic_read, FacetType, terms_type, range_type, query_type, func_type, parameters, type_of, typed_read, command_read, nodes_within}
 use Rattle.fc_spec.specs.words.Walks.{◌>>=◌, unless}
 use Rattle.fc_request.specs.NodeView.{Part, linked}
@@ -75,7 +76,7 @@ of_statistic_text s outermost deeper n t = step (resumed outermost deeper n) (st
 
 of_type : (kind : FacetType) (s : Schema) (outermost unmoved : Bool) (deeper : Bool → Reader) (n : ℕ) (ms : Members) → typed_read kind s outermost unmoved deeper n ms ≡ (own (typed_head kind s unmoved ms) >>= resumed outermost (under deeper unmoved) n)
 of_type terms_type s outermost unmoved deeper n ms = of_terms s outermost unmoved deeper n ms
-of_type range_type s outermost unmoved deeper n ms = step (resumed outermost (under deeper unmoved) n) (range_parts s ms) _ _ (λ g. of_kind s outermost unmoved deeper n ms (range g))
+of_type range_type s outermost unmoved deeper n ms = step (resumed outermost (under deeper unmoved) n) (range_part s ms) _ _ (λ k. of_kind s outermost unmoved deeper n ms k)
 of_type query_type s outermost unmoved deeper n ms = step (resumed outermost (under deeper unmoved) n) (query_part s ms) _ _ (λ q. of_kind s outermost unmoved deeper n ms q)
 of_type func_type s outermost unmoved deeper n ms =
     step (resumed outermost (under deeper unmoved) n) (required (codes "func") text_in ms) _ _ (λ t. of_statistic_text s outermost (under deeper unmoved) n t)

@@ -34,6 +34,7 @@ module _ (n : Node) where
   before_facet (k.Terms t) h rest = refl
   before_facet (k.Range g) h rest = refl
   before_facet (k.Query q) h rest = refl
+  before_facet (k.DateRange g) h rest = refl
   before_facet (k.Stat s) h rest = absurd (cc h)
 
   pub facet_is : has_buckets (kind_of n) ≡ true → (rest : Nodes) → before (node_view n) rest ≡ request.facet (facet_view n) (inner_view n) rest
@@ -43,6 +44,7 @@ module _ (n : Node) where
   no_statistic (k.Terms t) h = refl
   no_statistic (k.Range g) h = refl
   no_statistic (k.Query q) h = refl
+  no_statistic (k.DateRange g) h = refl
   no_statistic (k.Stat s) h = absurd (cc h)
 
   pub facet_is_no_statistic : has_buckets (kind_of n) ≡ true → statistic_of_node (node_view n).1 ≡ None
@@ -60,4 +62,5 @@ pub has_buckets_by : (kind : Kind) → ((s : _) → kind ≡ k.Stat s → ⊥) �
 has_buckets_by (k.Terms t) h = refl
 has_buckets_by (k.Range g) h = refl
 has_buckets_by (k.Query q) h = refl
+has_buckets_by (k.DateRange g) h = refl
 has_buckets_by (k.Stat s) h = absurd (h s refl)

@@ -24,6 +24,7 @@ asking change inner (statistic s) = reading.of_statistic s
 node_is_asking : (change : request.DomainChange) (kind : Kind) (inner : request.Nodes) → node_of change kind inner ≡ asking change inner (asked_view kind)
 node_is_asking change (k.Terms t) inner = refl
 node_is_asking change (k.Range g) inner = refl
+node_is_asking change (k.DateRange g) inner = refl
 node_is_asking change (k.Query q) inner = refl
 node_is_asking change (k.Stat s) inner = refl
 
@@ -33,6 +34,7 @@ same_asked change a b inner e = node_is_asking change a inner ∙ ap (asking cha
 other_nested : (change : request.DomainChange) (kind : Kind) (inner nodes : request.Nodes) → nesting (node_of change kind inner) nodes ≡ node_of change kind nodes
 other_nested change (k.Terms t) inner nodes = refl
 other_nested change (k.Range g) inner nodes = refl
+other_nested change (k.DateRange g) inner nodes = refl
 other_nested change (k.Query q) inner nodes = refl
 other_nested change (k.Stat s) inner nodes = refl
 

@@ -9,7 +9,7 @@ use Rattle.std.specs.Borrow.{Bor}
 use Rattle.fc_query.specs.QueryView.{query_view}
 use Rattle.fc_facet.specs.declared.kind.Kind.{Kind}
 use Rattle.fc_facet.specs.declared.kind.Kind.TheVariants as kind
-use Rattle.fc_facet.specs.KindView.{domain_view, terms_view, range_view}
+use Rattle.fc_facet.specs.KindView.{domain_view, terms_view, range_view, date_range_view}
 use Rattle.fc_request.specs.declared.node.Node.{Node, out-Node}
 
 -- a statistic has no buckets
@@ -22,6 +22,7 @@ abbrev pub kind_view : Kind → definition.Kind
 kind_view (kind.Terms t) = definition.terms (terms_view t)
 kind_view (kind.Range g) = definition.range (range_view g)
 kind_view (kind.Query q) = definition.query (query_view q)
+kind_view (kind.DateRange g) = definition.date_range (date_range_view g)
 kind_view (kind.Stat s) = definition.query all
 
 -- it is a terms facet

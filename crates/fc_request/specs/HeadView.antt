@@ -11,12 +11,13 @@ use Rattle.fc_request.specs.declared.reading.head.KindHead.{KindHead}
 use Rattle.fc_request.specs.declared.reading.head.KindHead.TheVariants as kind
 use Rattle.fc_request.specs.declared.reading.head.Head.{Head}
 use Rattle.fc_request.specs.declared.reading.head.Head.TheVariants as head
-use Rattle.fc_facet.specs.KindView.{domain_view, terms_view, range_view}
+use Rattle.fc_facet.specs.KindView.{domain_view, terms_view, range_view, date_range_view}
 use Rattle.fc_request.specs.Heads as said
 
 abbrev pub kind_head_view : KindHead → said.KindHead
 kind_head_view (kind.Terms t json) = said.unsorted (terms_view t) (option_map (λ json. view json.now) json)
 kind_head_view (kind.Range g) = said.whole (definition.range (range_view g))
+kind_head_view (kind.DateRange g) = said.whole (definition.date_range (date_range_view g))
 kind_head_view (kind.Query q) = said.whole (definition.query (query_view q))
 
 abbrev pub head_view : Head → said.Head

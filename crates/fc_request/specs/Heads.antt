@@ -5,13 +5,14 @@ use Rattle.serde_json.specs.Find.{as_object, get_member}
 use Rattle.fc_spec.specs.documents.Val.{Text}
 use Rattle.fc_spec.specs.documents.Schema.{Schema}
 use Rattle.fc_spec.specs.queries.Query.{Query, all}
-use Rattle.fc_spec.specs.requests.Request.{Filter, Stat, DomainChange, Terms, Kind, terms, range, Nodes, no_nodes, Request}
+use Rattle.fc_spec.specs.requests.Request.{Filter, Stat, DomainChange, Terms, Kind, terms, Nodes, no_nodes, Request}
 use Rattle.fc_spec.specs.requests.RequestFault.{QFault, not_an_object, bad_command, bad_parameter, reserved_name, too_large, RequestFault}
 use Rattle.fc_spec.specs.requests.RequestWalk.{check_names, required, optional, said_or, text_in}
 use Rattle.fc_spec.specs.requests.StatisticReading.{statistic_of}
 use Rattle.fc_spec.specs.requests.DomainReading.{change_in, text_query}
 use Rattle.fc_spec.specs.requests.SortReading.{sort_of, default_sort, allows_exact}
-use Rattle.fc_spec.specs.requests.FacetReading.{terms_parts, range_parts, query_part}
+use Rattle.fc_spec.specs.requests.FacetReading.{terms_parts, query_part}
+use Rattle.fc_spec.specs.requests.DateRangeReading.{range_part}
 use Rattle.fc_spec.specs.requests.RequestReading.{Node, of_statistic, of_facet, Walked, Reader, is_reserved, own, facet_read, FacetType, terms_type, range_type, query_type, func_type, parameters, type_of, node_read, nodes_within, inner_read, filters_in, zero_in}
 use Rattle.fc_spec.specs.requests.Shape.{stays}
 use Rattle.fc_spec.specs.words.Walks.{◌>>=◌, unless}
@@ -58,8 +59,8 @@ typed_head terms_type s unmoved ms = do
   t ← terms_parts s ms
   facet_of s unmoved (unsorted t (get_member (codes "sort") ms)) ms
 typed_head range_type s unmoved ms = do
-  g ← range_parts s ms
-  facet_of s unmoved (whole (range g)) ms
+  k ← range_part s ms
+  facet_of s unmoved (whole k) ms
 typed_head query_type s unmoved ms = do
   q ← query_part s ms
   facet_of s unmoved (whole q) ms

@@ -6,4 +6,5 @@ pub mod RequestView
 pub mod NodeStatistics
 pub mod SortView
 pub mod Heads
+pub mod Ranged
 pub mod HeadView

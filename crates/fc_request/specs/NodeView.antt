@@ -9,7 +9,7 @@ use Rattle.fc_facet.specs.declared.kind.Kind.{Kind}
 use Rattle.fc_facet.specs.declared.kind.Kind.TheVariants as kind
 use Rattle.fc_request.specs.declared.node.Node.{Node, fold-Node, out-Node}
 use Rattle.fc_request.specs.declared.node.Node.TheOpen.{Node-F}
-use Rattle.fc_facet.specs.KindView.{domain_view, terms_view, range_view}
+use Rattle.fc_facet.specs.KindView.{domain_view, terms_view, range_view, date_range_view}
 
 -- a node without those behind it: its name and what it is
 abbrev pub Part : Type 0
@@ -25,6 +25,7 @@ abbrev pub node_of : definition.DomainChange → Kind → definition.Nodes → r
 node_of change (kind.Terms t) inner = reading.of_facet change (definition.terms (terms_view t)) inner
 node_of change (kind.Range g) inner = reading.of_facet change (definition.range (range_view g)) inner
 node_of change (kind.Query q) inner = reading.of_facet change (definition.query (query_view q)) inner
+node_of change (kind.DateRange g) inner = reading.of_facet change (definition.date_range (date_range_view g)) inner
 node_of change (kind.Stat s) inner = reading.of_statistic (stat_view s)
 
 abbrev pub node_step : Node-F Part → Part

@@ -8,6 +8,7 @@ ghost use Rattle.fc_spec.specs.requests.DateGaps as gaps;
 ghost use Rattle.fc_spec.specs.requests.DateRangeReading as reading;
 ghost use Rattle.fc_spec.specs.requests.RequestFault as faults;
 ghost use Rattle.fc_base.specs.Answers.{Answers};
+ghost use Rattle.fc_dates.specs.DateView.{date_view};
 ghost use Rattle.fc_dates.specs.GapView.{gap_view};
 ghost use Rattle.fc_facet.specs.FaultView.{fault_view};
 ghost use Rattle.fc_facet.specs.KindView.{date_range_view, any_range_view};
@@ -24,7 +25,7 @@ use serde_json::{Map, Value};
 use std::alloc::Global;
 
 fn date_in(json: &Value) -> Result<DateText, Refusal<QFault>>
-    ensures { Answers (λ date. date.bytes) fault_view result (reading.date_in (view json.now)) }
+    ensures { Answers date_view fault_view result (reading.date_in (view json.now)) }
 {
     let text = text_in(json)?;
     match canonical(text) {
@@ -44,7 +45,7 @@ fn gap_in(json: &Value) -> Result<Gap, Refusal<QFault>>
 }
 
 fn is_before(date: &DateText, other: &DateText) -> bool
-    ensures { result ≡ gaps.is_before date.now.bytes other.now.bytes }
+    ensures { result ≡ gaps.is_before (date_view date.now) (date_view other.now) }
 {
     date.text().cmp(other.text()).is_lt()
 }
@@ -58,7 +59,7 @@ enum Edge {
 // Of a gap that starts before the end of the range; none where the high end is past the year 9999.
 fn edge_behind(low: &DateText, gap: &Gap, end: &DateText, hardend: bool) -> Option<Edge>
     ensures { (go_on : Text → Result (List Text) faults.QFault)
-        → reading.edges_behind go_on end.now.bytes hardend (added low.now.bytes (gap_view gap.now)) ≡ goes_on go_on result }
+        → reading.edges_behind go_on (date_view end.now) hardend (added (date_view low.now) (gap_view gap.now)) ≡ goes_on go_on result }
 {
     let Some(next) = add_gap(low, gap) else {
         return if hardend { Some(Edge::Last(*end)) } else { None };
@@ -82,7 +83,7 @@ fn edges_from(
     start: &DateText,
 ) -> Result<Vec<Name>, Refusal<QFault>>
     ensures { Answers (λ edges. edges.items) fault_view result
-        (reading.edges_from most (gap_view gap.now) end.now.bytes hardend start.now.bytes) }
+        (reading.edges_from most (gap_view gap.now) (date_view end.now) hardend (date_view start.now)) }
 {
     let mut edges = Vec::new(alloc);
     edges.push(Name::new(alloc, start.text())?)?;
@@ -113,7 +114,7 @@ fn edges_of(
     hardend: bool,
 ) -> Result<Vec<Name>, Refusal<QFault>>
     ensures { Answers (λ edges. edges.items) fault_view result
-        (reading.edges_of (gap_view gap.now) start.now.bytes end.now.bytes hardend) }
+        (reading.edges_of (gap_view gap.now) (date_view start.now) (date_view end.now) hardend) }
 {
     if is_before(start, end) {
         return edges_from(alloc, 10_000, gap, end, hardend, start);

@@ -3,6 +3,7 @@ ghost use Rattle.std.specs.Prelude.{option_map};
 ghost use Rattle.serde_json.specs.View.{view, members_view};
 ghost use Rattle.fc_base.specs.Answers.{Answers};
 ghost use Rattle.fc_facet.specs.FaultView.{fault_view};
+ghost use Rattle.fc_facet.specs.KindView.{any_range_view};
 ghost use Rattle.std.specs.Prelude.{◌≡◌, ◌<◌, OnOk, map};
 ghost use Rattle.fc_spec.specs.requests.RequestWalk.{check_names as check_names_of};
 ghost use Rattle.fc_spec.specs.requests.RequestReading as walk;
@@ -12,9 +13,9 @@ ghost use Rattle.fc_request.specs.HeadView.{facet_type_view, head_view, kind_hea
 use fc_base::json::{is_same, member};
 use fc_base::{Refusal, Schema, Stat};
 use fc_facet::reading::{
-    change_in, check_names, query_part, range_in, required, statistic_of, terms_in, text_in,
+    any_range_in, change_in, check_names, query_part, required, statistic_of, terms_in, text_in,
 };
-use fc_facet::{Domain, QFault, Range, Terms};
+use fc_facet::{AnyRange, DateRange, Domain, QFault, Range, Terms};
 use fc_query::Query;
 use serde_json::{Map, Value};
 use std::alloc::Global;
@@ -25,6 +26,7 @@ pub(crate) enum KindHead<'v> {
     Terms(Terms, Option<&'v Value>),
     Range(Range),
     Query(Query),
+    DateRange(DateRange),
 }
 
 /// A statistic; or a facet's domain change, its kind and the members of its `facet`.
@@ -161,6 +163,15 @@ fn check_parameters(kind: FacetType, members: &Map<String, Value>) -> Result<(),
     }
 }
 
+fn range_head<'v>(range: AnyRange) -> KindHead<'v>
+    ensures { kind_head_view result ≡ heads.whole (any_range_view range) }
+{
+    match range {
+        AnyRange::Integers(range) => KindHead::Range(range),
+        AnyRange::Dates(range) => KindHead::DateRange(range),
+    }
+}
+
 fn typed_head<'v>(
     alloc: Global,
     schema: &Schema,
@@ -178,8 +189,8 @@ fn typed_head<'v>(
             facet_of(alloc, schema, unmoved, kind, members)
         }
         FacetType::Range => {
-            let range = range_in(alloc, schema, members)?;
-            facet_of(alloc, schema, unmoved, KindHead::Range(range), members)
+            let range = any_range_in(alloc, schema, members)?;
+            facet_of(alloc, schema, unmoved, range_head(range), members)
         }
         FacetType::Query => {
             let query = query_part(alloc, schema, members)?;

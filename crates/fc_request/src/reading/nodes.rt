@@ -103,6 +103,9 @@ fn facet_node(
         }
         KindHead::Range(range) => Ok(node(alloc, name, domain, Kind::Range(range), nodes)?),
         KindHead::Query(query) => Ok(node(alloc, name, domain, Kind::Query(query), nodes)?),
+        KindHead::DateRange(range) => {
+            Ok(node(alloc, name, domain, Kind::DateRange(range), nodes)?)
+        }
     }
 }
 
