@@ -5,6 +5,7 @@ ghost use Rattle.fc_kind.specs.Names.{Covers};
 
 use fc_base::WantMemory;
 use fc_docset::DocSet;
+use fc_date_range::DateRangeKind;
 use fc_kind::{FacetKind, KindName, covers, the_kind};
 use fc_partial::{Key, Tally};
 use fc_range::{QueryKind, RangeKind};
@@ -116,6 +117,7 @@ pub(super) fn watched_kinds(
     let mut kinds: Vec<Box<dyn FacetKind>> = Vec::new(alloc);
     kinds.push(Box::new(alloc, with_calls(RangeKind, calls)?)?)?;
     kinds.push(Box::new(alloc, with_calls(QueryKind, calls)?)?)?;
+    kinds.push(Box::new(alloc, with_calls(DateRangeKind, calls)?)?)?;
     if covers(&kinds) {
         return Err("a name that none of the kinds has".into());
     }
@@ -139,7 +141,12 @@ pub(super) fn kinds_in(alloc: Global) -> Result<Vec<Box<dyn FacetKind>>, Fail>
 fn each_name_is_found(rt: HostRuntime) -> Result<(), Fail> {
     let alloc = rt.alloc();
     let kinds = kinds_in(alloc)?;
-    for name in [KindName::Terms, KindName::Range, KindName::Query] {
+    for name in [
+        KindName::Terms,
+        KindName::Range,
+        KindName::Query,
+        KindName::DateRange,
+    ] {
         assert!(rt; the_kind(&kinds, name).kind() == name, "{name:?}");
     }
     Ok(())
