@@ -6,6 +6,8 @@ import json
 import re
 import sys
 
+import date_texts
+
 
 def any_value(condition):
     """Whether one value of a field meets a condition, as a condition of documents."""
@@ -20,13 +22,16 @@ def index_order(value):
     return value if isinstance(value, int) else utf8(value)
 
 
+READ = {"plong": int, "pdate": date_texts.canonical}
+
+
 def read_document(types, members):
-    """A table from each field to the set of its values: texts, or whole numbers."""
+    """A table from each field to the set of its values: texts, whole numbers, or canonical texts of dates."""
     document = {}
     for field, kind in types.items():
         items = members.get(field)
         items = items if isinstance(items, list) else [items]
-        read = int if kind.startswith("plong") else str
+        read = READ.get(kind.rstrip("s"), str)
         document[field] = {read(item) for item in items if item is not None}
     return document
 
@@ -162,26 +167,25 @@ class Search:
         return result
 
     def range(self, facet, shards, bucket_of):
-        start, end, gap = facet["start"], facet["end"], facet["gap"]
+        if self.types[facet["field"]].startswith("pdate"):
+            edges, read, shown = date_texts.edges(facet), date_texts.moment, date_texts.shown
+        else:
+            edges, read, shown = integer_edges(facet), int, int
         words = as_list(facet.get("include", "lower")) or ["lower"]
         words = {"lower", "upper", "edge", "outer"} if "all" in words else set(words)
-        gaps = -((start - end) // gap)
-        highs = [start + (i + 1) * gap for i in range(gaps)]
-        if facet.get("hardend") and highs:
-            highs[-1] = end
-        last = highs[-1] if highs else end
+        start, last, gaps = edges[0], edges[-1], len(edges) - 1
 
         def held(condition):
-            return lambda **first: bucket_of(lambda p: any(condition(x) for x in p.document[facet["field"]]), shards, **first)
+            return lambda **first: bucket_of(lambda p: any(condition(read(x)) for x in p.document[facet["field"]]), shards, **first)
 
         def between(low, high, with_low, with_high):
             return held(lambda x: low < x < high or x == low and with_low or x == high and with_high)
 
         buckets = []
-        for i, high in enumerate(highs):
+        for i, (low, high) in enumerate(zip(edges, edges[1:])):
             with_low = "lower" in words or ("edge" in words and i == 0)
             with_high = "upper" in words or ("edge" in words and i == gaps - 1)
-            buckets.append(between(start + i * gap, high, with_low, with_high)(val=start + i * gap))
+            buckets.append(between(low, high, with_low, with_high)(val=shown(low)))
         lower, upper = bool(words & {"lower", "edge"}), bool(words & {"upper", "edge"})
         others = {
             "before": held(lambda x: x < start or x == start and ("outer" in words or not lower)),
@@ -191,6 +195,16 @@ class Search:
         asked = as_list(facet.get("other", "none"))
         asked = [] if "none" in asked else list(others) if "all" in asked else asked
         return {"buckets": buckets, **{name: others[name]() for name in asked}}
+
+
+def integer_edges(facet):
+    """The low ends of a range over integers and the last high end; the start alone where there is no bucket."""
+    start, end, gap = facet["start"], facet["end"], facet["gap"]
+    gaps = -((start - end) // gap)
+    edges = [start + i * gap for i in range(gaps + 1)]
+    if facet.get("hardend") and gaps:
+        edges[-1] = end
+    return edges
 
 
 def as_list(value):
