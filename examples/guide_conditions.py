@@ -1,5 +1,6 @@
 """What the query texts of the guide's examples ask, written by hand as conditions of documents."""
 from counting import utf8
+from date_texts import moment
 
 
 def has(field, value):
@@ -9,6 +10,11 @@ def has(field, value):
 def within(field, low, high):
     """A value from low to high, both included."""
     return lambda d: any(low <= value <= high for value in d[field])
+
+
+def since(field, low, high=None):
+    """A date from low on and, where that is asked, before high."""
+    return lambda d: any(moment(low) <= moment(at) and (high is None or moment(at) < moment(high)) for at in d[field])
 
 
 def every(*conditions):
@@ -24,6 +30,7 @@ def none(condition):
 
 
 fox, elk, red, blue = has("brand", "fox"), has("brand", "elk"), has("color", "red"), has("color", "blue")
+nine_o_clock = since("at", "2024-02-29T09:00:00Z", "2024-02-29T09:00:00.001Z")
 five, twenty = has("price", 5), has("price", 20)
 CONDITIONS = {
     "*:*": lambda d: True,
@@ -62,4 +69,11 @@ CONDITIONS = {
     "color:red brand:acme": some(red, has("brand", "acme")),
     "-id:2": none(has("id", "2")),
     "pen:north": has("pen", "north"),
+    'at:"2024-02-29T09:00:00Z"': nine_o_clock,
+    'at:"2024-02-29T09:00:00.000999Z"': nine_o_clock,
+    r"at:2024-02-29T09\:00\:00Z": nine_o_clock,
+    "at:[2024-02-29T00:00:00Z TO 2024-03-01T00:00:00Z}": since("at", "2024-02-29T00:00:00Z", "2024-03-01T00:00:00Z"),
+    "at:{2024-02-28T23:59:59.999Z TO *]": since("at", "2024-02-29T00:00:00Z"),
+    'seen:["2024-03-01T00:00:00Z" TO *]': since("seen", "2024-03-01T00:00:00Z"),
+    "-at:*": lambda d: not d["at"],
 }
