@@ -62,7 +62,11 @@ fn edge_behind(low: &DateText, gap: &Gap, end: &DateText, hardend: bool) -> Opti
         → reading.edges_behind go_on (date_view end.now) hardend (added (date_view low.now) (gap_view gap.now)) ≡ goes_on go_on result }
 {
     let Some(next) = add_gap(low, gap) else {
-        return if hardend { Some(Edge::Last(*end)) } else { None };
+        return if hardend {
+            Some(Edge::Last(*end))
+        } else {
+            None
+        };
     };
     if is_before(&next, end) {
         return Some(Edge::Inner(next));

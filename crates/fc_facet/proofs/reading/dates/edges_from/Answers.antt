@@ -1,4 +1,4 @@
-use Rattle.std.proofs.Common.{◌≡◌, ℕ, zero, suc, ◌+◌, ◌-◌, ◌<◌, [], ◌∷◌, ◌++◌, Some, Ok, ap, sym, ◌∙◌, arith}
+use Rattle.std.proofs.Common.{◌≡◌, suc, ◌+◌, ◌-◌, [], ◌∷◌, ◌++◌, Some, Ok, ap, sym, ◌∙◌, arith}
 use Rattle.fc_spec.specs.requests.DateRangeReading.{edges_from}
 use Rattle.fc_dates.specs.GapView.{gap_view}
 use Rattle.fc_facet.specs.DateEdges.{goes_on}

@@ -1,4 +1,4 @@
-use Rattle.std.proofs.Common.{◌≡◌, [], ◌∷◌, ◌++◌, Ok, ap, sym, subst, ◌∙◌}
+use Rattle.std.proofs.Common.{[], ◌∷◌, ◌++◌, Ok, ap, sym, subst, ◌∙◌}
 use Rattle.fc_base.specs.Answers.{Answers}
 use Rattle.fc_dates.specs.GapView.{gap_view}
 use Rattle.fc_facet.specs.FaultView.{fault_view}
