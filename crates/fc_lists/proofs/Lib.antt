@@ -15,3 +15,4 @@ pub mod Marks
 pub mod KeptRows
 pub mod KeptCounts
 pub mod FilledRows
+pub mod SingleRows

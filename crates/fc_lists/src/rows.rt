@@ -1,5 +1,5 @@
 // The items of each position, where most positions may have none.
-ghost use Rattle.std.specs.Prelude.{◌≡◌, ◌+◌, ◌<◌, ◌≤◌, ◌^◌, [], ◌∷◌, length, map, not, slice_index, slice_index_or, take, true, vec_len, All, IfOk, IfSome, MatchBool};
+ghost use Rattle.std.specs.Prelude.{◌≡◌, ◌+◌, ◌<◌, ◌≤◌, ◌^◌, [], ◌∷◌, length, map, not, slice_index, slice_index_or, take, true, vec_len, ◌↔◌, All, IfOk, IfSome, IsTrue, MatchBool};
 ghost use Rattle.std.specs.Bool.{OnTrue};
 ghost use Rattle.std.specs.List.Sorted.{IsNonDecreasingBy};
 ghost use Rattle.fc_spec.specs.documents.Bits.{words_for, first_bits, HasBits};
@@ -142,6 +142,13 @@ impl<T: Drop> Rows<T> {
             Some(rank) => self.lists.places(rank),
             None => unreachable!(),
         }
+    }
+
+    /// Whether no position has more than one item.
+    pub fn are_single(&self) -> bool
+        ensures { IsTrue result ↔ All (λ row. length row ≤ 1) self.now }
+    {
+        self.lists.flat().len() == self.lists.len()
     }
 
     /// Whether there are no bits at all: then no position has an item.
