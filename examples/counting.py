@@ -1,7 +1,9 @@
 """Counts the replies of a script by other means than the program's: by lists of places, filtered and sorted, as the
 guide tells it. It reads no query text: whoever uses it hands in a table that gives each query text of the script a
-condition in Python. Requests with a fault are not read: their error lines are handed in by the number of the search.
+condition in Python. Requests with a fault are not read: their error lines are handed in by the number of the search. A date is a
+`datetime`, here and for the conditions.
 """
+import datetime
 import json
 import re
 import sys
@@ -19,19 +21,26 @@ def utf8(text):
 
 
 def index_order(value):
-    return value if isinstance(value, int) else utf8(value)
+    return utf8(value) if isinstance(value, str) else value
 
 
-READ = {"plong": int, "pdate": date_texts.canonical}
+def printed(value):
+    """A value as it stands in a reply."""
+    return date_texts.printed(value) if isinstance(value, datetime.datetime) else value
+
+
+def reader(kind):
+    """What makes a value of an item of a document, in a field of this type."""
+    return int if kind.startswith("plong") else date_texts.moment if kind.startswith("pdate") else str
 
 
 def read_document(types, members):
-    """A table from each field to the set of its values: texts, whole numbers, or canonical texts of dates."""
+    """A table from each field to the set of its values: texts, whole numbers, or dates."""
     document = {}
     for field, kind in types.items():
         items = members.get(field)
         items = items if isinstance(items, list) else [items]
-        read = READ.get(kind.rstrip("s"), str)
+        read = reader(kind)
         document[field] = {read(item) for item in items if item is not None}
     return document
 
@@ -138,7 +147,7 @@ class Search:
 
         def values(of):
             found = set().union(*(p.document[field] for p in of))
-            return {v for v in found if not prefix or v.startswith(prefix)}
+            return {v for v in found if not prefix or printed(v).startswith(prefix)}
 
         def ranked(of):
             """Values in the order of their ranks, each over the places that `of` gives it."""
@@ -161,31 +170,36 @@ class Search:
         counted = {v: [p for p in places if has(p, v) and p.shard in known[v]] for v in chosen}
         enough = {v: of for v, of in counted.items() if len(of) >= facet.get("mincount", 1)}
         page = ranked(enough)[offset:None if limit == -1 else offset + limit]
-        result = {"buckets": [bucket_of(lambda p: has(p, v), known[v], val=v) for v in page]}
+        result = {"buckets": [bucket_of(lambda p: has(p, v), known[v], val=printed(v)) for v in page]}
         if facet.get("missing"):
             result["missing"] = bucket_of(lambda p: not p.document[field], shards)
         return result
 
     def range(self, facet, shards, bucket_of):
-        if self.types[facet["field"]].startswith("pdate"):
-            edges, read, shown = date_texts.edges(facet), date_texts.moment, date_texts.shown
-        else:
-            edges, read, shown = integer_edges(facet), int, int
+        start, end, gap = facet["start"], facet["end"], facet["gap"]
         words = as_list(facet.get("include", "lower")) or ["lower"]
         words = {"lower", "upper", "edge", "outer"} if "all" in words else set(words)
-        start, last, gaps = edges[0], edges[-1], len(edges) - 1
+        if isinstance(gap, str):
+            start, end = date_texts.moment(start), date_texts.moment(end)
+            lows, highs = columns(date_texts.gaps(start, end, gap))
+        else:
+            gaps = -((start - end) // gap)
+            lows, highs = columns((start + i * gap, start + (i + 1) * gap) for i in range(gaps))
+        if facet.get("hardend") and highs:
+            highs[-1] = end
+        last = highs[-1] if highs else end
 
         def held(condition):
-            return lambda **first: bucket_of(lambda p: any(condition(read(x)) for x in p.document[facet["field"]]), shards, **first)
+            return lambda **first: bucket_of(lambda p: any(condition(x) for x in p.document[facet["field"]]), shards, **first)
 
         def between(low, high, with_low, with_high):
             return held(lambda x: low < x < high or x == low and with_low or x == high and with_high)
 
         buckets = []
-        for i, (low, high) in enumerate(zip(edges, edges[1:])):
+        for i, (low, high) in enumerate(zip(lows, highs)):
             with_low = "lower" in words or ("edge" in words and i == 0)
-            with_high = "upper" in words or ("edge" in words and i == gaps - 1)
-            buckets.append(between(low, high, with_low, with_high)(val=shown(low)))
+            with_high = "upper" in words or ("edge" in words and i == len(lows) - 1)
+            buckets.append(between(low, high, with_low, with_high)(val=printed(low)))
         lower, upper = bool(words & {"lower", "edge"}), bool(words & {"upper", "edge"})
         others = {
             "before": held(lambda x: x < start or x == start and ("outer" in words or not lower)),
@@ -197,14 +211,10 @@ class Search:
         return {"buckets": buckets, **{name: others[name]() for name in asked}}
 
 
-def integer_edges(facet):
-    """The low ends of a range over integers and the last high end; the start alone where there is no bucket."""
-    start, end, gap = facet["start"], facet["end"], facet["gap"]
-    gaps = -((start - end) // gap)
-    edges = [start + i * gap for i in range(gaps + 1)]
-    if facet.get("hardend") and gaps:
-        edges[-1] = end
-    return edges
+def columns(pairs):
+    """The first of each pair, and the second."""
+    pairs = list(pairs)
+    return [first for first, _ in pairs], [second for _, second in pairs]
 
 
 def as_list(value):

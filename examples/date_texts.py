@@ -1,65 +1,55 @@
-"""Date texts, gap texts and the edges of ranges over dates, as the guide tells them, by Python's calendar."""
+"""Dates as the guide tells them: what a text says, how it is printed, and the gaps of a range. All of it goes by the calendar of
+Python, whose years are those of dates, from 1 to 9999."""
 import calendar
 import datetime
-import functools
 import re
 
 TEXT = re.compile(r"(\d{4})-(\d\d)-(\d\d)T(\d\d):(\d\d):(\d\d)(?:\.(\d{1,9}))?Z", re.ASCII)
 GAP = re.compile(r"\+([1-9]\d{0,3})(YEAR|MONTH|DAY|HOUR|MINUTE|SECOND)S?", re.ASCII)
-MONTHS = {"YEAR": 12, "MONTH": 1}
+LAST_YEAR = 9999
 
 
-@functools.lru_cache(maxsize=None)
 def moment(text):
-    """The point in time of a date text, without what is less than a millisecond; ValueError where it is no date text."""
-    parts = TEXT.fullmatch(text)
-    if parts is None:
-        raise ValueError(f"no date text: {text!r}")
-    *whole, digits = parts.groups()
-    return datetime.datetime(*map(int, whole), microsecond=1000 * int((digits or "").ljust(3, "0")[:3]))
-
-
-def shown(point):
-    """The canonical text of a point in time."""
-    return point.isoformat(timespec="milliseconds") + "Z"
-
-
-def canonical(text):
-    return shown(moment(text))
-
-
-def months_later(point, count):
-    """On the same day of the month so many months later, or on its last day; OverflowError past the year 9999."""
-    year, month = divmod(12 * point.year + point.month - 1 + count, 12)
-    if year > datetime.MAXYEAR:
-        raise OverflowError(f"no year {year}")
-    return point.replace(year=year, month=month + 1, day=min(point.day, calendar.monthrange(year, month + 1)[1]))
-
-
-def later(point, gap):
-    """A gap later; ValueError where the gap is no gap text, OverflowError past the year 9999."""
-    parts = GAP.fullmatch(gap)
-    if parts is None:
-        raise ValueError(f"no gap text: {gap!r}")
-    count, unit = int(parts[1]), parts[2]
-    if unit in MONTHS:
-        return months_later(point, MONTHS[unit] * count)
-    return point + datetime.timedelta(**{f"{unit.lower()}s": count})
-
-
-def is_past_the_end(end, point, gap):
-    """Whether a gap later is not before the end."""
+    """The moment that a text says, or nothing where it is no date. Digits behind the third of a fraction are dropped."""
+    found = TEXT.fullmatch(text)
+    if found is None:
+        return None
+    *parts, fraction = found.groups()
+    thousandths = int((fraction or "").ljust(3, "0")[:3])
     try:
-        return later(point, gap) >= end
+        return datetime.datetime(*map(int, parts), thousandths * 1000)
+    except ValueError:
+        return None
+
+
+def printed(when):
+    return f"{when.year:04}-{when.month:02}-{when.day:02}T{when:%H:%M:%S}.{when.microsecond // 1000:03}Z"
+
+
+def later(when, gap):
+    """The moment a gap later, or nothing where that is behind the last year. Behind months it is the same day, or the month's last."""
+    number, unit = GAP.fullmatch(gap).groups()
+    number = int(number)
+    if unit in ("YEAR", "MONTH"):
+        return months_later(when, number * 12 if unit == "YEAR" else number)
+    try:
+        return when + datetime.timedelta(**{unit.lower() + "s": number})
     except OverflowError:
-        return True
+        return None
 
 
-def edges(facet):
-    """The points at which the buckets of a range facet begin, one gap behind the other, and the one at which the last bucket ends; the
-    start alone where there is no bucket."""
-    end, gap, found = moment(facet["end"]), facet["gap"], [moment(facet["start"])]
-    while found[-1] < end:
-        is_cut = facet.get("hardend") and is_past_the_end(end, found[-1], gap)
-        found.append(end if is_cut else later(found[-1], gap))
-    return found
+def months_later(when, number):
+    year, month = divmod(when.year * 12 + when.month - 1 + number, 12)
+    if year > LAST_YEAR:
+        return None
+    last = calendar.monthrange(year, month + 1)[1]
+    return when.replace(year=year, month=month + 1, day=min(when.day, last))
+
+
+def gaps(start, end, gap):
+    """The low end and the high end of each gap, as pairs. Each low end but the first is the one before it and a gap."""
+    low = start
+    while low is not None and low < end:
+        high = later(low, gap)
+        yield low, high
+        low = high

@@ -1,5 +1,5 @@
-"""Wrong counting, to show that the scripts find it: each is one edit of counting.py or of worlds/queries.py, a piece of text
-that stands there once and what takes its place. And wrong choosing: programs that show or count other generations."""
+"""Wrong counting, to show that the scripts find it: each is one edit of counting.py, of date_texts.py or of worlds/queries.py, a piece
+of text that stands there once and what takes its place. And wrong choosing: programs that show or count other generations."""
 import json
 import os
 import types
@@ -122,13 +122,33 @@ EDITS = [
     ("no hard end", "counting.py", 'if facet.get("hardend") and gaps:', "if False:"),
     ("the last end is always hard", "counting.py", 'if facet.get("hardend") and gaps:', "if gaps:"),
     ("edge at each bucket's low end", "counting.py", '("edge" in words and i == 0)', '"edge" in words'),
-    ("edge at no high end", "counting.py", '"upper" in words or ("edge" in words and i == gaps - 1)', '"upper" in words'),
+    ("edge at no high end", "counting.py", '"upper" in words or ("edge" in words and i == len(lows) - 1)', '"upper" in words'),
     ("before never holds the start", "counting.py", 'x == start and ("outer" in words or not lower)', "False"),
     ("after never holds the end", "counting.py", 'x == last and ("outer" in words or not upper)', "False"),
     ("outer does nothing", "counting.py", '("outer" in words or not lower)', "not lower"),
     ("between to the asked end", "counting.py", "between(start, last, lower, upper)", 'between(start, read(facet["end"]), lower, upper)'),
     ("between without the edge", "counting.py", 'bool(words & {"lower", "edge"}), bool(words & {"upper", "edge"})',
      '"lower" in words, "upper" in words'),
+    ("gaps of dates by multiples from the start", "date_texts.py", "    low = start\n    while low is not None and low < end:\n        high = later(low, gap)",
+     "    low, steps, (number, unit) = start, 0, GAP.fullmatch(gap).groups()\n    while low is not None and low < end:\n        steps += 1\n"
+     "        months = int(number) * (12 if unit == 'YEAR' else 1) * steps\n"
+     "        high = months_later(start, months) if unit in ('YEAR', 'MONTH') else later(low, gap)"),
+    ("a gap of dates begins at the end", "date_texts.py", "low < end:", "low <= end:"),
+    ("a month later the days carry into the next", "date_texts.py", "when.replace(year=year, month=month + 1, day=min(when.day, last))",
+     "when.replace(year=year, month=month + 1, day=1) + datetime.timedelta(when.day - 1)"),
+    ("a month's last day stays the last", "date_texts.py", "day=min(when.day, last)",
+     "day=last if (when + datetime.timedelta(1)).day == 1 else min(when.day, last)"),
+    ("a month is 30 days", "date_texts.py", '    if unit in ("YEAR", "MONTH"):',
+     '    if unit == "MONTH":\n        return when + datetime.timedelta(30 * number)\n    if unit == "YEAR":'),
+    ("a year is 365 days", "date_texts.py", '    if unit in ("YEAR", "MONTH"):',
+     '    if unit == "YEAR":\n        return when + datetime.timedelta(365 * number)\n    if unit == "MONTH":'),
+    ("a fraction is rounded", "date_texts.py", 'int((fraction or "").ljust(3, "0")[:3])',
+     'min(round(float("0." + (fraction or "0")) * 1000), 999)'),
+    ("each digit of a fraction counts", "date_texts.py", "thousandths * 1000)", 'int((fraction or "").ljust(6, "0")[:6]))'),
+    ("a fraction is nothing", "date_texts.py", "thousandths * 1000)", "0)"),
+    ("zeros in front of a fraction are missing", "date_texts.py", "// 1000:03}Z", "// 1000}Z"),
+    ("zeros in front of a year are missing", "date_texts.py", "{when.year:04}", "{when.year}"),
+    ("a prefix is of another text of the date", "counting.py", "printed(v).startswith(prefix)", "str(v).startswith(prefix)"),
     ("none does not win", "counting.py", 'asked = [] if "none" in asked else',
      'asked = [word for word in asked if word != "none"]; asked ='),
     ("an empty include holds nothing", "counting.py", ' or ["lower"]', ""),
@@ -204,14 +224,17 @@ def edited(file, old, new):
 def finders(worlds, written, seed, file, old, new):
     """How many of the scripts find the edit, by what the program wrote for each."""
     right, module = judging.counting, edited(file, old, new)
+    right_dates = right.dates
     if file == "counting.py":
         judging.counting = module
+    elif file == "date_texts.py":
+        right.dates = module
     else:
         worlds = (scripts.script_of(seed, number, module.Queries) for number in range(len(worlds)))
     try:
         return sum(judging.difference(world, *answer) is not None for world, answer in zip(worlds, written))
     finally:
-        judging.counting = right
+        judging.counting, right.dates = right, right_dates
 
 
 def chosen_otherwise(world, written, choose):
