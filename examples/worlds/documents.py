@@ -1,8 +1,9 @@
 """The fields of the scripts, their values, and documents. Each shard has values of its own that it likes, so that shards
 disagree about what is frequent."""
+import dates
 
 FIELDS = {"brand": "string", "kind": "string", "marks": "strings", "tags": "strings", "n": "plong", "ns": "plongs",
-          "sizes": "plongs"}
+          "sizes": "plongs", "day": "pdate", "days": "pdates"}
 VALUES = {
     "brand": ["fox", "elk", "Fox", "fo", "dark red", "é", "\uffee", "😀", "AND", 'a:"b"\\', "-7"],
     "kind": ["p", "c"],
@@ -11,10 +12,29 @@ VALUES = {
     "n": [-5, -1, 0, 2, 3, 3, 7, 10, 12, 31],
     "ns": [-9, -1, 0, 1, 2, 3, 4, 5, 8, 12, 40, 10**15],
     "sizes": [36, 38, 40, 41],
+    "day": ["2023-12-31T23:59:59.999Z", "2024-01-31T00:00:00.000Z", "2024-02-29T00:00:00.000Z", "2024-02-29T06:30:00.250Z",
+            "2024-03-29T00:00:00.000Z", "2024-03-30T00:00:00.000Z", "2024-03-31T00:00:00.000Z", "2024-04-29T00:00:00.001Z"],
+    "days": ["0001-01-01T00:00:00.000Z", "1899-12-31T23:59:58.900Z", "1900-02-28T00:00:00.000Z", "1904-02-28T12:00:00.000Z",
+             "2023-12-31T23:59:59.999Z", "2024-01-01T00:00:00.000Z", "2024-02-29T00:00:00.000Z", "2024-02-29T06:30:00.250Z",
+             "2024-03-01T00:00:00.000Z", "2024-03-30T00:00:00.000Z", "2025-02-28T00:00:00.000Z", "2028-02-28T00:00:00.000Z",
+             "2028-02-29T00:00:00.000Z", "9999-12-31T23:59:59.999Z"],
 }
-MOST = {"brand": 1, "marks": 6, "tags": 8, "n": 1, "ns": 4, "sizes": 4}
+MOST = {"brand": 1, "marks": 6, "tags": 8, "n": 1, "ns": 4, "sizes": 4, "day": 1, "days": 4}
 TEXTS = [field for field, kind in FIELDS.items() if kind.startswith("string")]
 NUMBERS = [field for field, kind in FIELDS.items() if kind.startswith("plong")]
+DATES = [field for field, kind in FIELDS.items() if kind.startswith("pdate")]
+
+
+def held(field, value):
+    """A value of a field as documents hold it."""
+    return dates.moment(value) if field in DATES else value
+
+
+def spellings(text):
+    """Other texts of a date: with fewer digits where the last ones are 0, and with more, which are dropped."""
+    whole, fraction = text[:-1].split(".")
+    shorter = fraction.rstrip("0")
+    return [f"{whole}.{shorter}Z" if shorter else f"{whole}Z", f"{whole}.{fraction}9Z", f"{whole}.{fraction}500001Z"]
 
 
 class Documents:
@@ -52,7 +72,7 @@ class Documents:
         for field, most in MOST.items():
             values = [self.value(shard, field) for _ in range(self.how_many(most))]
             if values or self.chance.happens(20):
-                members[field] = self.spelled(values, most)
+                members[field] = self.spelled(field, values)
         if self.chance.happens(10):
             members["_version_"] = {"any": [None, 1.5]}
         return members
@@ -65,9 +85,12 @@ class Documents:
     def value(self, shard, field):
         return self.chance.one(self.liked[shard][field] if self.chance.happens(55) else VALUES[field])
 
-    def spelled(self, values, most):
-        """The values as a document may hold them: alone, in an array, integers as texts and texts as integers."""
-        values = [self.other_spelling(v) if self.chance.happens(10) else v for v in values]
+    def spelled(self, field, values):
+        """The values as a document may hold them: alone, in an array, integers as texts and texts as integers, dates in any way."""
+        if field in DATES:
+            values = [self.chance.one([v, *spellings(v)]) for v in values]
+        else:
+            values = [self.other_spelling(v) if self.chance.happens(10) else v for v in values]
         if len(values) > 1 or self.chance.happens(30):
             return values + [None] if self.chance.happens(10) else values
         return values[0] if values else None

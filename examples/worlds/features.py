@@ -51,6 +51,11 @@ def depth_of(facets):
     return max((1 + depth_of(facet.get("facet", {})) if isinstance(facet, dict) else 1 for facet in facets.values()), default=0)
 
 
+def holds(facets, test):
+    """Whether one of the facets, or of those inside them, meets a test."""
+    return any(isinstance(one, dict) and (test(one) or holds(one.get("facet", {}), test)) for one in facets.values())
+
+
 class Seen:
     """Counts over scripts: how often something stands there, and how often it matters."""
 
@@ -71,6 +76,7 @@ class Seen:
                 self.there["fault: " + fault["error"]] += 1
                 continue
             self.there[f"facets to depth {depth_of(request.get('facet', {}))}"] += 1
+            self.there["ranges of dates"] += holds(request.get("facet", {}), lambda facet: isinstance(facet.get("gap"), str))
             self.there["several legal numbers"] += phase > 0 and script.ends[phase - 1] != numbers
             self.see_parameters(script, search, numbers)
 

@@ -1,6 +1,6 @@
 """Query texts, each made together with the condition that it asks of a document, as the guide tells it."""
 from counting import any_value, index_order
-from worlds.documents import FIELDS, VALUES
+from worlds.documents import DATES, FIELDS, VALUES, held, spellings
 
 SPECIAL = set('+-!():^[]"{}~*?\\/ \t\n')
 FORBIDDEN = ("-", "!", "NOT ")
@@ -85,11 +85,16 @@ class Queries:
             return "*", lambda document: bool(document[field])
         if self.chance.happens(30):
             return self.range(field)
-        wanted = self.chance.one(VALUES[field])
-        text = self.spelled(wanted)
+        said = self.chance.one(VALUES[field])
+        wanted = held(field, said)
+        text = self.spelled(self.said(field, said))
         if in_group and text.startswith("-"):
             text = "\\" + text
         return text, any_value(lambda value: value == wanted)(field)
+
+    def said(self, field, value):
+        """A value of a field, a date in any of its spellings."""
+        return self.chance.one([value, *spellings(value)]) if field in DATES and value is not None else value
 
     def spelled(self, value):
         if isinstance(value, int):
@@ -100,22 +105,24 @@ class Queries:
 
     def range(self, field):
         opens, closes = self.chance.one("[{"), self.chance.one("]}")
-        low, high = (self.chance.one(VALUES[field] + [None, None]) for _ in range(2))
+        ends = [self.chance.one(VALUES[field] + [None, None]) for _ in range(2)]
+        low, high = (None if one is None else held(field, one) for one in ends)
 
         def holds(value):
             at = index_order(value)
             above = low is None or index_order(low) < at or (opens == "[" and low == value)
             below = high is None or at < index_order(high) or (closes == "]" and high == value)
             return above and below
-        return f"{opens}{end(low)} TO {end(high)}{closes}", any_value(holds)(field)
+        texts = [end(self.said(field, one), field in DATES and self.chance.happens(50)) for one in ends]
+        return f"{opens}{texts[0]} TO {texts[1]}{closes}", any_value(holds)(field)
 
 
 def quoted(text):
     return '"' + text.replace("\\", "\\\\").replace('"', '\\"') + '"'
 
 
-def end(value):
-    """An end of a range."""
+def end(value, is_bare):
+    """An end of a range, without quotes where it may be bare."""
     if value is None:
         return "*"
-    return quoted(value) if isinstance(value, str) and not value.isalnum() else str(value)
+    return quoted(value) if isinstance(value, str) and not is_bare and not value.isalnum() else str(value)

@@ -1,10 +1,24 @@
 """Requests by chance: a query, filters with tags, facets nested in facets."""
-from worlds.documents import NUMBERS, TEXTS, VALUES
+from worlds.documents import DATES, NUMBERS, TEXTS, VALUES
 
 NAMES = ["a", "b", "m", "low", "é", "buckets", "missing", "", 'a\n"b"']
 TAGS = ["A", "B", "C.1", "x-_"]
 # Fields of many values.
-WIDE = ["tags", "tags", "tags", "id", "ns", "brand"]
+WIDE = ["tags", "tags", "tags", "id", "ns", "brand", "days"]
+# Gaps of dates, each with starts and ends that lie less than twenty gaps apart.
+DATE_GAPS = [
+    (["+1MONTH", "+1MONTHS", "+2MONTHS"], ["2023-12-31T00:00:00Z", "2024-01-31T00:00:00Z", "2024-01-31T00:00:00.0009Z"],
+     ["2024-01-31T00:00:00.0001Z", "2024-02-29T00:00:00Z", "2024-03-31T00:00:00.000Z", "2024-05-01T00:00:00Z", "2024-08-31T12:00:00Z"]),
+    (["+10DAYS", "+7DAYS", "+1MONTH"], ["2023-12-25T06:30:00.25Z", "2024-01-31T00:00:00Z"], ["2024-02-29T06:30:00.25Z", "2024-03-30T00:00:00Z"]),
+    (["+1YEAR", "+12MONTHS", "+4YEARS"], ["2024-02-29T00:00:00Z", "2024-02-29T06:30:00.250Z"],
+     ["2024-02-29T06:30:00.2509Z", "2025-01-01T00:00:00Z", "2027-12-31T23:59:59Z", "2028-02-29T00:00:00Z"]),
+    (["+1DAY", "+12HOURS", "+36HOURS", "+2000MINUTES"], ["2024-02-27T18:00:00Z", "2024-02-29T00:00:00Z"],
+     ["2024-02-29T06:00:00Z", "2024-03-01T00:00:00Z", "2024-03-02T06:00:00.001Z"]),
+    (["+1SECOND", "+1MINUTE", "+2HOURS", "+7000YEARS"], ["2023-12-31T23:59:57.999Z"], ["2023-12-31T23:59:59.999Z", "2024-01-01T00:00:00Z"]),
+    (["+4YEARS"], ["1896-02-29T00:00:00Z", "1900-02-28T00:00:00Z"], ["1900-02-28T00:00:00Z", "1904-02-28T12:00:00Z", "1908-02-28T00:00:00Z"]),
+    (["+2500YEARS", "+9999MONTHS"], ["0001-01-01T00:00:00Z", "0001-12-31T23:59:59.999Z"], ["2024-02-29T00:00:00Z", "7000-01-01T00:00:00Z"]),
+]
+DATE_PREFIXES = ["", "2", "2024-0", "2024-02-29T", "2024-02-29T06:30:00.25", "2024-02-29T00:00:00Z", "2024-02-29T00:00:00.000Z"]
 DEEPEST = 8
 MOST_FACETS = 50
 
@@ -104,7 +118,7 @@ class Requests:
     def statistic(self):
         field = self.chance.one(NUMBERS)
         texts = [f"{name}({field})" for name in ("sum", "min", "max")]
-        texts += [f"{name}({self.chance.one(NUMBERS + TEXTS)})" for name in ("countvals", "missing")]
+        texts += [f"{name}({self.chance.one(NUMBERS + TEXTS + DATES)})" for name in ("countvals", "missing")]
         text = self.chance.one(texts)
         return self.chance.one([text, text, " " + text.replace("(", " ( "), {"type": "func", "func": text}])
 
@@ -122,7 +136,7 @@ class Requests:
         facet = {"type": "terms"}
         self.choose(facet, 85, "limit", [0, 1, 1, 1, 1, 1, 2, 2, 2, 3, 3, 5, 10, 12, -1])
         is_wide = not 0 <= facet.get("limit", 10) < 10
-        field = self.chance.one(WIDE if is_wide else ["brand", "marks", "marks", "sizes", "tags", "tags", "kind", "n", "ns"])
+        field = self.chance.one(WIDE if is_wide else ["brand", "marks", "marks", "sizes", "tags", "tags", "kind", "n", "ns", "day"])
         facet["field"] = field
         self.choose(facet, 70, "refine", [True, True, True, True, False])
         self.choose(facet, 75, "overrequest", [0, 0, 0, 0, 1, 2, -1])
@@ -133,6 +147,8 @@ class Requests:
         self.choose(facet, 5, "method", ["enum", "uif", "é"])
         if field in TEXTS:
             self.choose(facet, 15, "prefix", ["", "t", "t1", "m", "f", "fo", "x"] + VALUES["brand"])
+        elif field in DATES:
+            self.choose(facet, 40, "prefix", DATE_PREFIXES)
         self.nested(facet, depth)
         if self.chance.happens(15) and depth < DEEPEST and self.left > 0:
             self.left -= 1
@@ -159,15 +175,22 @@ class Requests:
         return self.chance.one([f"{name} {way}", f" \t{name}  {way}\n", f" {name} ", {name: way}])
 
     def range(self, depth):
-        field, gap = self.chance.one(NUMBERS), self.chance.one([1, 2, 3, 4, 5, 7])
-        start = self.chance.one([36, 38] if field == "sizes" else [-5, -1, 0, 0, 1, 2, 3])
-        end = start + self.chance.one([0, 1, 3, 4, 5, 7, 8, 10, 12])
-        facet = {"type": "range", "field": field, "start": start, "end": end, "gap": gap}
+        facet = {"type": "range", **self.chance.one([self.integers, self.integers, self.dated])()}
         self.choose(facet, 50, "hardend", [True, True, False])
         self.perhaps(facet, 60, "other", lambda: self.words(["before", "after", "between", "all", "all", "none"]))
         self.perhaps(facet, 60, "include", lambda: self.words(["lower", "upper", "edge", "outer", "all"]))
         self.nested(facet, depth)
         return facet
+
+    def integers(self):
+        field, gap = self.chance.one(NUMBERS), self.chance.one([1, 2, 3, 4, 5, 7])
+        start = self.chance.one([36, 38] if field == "sizes" else [-5, -1, 0, 0, 1, 2, 3])
+        end = start + self.chance.one([0, 1, 3, 4, 5, 7, 8, 10, 12])
+        return {"field": field, "start": start, "end": end, "gap": gap}
+
+    def dated(self):
+        gaps, starts, ends = self.chance.one(DATE_GAPS)
+        return {"field": self.chance.one(DATES), "start": self.chance.one(starts), "end": self.chance.one(ends), "gap": self.chance.one(gaps)}
 
     def words(self, choices):
         return self.chance.one([self.chance.one(choices), self.chance.some(choices, 2)])
