@@ -41,7 +41,7 @@ PAIRS = [
 
 
 def shown(hour):
-    return date_texts.shown(date_texts.moment(START) + hour * HOUR)
+    return date_texts.printed(date_texts.moment(START) + hour * HOUR)
 
 
 def places(count):
@@ -53,7 +53,7 @@ def documents(count):
     """A log portal's lines over the hours, each with the number of its hour beside it."""
     start, step = date_texts.moment(START), HOURS * HOUR / (count + 64)
     for i, place in enumerate(places(count)):
-        at = date_texts.shown(start + place * step)
+        at = date_texts.printed(start + place * step)
         hour = (date_texts.moment(at) - start) // HOUR
         yield hour, {"id": f"d{i}", "at": at, "brand": f"b{7 * i % 13}", "price": 31 * i % 1000, **({} if i % 100 else {"hundredth": "yes"})}
 

@@ -14,7 +14,7 @@ def within(field, low, high):
 
 def since(field, low, high=None):
     """A date from low on and, where that is asked, before high."""
-    return lambda d: any(moment(low) <= moment(at) and (high is None or moment(at) < moment(high)) for at in d[field])
+    return lambda d: any(moment(low) <= at and (high is None or at < moment(high)) for at in d[field])
 
 
 def every(*conditions):

@@ -16,7 +16,7 @@ CONDITIONS = {
     "code:[500 TO 599] OR level:error":
         lambda d: any(500 <= code <= 599 for code in d["code"]) or "error" in d["level"],
     "at:[2024-02-29T00:00:00Z TO 2024-02-29T02:00:00Z}":
-        lambda d: any(MIDNIGHT <= moment(at) < TWO_O_CLOCK for at in d["at"]),
+        lambda d: any(MIDNIGHT <= at < TWO_O_CLOCK for at in d["at"]),
     "-at:*": lambda d: not d["at"],
 }
 

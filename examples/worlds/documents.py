@@ -1,6 +1,6 @@
 """The fields of the scripts, their values, and documents. Each shard has values of its own that it likes, so that shards
 disagree about what is frequent."""
-import dates
+import date_texts
 
 FIELDS = {"brand": "string", "kind": "string", "marks": "strings", "tags": "strings", "n": "plong", "ns": "plongs",
           "sizes": "plongs", "day": "pdate", "days": "pdates"}
@@ -27,7 +27,7 @@ DATES = [field for field, kind in FIELDS.items() if kind.startswith("pdate")]
 
 def held(field, value):
     """A value of a field as documents hold it."""
-    return dates.moment(value) if field in DATES else value
+    return date_texts.moment(value) if field in DATES else value
 
 
 def spellings(text):

@@ -224,17 +224,17 @@ def edited(file, old, new):
 def finders(worlds, written, seed, file, old, new):
     """How many of the scripts find the edit, by what the program wrote for each."""
     right, module = judging.counting, edited(file, old, new)
-    right_dates = right.dates
+    right_date_texts = right.date_texts
     if file == "counting.py":
         judging.counting = module
     elif file == "date_texts.py":
-        right.dates = module
+        right.date_texts = module
     else:
         worlds = (scripts.script_of(seed, number, module.Queries) for number in range(len(worlds)))
     try:
         return sum(judging.difference(world, *answer) is not None for world, answer in zip(worlds, written))
     finally:
-        judging.counting, right.dates = right, right_dates
+        judging.counting, right.date_texts = right, right_date_texts
 
 
 def chosen_otherwise(world, written, choose):
