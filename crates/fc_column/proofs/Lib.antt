@@ -1,5 +1,7 @@
 pub mod InOrder
 pub mod TermPositions
+pub mod PermutedPositions
+pub mod SpanPositions
 pub mod ValueLists
 pub mod Ascents
 pub mod SortedTerms

@@ -70,7 +70,7 @@ range_has lo x (suc count) = ap (λ b. (lo == x) || b) (range_has (lo + 1) x cou
     next : ((lo == x) || (nat_le (lo + 1) x && nat_lt x (lo + 1 + count))) ≡ (nat_le lo x && nat_lt x (lo + suc count))
     next = grind (arith, nat_tests)
 
-range_among : (lo count : ℕ) (row : List ℕ) → list_any (λ o. is_among o row) (range_with_len lo count) ≡ has_from_to lo (lo + count) row
+pub range_among : (lo count : ℕ) (row : List ℕ) → list_any (λ o. is_among o row) (range_with_len lo count) ≡ has_from_to lo (lo + count) row
 range_among lo count [] = any_false (range_with_len lo count)
 range_among lo count (x ∷ row) =
     any_or (λ o. o == x) (λ o. is_among o row) (range_with_len lo count)

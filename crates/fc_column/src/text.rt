@@ -1,6 +1,6 @@
 // Columns of texts.
-ghost use Rattle.std.specs.Prelude.{◌≡◌, ℕ, ◌<◌, ◌≤◌, ◌&&◌, ◌||◌, [], length, map, not, nat_eq, nat_le, nat_lt, slice_index_or, All, IfSome, is_some};
-ghost use Rattle.std.specs.List.{list_any, starts_with};
+ghost use Rattle.std.specs.Prelude.{◌≡◌, ℕ, ◌<◌, ◌≤◌, ◌&&◌, ◌||◌, [], length, map, not, nat_eq, nat_le, nat_lt, slice_index_or, ◌↔◌, All, IfSome, IsPermutation, IsTrue, is_some};
+ghost use Rattle.std.specs.List.{filter, list_any, range_with_len, starts_with};
 ghost use Rattle.std.specs.List.Sorted.{IsStrictlyIncreasing};
 ghost use Rattle.std.specs.Ordering.{is_lt};
 ghost use Rattle.fc_spec.specs.documents.Bits.{words_for, HasBits};
@@ -132,6 +132,13 @@ impl TextColumn {
         self.positions.list(ord)
     }
 
+    /// Whether no position has more than one text.
+    pub fn are_single(&self) -> bool
+        ensures { IsTrue result ↔ All (λ texts. length texts ≤ 1) self.now }
+    {
+        self.ordinals.are_single()
+    }
+
     /// Makes the bits exactly those of the positions with a text. Bit j of word i stands for position
     /// 64 i + j.
     pub fn any(&self, into: &mut [u64])
@@ -151,15 +158,19 @@ impl TextColumn {
         mark(self.positions_between(lo, hi), into);
     }
 
-    // The positions with an ordinal from `lo` up to but not including `hi`, ordinal by ordinal.
-    fn positions_between(&self, lo: u32, hi: u32) -> &[u32]
+    /// The positions with an ordinal from `first` up to but not including `past`, ordinal after ordinal, those of each ordinal
+    /// in ascending order.
+    pub fn positions_between(&self, first: u32, past: u32) -> &[u32]
         ensures positions { (at : ℕ) → is_among at result.now
-            ≡ has_from_to lo hi (ordinals_in self.now (slice_index_or self.now at [])) }
+            ≡ has_from_to first past (ordinals_in self.now (slice_index_or self.now at [])) }
         ensures within { All (λ at. at < length self.now) result.now }
+        ensures once { All (λ texts. length texts ≤ 1) self.now → IsPermutation result.now
+            (filter (λ at. has_from_to first past (ordinals_in self.now (slice_index_or self.now at [])))
+            (range_with_len 0 (length self.now))) }
     {
-        let hi = hi.min(self.terms());
-        if lo < hi {
-            self.positions.span(lo, hi)
+        let past = past.min(self.terms());
+        if first < past {
+            self.positions.span(first, past)
         } else {
             &[]
         }
