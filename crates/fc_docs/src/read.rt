@@ -29,10 +29,11 @@ pub(crate) use values::takes;
 /// `_` are passed over. A field's value is null, one item, or an array of items, where nulls are
 /// passed over and equal items are kept once. An item of a text field is a text of at most 32,766
 /// bytes, or a whole number of 64 bits signed, which stands for its decimal text; one of an integer
-/// field is such a number, or a text that spells one. The first fault counts: the parent's members
-/// in the byte order of their keys, each key before its value and each item before their number;
-/// then whether there is an `id`; then the children in their order, each in the same way. (Guide:
-/// Indexing Nested Child Documents)
+/// field is such a number, or a text that spells one; one of a date field is a date text, which
+/// stands for its canonical text. The first fault counts: the parent's members in the byte order of
+/// their keys, each key before its value and each item before their number; then whether there is an
+/// `id`; then the children in their order, each in the same way. (Guide: Indexing Nested Child
+/// Documents)
 pub fn read_block(alloc: Global, schema: &Schema, json: Value) -> Result<Block, Refusal<DocFault>>
     ensures answer { Answers block_view fault_view result (block_of schema.now (view json)) }
     ensures valid { IfOk result (λ block. IsBlockOf schema.now (block_view block)) }

@@ -12,6 +12,7 @@ use crate::decimal::decimal_name;
 use crate::read::TERM_LIMIT;
 use fast_float::Numeral;
 use fc_base::{FieldType, Name, Val, WantMemory, long_of};
+use fc_dates::canonical;
 use json::Token;
 use std::alloc::Global;
 
@@ -44,6 +45,10 @@ fn text_given(alloc: Global, kind: FieldType, text: &str) -> Result<Option<Val>,
             Some(number) => Ok(Some(Val::Long(number))),
             None => Ok(None),
         },
+        FieldType::Date | FieldType::Dates => match canonical(text) {
+            Some(date) => Ok(Some(Val::Text(Name::new(alloc, date.text())?))),
+            None => Ok(None),
+        },
     }
 }
 
@@ -60,6 +65,7 @@ fn number_given(alloc: Global, kind: FieldType, digits: &str) -> Result<Option<V
             Ok(Some(Val::Text(text)))
         }
         FieldType::Long | FieldType::Longs => Ok(Some(Val::Long(number))),
+        FieldType::Date | FieldType::Dates => Ok(None),
     }
 }
 

@@ -3,9 +3,9 @@ ghost use Rattle.std.specs.Prelude.{IfOk, IsTrue};
 ghost use Rattle.serde_json.specs.View.{view};
 ghost use Rattle.fc_spec.specs.documents.DocFault.{long_term};
 ghost use Rattle.fc_spec.specs.words.Walks.{unless};
-ghost use Rattle.fc_spec.specs.documents.BlockReading.{is_term, long_item, text_item, value_of};
+ghost use Rattle.fc_spec.specs.documents.BlockReading.{date_item, is_term, long_item, text_item, value_of};
 ghost use Rattle.fc_spec.specs.documents.ValidBlocks.{is_value_of};
-ghost use Rattle.fc_spec.specs.documents.Schema.{string, plong};
+ghost use Rattle.fc_spec.specs.documents.Schema.{string, pdate, plong};
 ghost use Rattle.fc_base.specs.Answers.{Answers};
 ghost use Rattle.fc_base.specs.View.{field_type_view, val_view};
 ghost use Rattle.fc_docs.specs.View.{fault_view};
@@ -13,6 +13,7 @@ ghost use Rattle.fc_docs.specs.View.{fault_view};
 use crate::DocFault;
 use crate::decimal::decimal_name;
 use fc_base::{FieldType, Name, Refusal, Val, long_of};
+use fc_dates::canonical;
 use serde_json::Value;
 use std::alloc::Global;
 
@@ -32,6 +33,7 @@ pub(super) fn read_item(
     match kind {
         FieldType::Str | FieldType::Strs => text_item(alloc, json),
         FieldType::Long | FieldType::Longs => long_item(&json),
+        FieldType::Date | FieldType::Dates => date_item(alloc, &json),
     }
 }
 
@@ -64,6 +66,20 @@ fn long_item(json: &Value) -> Result<Val, Refusal<DocFault>>
     }
     let number = json.as_i64().ok_or(DocFault::WrongType)?;
     Ok(Val::Long(number))
+}
+
+// A date text, which stands for its canonical text.
+fn date_item(alloc: Global, json: &Value) -> Result<Val, Refusal<DocFault>>
+    ensures answer { Answers val_view fault_view result (date_item (view json.now)) }
+    ensures valid { IfOk result (λ val. IsTrue (is_value_of pdate (val_view val))) }
+{
+    let Some(text) = json.as_str() else {
+        return Err(Refusal::Fault(DocFault::WrongType));
+    };
+    let Some(date) = canonical(text) else {
+        return Err(Refusal::Fault(DocFault::WrongType));
+    };
+    Ok(Val::Text(Name::new(alloc, date.text())?))
 }
 
 fn check_length(text: &str) -> Result<(), Refusal<DocFault>>
