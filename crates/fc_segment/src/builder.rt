@@ -25,7 +25,9 @@ impl Builder {
             builds_texts builder ≡ holds_texts (field_type_view kind)) }
     {
         Ok(match kind {
-            FieldType::Str | FieldType::Strs | FieldType::Date | FieldType::Dates => Builder::Text(TextBuilder::new(alloc)?),
+            FieldType::Str | FieldType::Strs | FieldType::Date | FieldType::Dates => Builder::Text(
+                TextBuilder::new(alloc)?,
+            ),
             FieldType::Long | FieldType::Longs => Builder::Long(LongBuilder::new(alloc)?),
         })
     }

@@ -138,7 +138,7 @@ fn holds_texts(kind: FieldType) -> bool
     ensures { result ≡ holds_texts (field_type_view kind) }
 {
     match kind {
-        FieldType::Str | FieldType::Strs => true,
+        FieldType::Str | FieldType::Strs | FieldType::Date | FieldType::Dates => true,
         FieldType::Long | FieldType::Longs => false,
     }
 }
