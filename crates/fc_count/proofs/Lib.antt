@@ -8,4 +8,5 @@ pub mod RowValues
 pub mod RunParts
 pub mod SortedRuns
 pub mod RunSteps
+pub mod PermutedPlaces
 pub mod HeldPositions

@@ -1,5 +1,5 @@
 // Numbers with the documents that each counts.
-ghost use Rattle.std.specs.Prelude.{◌≡◌, ℕ, Bool, ◌<◌};
+ghost use Rattle.std.specs.Prelude.{ℕ, Bool, IsPermutation};
 ghost use Rattle.std.specs.List.{filter, range_with_len};
 
 /// The positions that each number counts.
@@ -11,9 +11,9 @@ pub trait Postings {
     // Whether the document at a position is counted by a number.
     ghost holds: { Self → ℕ → ℕ → Bool };
 
-    /// The positions whose documents a number counts, in ascending order.
+    /// The positions whose documents a number counts, each once, in any order.
     fn positions_of(&self, number: usize) -> &[u32]
         requires { has_list self.now number }
-        ensures { result.now
-            ≡ filter (λ at. holds self.now at number) (range_with_len 0 (positions self.now)) };
+        ensures { IsPermutation result.now
+            (filter (λ at. holds self.now at number) (range_with_len 0 (positions self.now))) };
 }

@@ -1,5 +1,7 @@
 use Rattle.std.proofs.Common.{◌≡◌, ◌∙◌, ◌==◌, ◌<◌, length, map, sym, ap, subst, All, arith}
 use Rattle.std.specs.List.{filter, range_with_len}
+use Rattle.std.specs.List.Sorted.{IsPermutation}
+use Rattle.std.proofs.lemmas.List.Sorted.{All-permutation, IsPermutation-sym}
 use Rattle.std.proofs.lemmas.List.{length-map}
 use Rattle.fc_docset.specs.Positions.{positions}
 use Rattle.fc_kind.specs.PlaceAt.{place_at}
@@ -13,8 +15,11 @@ pick-requires g c =
     let holds = g.P.Postings.holds c.args.postings.now in
     let n = c.loop-number.number in
     let size = length c.args.docs.now in
-    subst (All (λ at. at < size)) (sym (c.positions_of.ensures ∙ ap (λ m. filter (λ at. holds at n) (range_with_len 0 m)) (c.requires.positions ∙ sym c.requires.length)))
-    (passing_below (λ at. holds at n) size)
+    let count = g.P.Postings.positions c.args.postings.now in
+    let list = c.positions_of.result.now in
+    let those = filter (λ at. holds at n) (range_with_len 0 count) in
+    All-permutation (λ at. at < size) those list (IsPermutation-sym list those c.positions_of.ensures)
+    (subst (λ m. All (λ at. at < size) (filter (λ at. holds at n) (range_with_len 0 m))) (sym (c.requires.positions ∙ sym c.requires.length)) (passing_below (λ at. holds at n) size))
 
 pub add_positions-requires-clause-there : goal.add_positions-requires-clause-there
 add_positions-requires-clause-there g c =
@@ -23,7 +28,7 @@ add_positions-requires-clause-there g c =
     let n = c.loop-number.number in
     let holds = g.P.Postings.holds c.args.postings.now in
     let list = c.deref.result.now in
-    let is : list ≡ filter (λ at. holds at n) (positions set) = c.deref.ensures.value ∙ held_picked set (g.P.Postings.positions c.args.postings.now) (λ at. holds at n) c.positions_of.result.now _ (c.requires.positions ∙ sym c.requires.length) c.positions_of.ensures c.in_ok-pick.ensures in
+    let is : IsPermutation list (filter (λ at. holds at n) (positions set)) = held_picked set (g.P.Postings.positions c.args.postings.now) (λ at. holds at n) c.positions_of.result.now list (c.requires.positions ∙ sym c.requires.length) c.positions_of.ensures (c.deref.ensures.value ∙ c.in_ok-pick.ensures) in
     held_below blocks set c.requires.length holds n list is
 
 pub add_positions-requires-clause-fit : goal.add_positions-requires-clause-fit
@@ -33,7 +38,7 @@ add_positions-requires-clause-fit g c =
     let n = c.loop-number.number in
     let holds = g.P.Postings.holds c.args.postings.now in
     let list = c.deref.result.now in
-    let is : list ≡ filter (λ at. holds at n) (positions set) = c.deref.ensures.value ∙ held_picked set (g.P.Postings.positions c.args.postings.now) (λ at. holds at n) c.positions_of.result.now _ (c.requires.positions ∙ sym c.requires.length) c.positions_of.ensures c.in_ok-pick.ensures in
+    let is : IsPermutation list (filter (λ at. holds at n) (positions set)) = held_picked set (g.P.Postings.positions c.args.postings.now) (λ at. holds at n) c.positions_of.result.now list (c.requires.positions ∙ sym c.requires.length) c.positions_of.ensures (c.deref.ensures.value ∙ c.in_ok-pick.ensures) in
     held_fit blocks set c.requires.length holds n list is c.requires.limits
 
 pub add_positions-requires-clause-add_up : goal.add_positions-requires-clause-add_up
@@ -43,7 +48,7 @@ add_positions-requires-clause-add_up g c some =
     let n = c.loop-number.number in
     let holds = g.P.Postings.holds c.args.postings.now in
     let list = c.deref.result.now in
-    let is : list ≡ filter (λ at. holds at n) (positions set) = c.deref.ensures.value ∙ held_picked set (g.P.Postings.positions c.args.postings.now) (λ at. holds at n) c.positions_of.result.now _ (c.requires.positions ∙ sym c.requires.length) c.positions_of.ensures c.in_ok-pick.ensures in
+    let is : IsPermutation list (filter (λ at. holds at n) (positions set)) = held_picked set (g.P.Postings.positions c.args.postings.now) (λ at. holds at n) c.positions_of.result.now list (c.requires.positions ∙ sym c.requires.length) c.positions_of.ensures (c.deref.ensures.value ∙ c.in_ok-pick.ensures) in
     let key = g.P.Keys.key c.args.postings.now in
     let old = c.args.into.now in
     let cells = held_stats blocks holds c.args.bound old.stats (positions set) in
@@ -58,7 +63,7 @@ loop-number-preserved g c =
     let n = c.loop-number.number in
     let holds = g.P.Postings.holds c.args.postings.now in
     let list = c.deref.result.now in
-    let is : list ≡ filter (λ at. holds at n) (positions set) = c.deref.ensures.value ∙ held_picked set (g.P.Postings.positions c.args.postings.now) (λ at. holds at n) c.positions_of.result.now _ (c.requires.positions ∙ sym c.requires.length) c.positions_of.ensures c.in_ok-pick.ensures in
+    let is : IsPermutation list (filter (λ at. holds at n) (positions set)) = held_picked set (g.P.Postings.positions c.args.postings.now) (λ at. holds at n) c.positions_of.result.now list (c.requires.positions ∙ sym c.requires.length) c.positions_of.ensures (c.deref.ensures.value ∙ c.in_ok-pick.ensures) in
     let key = g.P.Keys.key c.args.postings.now in
     let old = c.args.into.now in
     let cells = held_stats blocks holds c.args.bound old.stats (positions set) in

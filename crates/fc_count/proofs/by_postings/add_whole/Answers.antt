@@ -1,5 +1,6 @@
 use Rattle.std.proofs.Common.{◌≡◌, ◌∙◌, ◌==◌, map, sym, ap, arith}
 use Rattle.std.specs.List.{filter}
+use Rattle.std.specs.List.Sorted.{IsPermutation}
 use Rattle.std.proofs.lemmas.List.{length-map}
 use Rattle.fc_docset.specs.Positions.{positions}
 use Rattle.fc_kind.specs.PlaceAt.{place_at}
@@ -15,7 +16,7 @@ add_positions-requires-clause-there g c =
     let n = c.loop-number.number in
     let holds = g.P.Postings.holds c.args.postings.now in
     let list = c.positions_of-there.result.now in
-    let is : list ≡ filter (λ at. holds at n) (positions set) = held_whole set (g.P.Postings.positions c.args.postings.now) (λ at. holds at n) list c.requires.whole (c.requires.positions ∙ sym c.requires.length) c.positions_of-there.ensures in
+    let is : IsPermutation list (filter (λ at. holds at n) (positions set)) = held_whole set (g.P.Postings.positions c.args.postings.now) (λ at. holds at n) list c.requires.whole (c.requires.positions ∙ sym c.requires.length) c.positions_of-there.ensures in
     held_below blocks set c.requires.length holds n list is
 
 pub add_positions-requires-clause-fit : goal.add_positions-requires-clause-fit
@@ -25,7 +26,7 @@ add_positions-requires-clause-fit g c =
     let n = c.loop-number.number in
     let holds = g.P.Postings.holds c.args.postings.now in
     let list = c.positions_of-there.result.now in
-    let is : list ≡ filter (λ at. holds at n) (positions set) = held_whole set (g.P.Postings.positions c.args.postings.now) (λ at. holds at n) list c.requires.whole (c.requires.positions ∙ sym c.requires.length) c.positions_of-there.ensures in
+    let is : IsPermutation list (filter (λ at. holds at n) (positions set)) = held_whole set (g.P.Postings.positions c.args.postings.now) (λ at. holds at n) list c.requires.whole (c.requires.positions ∙ sym c.requires.length) c.positions_of-there.ensures in
     held_fit blocks set c.requires.length holds n list is c.requires.limits
 
 pub add_positions-requires-clause-add_up : goal.add_positions-requires-clause-add_up
@@ -35,7 +36,7 @@ add_positions-requires-clause-add_up g c some =
     let n = c.loop-number.number in
     let holds = g.P.Postings.holds c.args.postings.now in
     let list = c.positions_of-there.result.now in
-    let is : list ≡ filter (λ at. holds at n) (positions set) = held_whole set (g.P.Postings.positions c.args.postings.now) (λ at. holds at n) list c.requires.whole (c.requires.positions ∙ sym c.requires.length) c.positions_of-there.ensures in
+    let is : IsPermutation list (filter (λ at. holds at n) (positions set)) = held_whole set (g.P.Postings.positions c.args.postings.now) (λ at. holds at n) list c.requires.whole (c.requires.positions ∙ sym c.requires.length) c.positions_of-there.ensures in
     let key = g.P.Keys.key c.args.postings.now in
     let old = c.args.into.now in
     let cells = held_stats blocks holds c.args.bound old.stats (positions set) in
@@ -50,7 +51,7 @@ loop-number-preserved g c =
     let n = c.loop-number.number in
     let holds = g.P.Postings.holds c.args.postings.now in
     let list = c.positions_of-there.result.now in
-    let is : list ≡ filter (λ at. holds at n) (positions set) = held_whole set (g.P.Postings.positions c.args.postings.now) (λ at. holds at n) list c.requires.whole (c.requires.positions ∙ sym c.requires.length) c.positions_of-there.ensures in
+    let is : IsPermutation list (filter (λ at. holds at n) (positions set)) = held_whole set (g.P.Postings.positions c.args.postings.now) (λ at. holds at n) list c.requires.whole (c.requires.positions ∙ sym c.requires.length) c.positions_of-there.ensures in
     let key = g.P.Keys.key c.args.postings.now in
     let old = c.args.into.now in
     let cells = held_stats blocks holds c.args.bound old.stats (positions set) in
