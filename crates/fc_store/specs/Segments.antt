@@ -1,5 +1,5 @@
 -- The segments of a generation.
-use Rattle.std.specs.Prelude.{◌≡◌, ◌==◌, ◌*◌, ◌≤◌, List, [], ◌∷◌, Bool, true, replicate, All, if◌then◌else◌}
+use Rattle.std.specs.Prelude.{◌≡◌, ◌==◌, ◌*◌, ◌<◌, ◌≤◌, List, [], ◌∷◌, Bool, true, replicate, All, if◌then◌else◌}
 use Rattle.fc_spec.specs.documents.Document.{Block}
 use Rattle.fc_spec.specs.documents.Live.{HasWholeBlocks, set_without}
 use Rattle.fc_spec.specs.documents.Schema.{Schema, texts_held}
@@ -32,3 +32,7 @@ merged s segments = record { texts = texts_held s.fields; blocks = live_blocks_o
 -- at least half of the documents of each segment are live
 abbrev pub AreDense : List Segmented → Type 0
 AreDense segments = All (λ segment. document_total segment.blocks ≤ 2 * document_total (live_blocks segment)) segments
+
+-- fewer documents of the segment are live than dead
+abbrev pub IsSparse : Segmented → Type 0
+IsSparse segment = 2 * document_total (live_blocks segment) < document_total segment.blocks

@@ -1,11 +1,10 @@
 // Which segments are merged behind a commit.
-ghost use Rattle.std.specs.Prelude.{◌≡◌, ◌*◌, ◌<◌, ◌≤◌, ◌-◌, ◌++◌, ◌∷◌, [], length, map, slice_index, sum, take, drop, All, IfOk};
+ghost use Rattle.std.specs.Prelude.{◌≡◌, ◌*◌, ◌<◌, ◌≤◌, ◌-◌, ◌⊎◌, ◌++◌, ◌∷◌, [], length, map, slice_get, slice_index, sum, take, drop, All, IfOk, IfSome, MatchBool};
 ghost use Rattle.std.specs.Arc.{arc_value};
-ghost use Rattle.std.specs.Bool.{OnFalse};
 ghost use Rattle.fc_spec.specs.documents.Totals.{document_total};
 ghost use Rattle.fc_segment.specs.Merged.{live_blocks};
-ghost use Rattle.fc_store.specs.Segments.{AreDense};
-ghost use Rattle.fc_store.specs.Tiers.{AreTiered, sizes_of};
+ghost use Rattle.fc_store.specs.Segments.{AreDense, IsSparse};
+ghost use Rattle.fc_store.specs.Tiers.{ArePassed, AreTiered, sizes_of};
 
 use fc_base::WantMemory;
 use fc_segment::Segment;
@@ -21,7 +20,7 @@ fn size_at(segments: &[Arc<Segment>], at: usize) -> u32
 
 // Whether fewer documents of a segment are live than dead.
 fn is_sparse(segment: &Segment) -> bool
-    ensures { OnFalse result
+    ensures { MatchBool result (IsSparse segment.now)
         (document_total segment.now.blocks ≤ 2 * document_total (live_blocks segment.now)) }
 {
     2 * u64::from(segment.live().count()) < u64::from(segment.doc_count())
@@ -31,6 +30,7 @@ fn is_sparse(segment: &Segment) -> bool
 pub fn first_sparse(segments: &[Arc<Segment>]) -> usize
     ensures within { result ≤ length segments.now }
     ensures dense { AreDense (take result (map arc_value segments.now)) }
+    ensures sparse { IfSome (slice_get (map arc_value segments.now) result) IsSparse }
 {
     for (at, segment) in segments.iter().enumerate() {
         if is_sparse(segment) {
@@ -45,9 +45,8 @@ pub fn first_sparse(segments: &[Arc<Segment>]) -> usize
 fn goes_on(segments: &[Arc<Segment>], sparse: usize, place: usize, size: u32) -> bool
     requires some { 0 < place }
     requires within { place < length segments.now }
-    ensures low { OnFalse result (place ≤ sparse) }
-    ensures tiers { OnFalse result
-        (2 * size ≤ slice_index (sizes_of (map arc_value segments.now)) (place - 1)) }
+    ensures { let ahead = slice_index (sizes_of (map arc_value segments.now)) (place - 1) in
+        MatchBool result ((sparse < place) ⊎ (ahead < 2 * size)) ((place ≤ sparse) × (2 * size ≤ ahead)) }
 {
     place > sparse || u64::from(size_at(segments, place - 1)) < 2 * u64::from(size)
 }
@@ -64,6 +63,7 @@ pub fn merged_from(segments: &[Arc<Segment>], sparse: usize) -> Result<usize, Wa
     ensures low { IfOk result (λ place. place ≤ sparse) }
     ensures tiers { IfOk result (λ place. AreTiered (take place (sizes_of (map arc_value segments.now))
         ++ sum (drop place (sizes_of (map arc_value segments.now))) ∷ [])) }
+    ensures needed { IfOk result (λ place. ArePassed sparse place (sizes_of (map arc_value segments.now))) }
 {
     let mut place = segments.len() - 1;
     let mut size = size_at(segments, place);

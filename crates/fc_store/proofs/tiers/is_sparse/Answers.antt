@@ -1,14 +1,17 @@
-use Rattle.std.proofs.Common.{ℕ, ◌≡◌, ◌*◌, ◌<◌, ◌≤◌, ◌⊎◌, inl, inr, false, nat_lt, count_by, ap, sym, ◌∙◌, lt-ltb, arith}
-use Rattle.std.proofs.lemmas.Bool.{cases_lt, false≢true, OnFalse_from}
+use Rattle.std.proofs.Common.{ℕ, ◌≡◌, ◌*◌, ◌<◌, ◌≤◌, Bool, true, false, MatchBool, nat_lt, count_by, refl, ap, arith}
+use Rattle.std.proofs.lemmas.Bool.{ltb-true, ltb-false}
+use Rattle.fc_spec.specs.documents.Totals.{document_total}
+use Rattle.fc_segment.specs.Merged.{live_blocks}
 use Rattle.fc_store.proofs.NamedSets.{live_count}
 use Rattle.fc_store.proofs.tiers.is_sparse.Goals as goal
 
-no_less : (a b : ℕ) → nat_lt a b ≡ false → b ≤ a
-no_less a b above = go (cases_lt a b)
+-- what a test of two numbers says of equal ones
+less_or_not : (a b m n : ℕ) → a ≡ m → b ≡ n → MatchBool (nat_lt a b) (m < n) (n ≤ m)
+less_or_not a b m n left right = go (nat_lt a b) refl
   where
-    go : ((a < b) ⊎ (b ≤ a)) → b ≤ a
-    go (inl below) = absurd (false≢true (sym above ∙ lt-ltb a b below))
-    go (inr least) = least
+    go : (r : Bool) → nat_lt a b ≡ r → MatchBool r (m < n) (n ≤ m)
+    go true below = omega (arith, ltb-true a b below)
+    go false least = omega (arith, ltb-false a b least)
 
 pub returns : goal.returns
 returns c =
@@ -17,4 +20,5 @@ returns c =
     let g = c.args.segment.now in
     let count = live_count g.blocks g.live c.live.ensures.whole in
     let here = ap (count_by (λ h. h)) c.live.ensures.live in
-    OnFalse_from (nat_lt (2 * live) all) _ (λ above. omega (arith, no_less (2 * live) all above, c.from.ensures, c.from-2.ensures, c.count.ensures, c.doc_count.ensures, count, here))
+    less_or_not (2 * live) all (2 * document_total (live_blocks g)) (document_total g.blocks)
+    (omega (arith, c.from.ensures, c.count.ensures, count, here)) (omega (arith, c.from-2.ensures, c.doc_count.ensures))
