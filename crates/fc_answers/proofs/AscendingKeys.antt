@@ -1,5 +1,5 @@
 -- The keys of a facet's buckets that have places: they ascend, and which they are.
-use Rattle.std.proofs.Common.{◌≡◌, ℕ, zero, suc, ◌+◌, ◌<◌, ◌≤◌, List, [], ◌∷◌, ◌++◌, map, Bool, true, false, ◌&&◌, ◌||◌, not, refl, sym, ◌∙◌, ap, inl, inr, arith}
+use Rattle.std.proofs.Common.{◌≡◌, ℕ, zero, suc, ◌+◌, ◌<◌, ◌≤◌, List, [], ◌∷◌, ◌++◌, map, Bool, true, false, nat_lt, ◌&&◌, ◌||◌, not, refl, sym, ◌∙◌, ap, inl, inr, arith}
 use Rattle.std.specs.List.{list_any, AllByRecursion, range_with_len}
 use Rattle.std.specs.List.Sorted.{IsStrictlySortedBy}
 use Rattle.std.specs.Ordering.{nat_cmp}
@@ -12,11 +12,12 @@ use Rattle.fc_spec.specs.documents.Val.{Val, same_val, has_val, distinct}
 use Rattle.fc_spec.specs.documents.Document.{values_of}
 use Rattle.fc_spec.specs.documents.World.{Place}
 use Rattle.fc_spec.specs.words.Lists.{is_empty, numbers_below}
-use Rattle.fc_spec.specs.requests.Request.{Terms, Range, Kind, terms, range}
+use Rattle.fc_spec.specs.requests.Request.{Terms, Range, DateRange, Kind, terms, range, date_range}
 use Rattle.fc_spec.specs.requests.Gaps.{gap_count}
-use Rattle.fc_spec.specs.requests.Buckets.{Key, value, missing, gap, before, between, after, whole, is_terms_key, is_range_key, is_key_of, has_prefix, bucket_places}
+use Rattle.fc_spec.specs.requests.DateGaps.{date_gap_count}
+use Rattle.fc_spec.specs.requests.Buckets.{Key, value, missing, gap, before, between, after, whole, is_terms_key, is_key_of, has_prefix, bucket_places}
 use Rattle.fc_spec.specs.requests.Statistics.{pair_values}
-use Rattle.fc_spec.specs.replies.Printed.{asked, range_keys}
+use Rattle.fc_spec.specs.replies.Printed.{asked, range_keys, date_range_keys}
 use Rattle.fc_spec.specs.replies.Values.{value_places, values_in}
 use Rattle.fc_spec.specs.messages.KeyOrder.{key_cmp, same_key}
 use Rattle.fc_spec.specs.messages.Answer.{not_empty}
@@ -26,7 +27,7 @@ use Rattle.fc_spec.proofs.words.MappedLists.{list_any-map}
 use Rattle.fc_spec.proofs.words.SortedLists.{sorted-map}
 use Rattle.fc_spec.proofs.requests.FoundValues.{holds_value, has_val-values_in, not-is_empty-filter, ascending-values_in}
 use Rattle.fc_spec.proofs.replies.DistinctKeys.{asked_is}
-use Rattle.fc_spec.proofs.replies.PrintedKeys.{every_asked, every_range_key}
+use Rattle.fc_spec.proofs.replies.PrintedKeys.{every_asked, every_range_key, every_date_range_key}
 use Rattle.fc_spec.proofs.messages.Keys.{same_key_exact, same_key_itself}
 
 -- ---- they ascend
@@ -45,19 +46,6 @@ unfolding IsStrictlySortedBy
 asked_up true k = (tt, tt)
 asked_up false k = tt
 
--- the keys beside the gaps
-abbrev beside : Range → List Key
-beside g = asked g.before before ++ (asked g.between between ++ asked g.after after)
-
-beside_up : (g : Range) → IsStrictlySortedBy key_cmp (beside g)
-beside_up g =
-    both_up (asked g.before before) (asked g.between between ++ asked g.after after) (asked_up g.before before)
-    (both_up (asked g.between between) (asked g.after after) (asked_up g.between between) (asked_up g.after after) (λ k l m n i. key_cmp (asked_is g.between between k m i) (asked_is g.after after l n i)))
-    (λ k l m n. elim (member_append (asked g.between between) (asked g.after after) l n) [
-      | inl a ↦ (λ i. key_cmp (asked_is g.before before k m i) (asked_is g.between between l a i))
-      | inr b ↦ (λ i. key_cmp (asked_is g.before before k m i) (asked_is g.after after l b i))
-    ])
-
 numbers_behind : (n a b : ℕ) → a < b → AllByRecursion (λ j. nat_cmp a j ≡ Less) (range_with_len b n)
 numbers_behind zero a b h = tt
 numbers_behind (suc n) a b h = (sym (nat_cmp_is a b Less h), numbers_behind n a (b + 1) (omega arith))
@@ -66,19 +54,6 @@ numbers_up : (n a : ℕ) → IsStrictlySortedBy nat_cmp (range_with_len a n)
 unfolding IsStrictlySortedBy
 numbers_up zero a = tt
 numbers_up (suc n) a = (numbers_behind n a (a + 1) (omega arith), numbers_up n (a + 1))
-
-range_keys_up : (g : Range) → IsStrictlySortedBy key_cmp (range_keys g)
-range_keys_up g =
-    let gaps = numbers_below (gap_count g) in
-    both_up (map gap gaps) (beside g) (sorted-map gap key_cmp gaps (numbers_up (gap_count g) 0)) (beside_up g) (λ k l m n.
-    let at = member_map gap gaps k m in
-    elim (member_append (asked g.before before) (asked g.between between ++ asked g.after after) l n) [
-      | inl a ↦ (λ i. key_cmp (at.2 i) (asked_is g.before before l a i))
-      | inr b ↦ elim (member_append (asked g.between between) (asked g.after after) l b) [
-        | inl c ↦ (λ i. key_cmp (at.2 i) (asked_is g.between between l c i))
-        | inr c ↦ (λ i. key_cmp (at.2 i) (asked_is g.after after l c i))
-      ]
-    ])
 
 -- ---- the keys of a facet whose buckets have places
 
@@ -89,9 +64,6 @@ has_places kind Y k = not (is_empty (bucket_places kind k Y))
 abbrev pub terms_keys_in : Terms → List Place → List Key
 terms_keys_in t Y = map value (values_in t Y) ++ not_empty (terms t) Y (asked t.missing missing)
 
-abbrev pub range_keys_in : Range → List Place → List Key
-range_keys_in g Y = not_empty (range g) Y (range_keys g)
-
 pub terms_keys_up : (t : Terms) (Y : List Place) → IsStrictlySortedBy key_cmp (terms_keys_in t Y)
 terms_keys_up t Y =
     let lacking = asked t.missing missing in
@@ -101,9 +73,6 @@ terms_keys_up t Y =
     let at = member_map value (values_in t Y) k m in
     let here = filter_member (has_places (terms t) Y) lacking l n in
     λ i. key_cmp (at.2 i) (asked_is t.missing missing l here.0 i))
-
-pub range_keys_in_up : (g : Range) (Y : List Place) → IsStrictlySortedBy key_cmp (range_keys_in g Y)
-range_keys_in_up g Y = IsStrictlySortedBy-filter key_cmp (has_places (range g) Y) (range_keys g) (range_keys_up g)
 
 -- ---- which they are
 
@@ -135,21 +104,61 @@ gap_there (suc n) a i low high = go (same_key (gap i) (gap a)) refl (λ other. g
     go true e rest = refl
     go false e rest = rest (λ h. false≢true (sym e ∙ ap (λ k. same_key (gap i) (gap k)) (sym h) ∙ same_key_itself (gap i)))
 
-range_key_there : (g : Range) (k : Key) → is_range_key g k ≡ true → list_any (same_key k) (range_keys g) ≡ true
-range_key_there g (gap i) h =
-    any_left (gap i) (map gap (numbers_below (gap_count g))) (beside g) (gap_there (gap_count g) 0 i (omega arith) (let low = ltb-true i (gap_count g) h in omega arith))
-range_key_there g before h =
-    any_right before (map gap (numbers_below (gap_count g))) (beside g)
-    (any_left before (asked g.before before) (asked g.between between ++ asked g.after after) (any_asked g.before before h))
-range_key_there g between h =
-    any_right between (map gap (numbers_below (gap_count g))) (beside g)
-    (any_right between (asked g.before before) (asked g.between between ++ asked g.after after) (any_left between (asked g.between between) (asked g.after after) (any_asked g.between between h)))
-range_key_there g after h =
-    any_right after (map gap (numbers_below (gap_count g))) (beside g)
-    (any_right after (asked g.before before) (asked g.between between ++ asked g.after after) (any_right after (asked g.between between) (asked g.after after) (any_asked g.after after h)))
-range_key_there g (value v) h = absurd (false≢true h)
-range_key_there g missing h = absurd (false≢true h)
-range_key_there g whole h = absurd (false≢true h)
+-- ---- the keys of a range facet
+
+-- the keys of so many gaps, and of those beside them that are asked for
+module _ (gaps : ℕ) (with_before with_between with_after : Bool) where
+  abbrev of_gaps : List Key
+  of_gaps = map gap (numbers_below gaps)
+
+  abbrev beside : List Key
+  beside = asked with_before before ++ (asked with_between between ++ asked with_after after)
+
+  beside_up : IsStrictlySortedBy key_cmp beside
+  beside_up =
+      both_up (asked with_before before) (asked with_between between ++ asked with_after after) (asked_up with_before before)
+      (both_up (asked with_between between) (asked with_after after) (asked_up with_between between) (asked_up with_after after) (λ k l m n i. key_cmp (asked_is with_between between k m i) (asked_is with_after after l n i)))
+      (λ k l m n. elim (member_append (asked with_between between) (asked with_after after) l n) [
+        | inl a ↦ (λ i. key_cmp (asked_is with_before before k m i) (asked_is with_between between l a i))
+        | inr b ↦ (λ i. key_cmp (asked_is with_before before k m i) (asked_is with_after after l b i))
+      ])
+
+  gaps_up : IsStrictlySortedBy key_cmp (of_gaps ++ beside)
+  gaps_up = both_up of_gaps beside (sorted-map gap key_cmp (numbers_below gaps) (numbers_up gaps 0)) beside_up (λ k l m n.
+      let at = member_map gap (numbers_below gaps) k m in
+      elim (member_append (asked with_before before) (asked with_between between ++ asked with_after after) l n) [
+        | inl a ↦ (λ i. key_cmp (at.2 i) (asked_is with_before before l a i))
+        | inr b ↦ elim (member_append (asked with_between between) (asked with_after after) l b) [
+          | inl c ↦ (λ i. key_cmp (at.2 i) (asked_is with_between between l c i))
+          | inr c ↦ (λ i. key_cmp (at.2 i) (asked_is with_after after l c i))
+        ]
+      ])
+
+  -- the key is one of them
+  abbrev is_of_gaps : Key → Bool
+  is_of_gaps (gap i) = nat_lt i gaps
+  is_of_gaps before = with_before
+  is_of_gaps between = with_between
+  is_of_gaps after = with_after
+  is_of_gaps _ = false
+
+  beside_there : (k : Key) → list_any (same_key k) beside ≡ true → list_any (same_key k) (of_gaps ++ beside) ≡ true
+  beside_there k h = any_right k of_gaps beside h
+
+  gaps_there : (k : Key) → is_of_gaps k ≡ true → list_any (same_key k) (of_gaps ++ beside) ≡ true
+  gaps_there (gap i) h = any_left (gap i) of_gaps beside (gap_there gaps 0 i (omega arith) (let low = ltb-true i gaps h in omega arith))
+  gaps_there before h = beside_there before (any_left before (asked with_before before) (asked with_between between ++ asked with_after after) (any_asked with_before before h))
+  gaps_there between h =
+      beside_there between (any_right between (asked with_before before) (asked with_between between ++ asked with_after after)
+      (any_left between (asked with_between between) (asked with_after after) (any_asked with_between between h)))
+  gaps_there after h =
+      beside_there after (any_right after (asked with_before before) (asked with_between between ++ asked with_after after)
+      (any_right after (asked with_between between) (asked with_after after) (any_asked with_after after h)))
+  gaps_there (value v) h = absurd (false≢true h)
+  gaps_there missing h = absurd (false≢true h)
+  gaps_there whole h = absurd (false≢true h)
+
+-- ---- keys that are found
 
 -- the key is one of the facet's, and its bucket has places
 abbrev pub is_found : Kind → List Place → Key → Bool
@@ -167,9 +176,33 @@ found_there kind Y keys k there places =
     let same = same_key_exact k r.0 r.2 in
     any_by_member (same_key k) (not_empty kind Y keys) r.0 (member_of_filter (has_places kind Y) keys r.0 r.1 (sym (ap (has_places kind Y) same) ∙ places)) r.2
 
-pub range_keys_are : (g : Range) (Y : List Place) (k : Key) → list_any (same_key k) (range_keys_in g Y) ≡ is_found (range g) Y k
-range_keys_are g Y = among_them (is_found (range g) Y) (range_keys_in g Y) (kept_found (range g) Y (range_keys g) (every_range_key g)) (λ k h.
-    let r = and_parts (is_range_key g k) (has_places (range g) Y k) h in found_there (range g) Y (range_keys g) k (range_key_there g k r.0) r.1)
+-- keys in their order, the facet's and no others
+pub record AreAllKeys (kind : Kind) (keys : List Key) : Type 0 where
+  pub ascend : IsStrictlySortedBy key_cmp keys
+  pub own : Every (is_key_of kind) keys
+  pub there : (k : Key) → is_key_of kind k ≡ true → list_any (same_key k) keys ≡ true
+
+pub range_keys_all : (g : Range) → AreAllKeys (range g) (range_keys g)
+range_keys_all g = record {
+  ascend = gaps_up (gap_count g) g.before g.between g.after;
+  own = every_range_key g;
+  there = gaps_there (gap_count g) g.before g.between g.after;
+}
+
+pub date_range_keys_all : (g : DateRange) → AreAllKeys (date_range g) (date_range_keys g)
+date_range_keys_all g = record {
+  ascend = gaps_up (date_gap_count g) g.before g.between g.after;
+  own = every_date_range_key g;
+  there = gaps_there (date_gap_count g) g.before g.between g.after;
+}
+
+-- of these, those whose buckets have places
+pub kept_up : (kind : Kind) (Y : List Place) (keys : List Key) → AreAllKeys kind keys → IsStrictlySortedBy key_cmp (not_empty kind Y keys)
+kept_up kind Y keys all = IsStrictlySortedBy-filter key_cmp (has_places kind Y) keys all.ascend
+
+pub kept_are : (kind : Kind) (Y : List Place) (keys : List Key) → AreAllKeys kind keys → (k : Key) → list_any (same_key k) (not_empty kind Y keys) ≡ is_found kind Y k
+kept_are kind Y keys all = among_them (is_found kind Y) (not_empty kind Y keys) (kept_found kind Y keys all.own) (λ k h.
+    let r = and_parts (is_key_of kind k) (has_places kind Y k) h in found_there kind Y keys k (all.there k r.0) r.1)
 
 values_found : (t : Terms) (Y : List Place) → Every (λ v. is_found (terms t) Y (value v)) (values_in t Y)
 values_found t Y = every_from_members (λ v. is_found (terms t) Y (value v)) (values_in t Y) (λ v m.

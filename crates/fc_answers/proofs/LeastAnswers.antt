@@ -5,7 +5,7 @@ use Rattle.std.specs.List.{filter, slice_get}
 use Rattle.fc_spec.specs.words.Lists.{joined}
 use Rattle.fc_spec.specs.documents.World.{World, Place, on_shards}
 use Rattle.fc_spec.specs.documents.Sets.{places_on, places_at}
-use Rattle.fc_spec.specs.requests.Request.{Kind, terms, range, query, Nodes, no_nodes, statistic, facet, Request, stats_of}
+use Rattle.fc_spec.specs.requests.Request.{Kind, terms, range, date_range, query, Nodes, no_nodes, statistic, facet, Request, stats_of}
 use Rattle.fc_spec.specs.requests.Base.{root_domain}
 use Rattle.fc_spec.specs.requests.Buckets.{Key, value, missing, whole, bucket_places}
 use Rattle.fc_spec.specs.requests.Paths.{at_root, into, domain}
@@ -39,6 +39,7 @@ module _ (r : Request) (W : World) (i : ℕ) (V : Pieces) (is_whole : AreWhole V
       let rest = sets.listed_of r W i V is_whole at (terms t) inner X D (asked t.missing missing) are is in
       λ j. map value (map (λ e. e.val) (filter (λ e. nat_le least e.stats.count) (entries j))) ++ rest j
   keys_of (range g) inner least X D are own is = sets.keys_of r W i V is_whole at (range g) inner X D are own is
+  keys_of (date_range g) inner least X D are own is = sets.keys_of r W i V is_whole at (date_range g) inner X D are own is
   keys_of (query q) inner least X D are own is = sets.keys_of r W i V is_whole at (query q) inner X D are own is
 
   rows_of : (nodes : Nodes) (ns : List ℕ) (X : Sets) (Y : List Place) → AreLive V X → IsOf X Y → least_rows r W i nodes ns Y ≡ set_least_rows (sets.on r W i V is_whole at at_root) V nodes ns X

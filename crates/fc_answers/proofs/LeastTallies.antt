@@ -7,7 +7,7 @@ use Rattle.std.proofs.lemmas.List.Elements.{filter-append}
 use Rattle.fc_spec.specs.documents.Val.{Val}
 use Rattle.fc_spec.specs.documents.World.{Place}
 use Rattle.fc_spec.specs.words.Lists.{is_empty}
-use Rattle.fc_spec.specs.requests.Request.{Stat, Terms, terms, range, query, stats_of}
+use Rattle.fc_spec.specs.requests.Request.{Stat, Terms, terms, range, date_range, query, stats_of}
 use Rattle.fc_spec.specs.requests.Shape.{no_exclusions}
 use Rattle.fc_spec.specs.requests.Buckets.{value, missing, bucket_places}
 use Rattle.fc_spec.specs.requests.Statistics.{Stats, stats_over}
@@ -91,4 +91,5 @@ least_tallies_list (terms t) inner n Y es ascend of =
     ap (λ xs. xs ++ added) kept ∙ append_assoc (map entry keys) (lacking t ss Y) added ∙ ap (λ xs. map entry keys ++ xs) rest
     ∙ sym (map-append entry keys (cond (not (no_exclusions inner)) (asked t.missing missing) (not_empty (terms t) Y (asked t.missing missing))))
 least_tallies_list (range g) inner n Y es ascend of = tallies_list (range g) inner Y es ascend of
+least_tallies_list (date_range g) inner n Y es ascend of = tallies_list (date_range g) inner Y es ascend of
 least_tallies_list (query q) inner n Y es ascend of = tallies_list (query q) inner Y es ascend of

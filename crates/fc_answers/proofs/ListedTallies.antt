@@ -11,18 +11,18 @@ use Rattle.std.proofs.lemmas.Option.{same_Some}
 use Rattle.fc_spec.specs.documents.Val.{Val}
 use Rattle.fc_spec.specs.documents.World.{Place}
 use Rattle.fc_spec.specs.words.Lists.{is_empty}
-use Rattle.fc_spec.specs.requests.Request.{Stat, Terms, Kind, terms, range, query, Nodes, stats_of}
+use Rattle.fc_spec.specs.requests.Request.{Stat, Terms, Kind, terms, range, date_range, query, Nodes, stats_of}
 use Rattle.fc_spec.specs.requests.Shape.{no_exclusions}
 use Rattle.fc_spec.specs.requests.Buckets.{Key, value, missing, whole, bucket_places, is_key_of}
 use Rattle.fc_spec.specs.requests.Ranks as ranks
 use Rattle.fc_spec.specs.requests.Ranks.{below_rank, offered_bound}
 use Rattle.fc_spec.specs.requests.Statistics.{Stats, stats_over}
-use Rattle.fc_spec.specs.replies.Printed.{asked, range_keys}
+use Rattle.fc_spec.specs.replies.Printed.{asked, range_keys, date_range_keys}
 use Rattle.fc_spec.specs.replies.Values.{value_places, values_in, entries_in}
 use Rattle.fc_spec.specs.messages.KeyOrder.{key_cmp, same_key}
 use Rattle.fc_spec.specs.messages.Answer.{not_empty}
 use Rattle.fc_spec.proofs.words.Members.{Every, every_from_members}
-use Rattle.fc_spec.proofs.replies.PrintedKeys.{every_asked, every_range_key}
+use Rattle.fc_spec.proofs.replies.PrintedKeys.{every_asked}
 use Rattle.fc_spec.proofs.words.MappedLists.{filter-map}
 use Rattle.fc_spec.proofs.messages.Keys.{same_key_exact, same_key_itself}
 use Rattle.fc_spec.proofs.messages.PrintedKnown.{nothing_is_empty}
@@ -31,7 +31,7 @@ use Rattle.fc_partial.specs.Tallied.{Entry}
 use Rattle.fc_partial.specs.Tallying.{entry_at}
 use Rattle.fc_refine.specs.Tops.{values_of_tally, others_of_tally, of_entry}
 use Rattle.fc_answers.specs.Listed.{AreOfBuckets, bucket_entry, entry_or_none, TalliesList}
-use Rattle.fc_answers.proofs.AscendingKeys.{terms_keys_in, range_keys_in, terms_keys_up, range_keys_in_up, terms_keys_are, range_keys_are, is_found}
+use Rattle.fc_answers.proofs.AscendingKeys.{AreAllKeys, terms_keys_in, terms_keys_up, terms_keys_are, range_keys_all, date_range_keys_all, kept_up, kept_are, is_found}
 
 -- ---- entries in the order of their keys
 
@@ -161,6 +161,12 @@ module _ (kind : Kind) (ss : List Stat) (Y : List Place) (es : List Entry) (of :
   filled_entries [] own = refl
   filled_entries (k ∷ ks) own = λ i. filled_entry k own.0 i ∷ filled_entries ks own.1 i
 
+-- of all keys of a facet each is listed, or each whose bucket is not empty
+all_listed : (kind : Kind) (inner : Nodes) (Y : List Place) (es : List Entry) (keys : List Key) → AreAllKeys kind keys → IsStrictlySortedBy key_cmp (keys_of es) → AreOfBuckets kind (stats_of inner) Y es → (none : Bool)
+    → cond (not none) (map (entry_or_none (stats_of inner) es) keys) es ≡ map (bucket_entry kind (stats_of inner) Y) (cond (not none) keys (not_empty kind Y keys))
+all_listed kind inner Y es keys all ascend of true = buckets_of kind (stats_of inner) Y es ascend of (not_empty kind Y keys) (kept_up kind Y keys all) (kept_are kind Y keys all)
+all_listed kind inner Y es keys all ascend of false = filled_entries kind (stats_of inner) Y es of keys all.own
+
 pub tallies_list : TalliesList
 tallies_list (terms t) inner Y es ascend of =
     let ss = stats_of inner in
@@ -180,9 +186,6 @@ tallies_list (terms t) inner Y es ascend of =
         ≡ map (bucket_entry (terms t) (stats_of inner) Y) (offered ++ cond (not none) (asked t.missing missing) (not_empty (terms t) Y (asked t.missing missing)))
     go t inner Y es offered top rest e f h true = (λ i. e i ++ f i) ∙ sym (map-append (bucket_entry (terms t) (stats_of inner) Y) offered (not_empty (terms t) Y (asked t.missing missing)))
     go t inner Y es offered top rest e f h false = (λ i. e i ++ h i) ∙ sym (map-append (bucket_entry (terms t) (stats_of inner) Y) offered (asked t.missing missing))
-tallies_list (range g) inner Y es ascend of = go (no_exclusions inner)
-  where
-    go : (none : Bool) → cond (not none) (map (entry_or_none (stats_of inner) es) (range_keys g)) es ≡ map (bucket_entry (range g) (stats_of inner) Y) (cond (not none) (range_keys g) (not_empty (range g) Y (range_keys g)))
-    go true = buckets_of (range g) (stats_of inner) Y es ascend of (range_keys_in g Y) (range_keys_in_up g Y) (range_keys_are g Y)
-    go false = filled_entries (range g) (stats_of inner) Y es of (range_keys g) (every_range_key g)
+tallies_list (range g) inner Y es ascend of = all_listed (range g) inner Y es (range_keys g) (range_keys_all g) ascend of (no_exclusions inner)
+tallies_list (date_range g) inner Y es ascend of = all_listed (date_range g) inner Y es (date_range_keys g) (date_range_keys_all g) ascend of (no_exclusions inner)
 tallies_list (query q) inner Y es ascend of = ap (λ e. e ∷ []) (filled_entry (query q) (stats_of inner) Y es of whole refl)

@@ -6,7 +6,7 @@ use Rattle.fc_spec.specs.documents.Document.{Block}
 use Rattle.fc_spec.specs.documents.World.{World, Place, shard_places, on_shards}
 use Rattle.fc_spec.specs.documents.Totals.{document_total}
 use Rattle.fc_spec.specs.documents.Sets.{AreSets, places_on, places_at}
-use Rattle.fc_spec.specs.requests.Request.{Kind, terms, range, query, Facet, Nodes, no_nodes, statistic, facet, Request, stats_of}
+use Rattle.fc_spec.specs.requests.Request.{Kind, terms, range, date_range, query, Facet, Nodes, no_nodes, statistic, facet, Request, stats_of}
 use Rattle.fc_spec.specs.requests.Base.{meets_base}
 use Rattle.fc_spec.specs.requests.Buckets.{Key, value, missing, whole, bucket_places}
 use Rattle.fc_spec.specs.requests.DomainSets.{rebuilt_set}
@@ -14,7 +14,7 @@ use Rattle.fc_spec.specs.requests.Paths.{Path, at_root, into, rebuilt, domain, p
 use Rattle.fc_spec.specs.requests.Shape.{no_exclusions}
 use Rattle.fc_spec.specs.requests.Ranks.{below_rank, offered_bound}
 use Rattle.fc_spec.specs.requests.Statistics.{stats_over}
-use Rattle.fc_spec.specs.replies.Printed.{asked, range_keys}
+use Rattle.fc_spec.specs.replies.Printed.{asked, range_keys, date_range_keys}
 use Rattle.fc_spec.specs.replies.Values.{entries_in}
 use Rattle.fc_spec.specs.messages.Message.{Partials, no_partials, partial, row, Way, Want, way_of, first, more}
 use Rattle.fc_spec.specs.messages.Target.{facet_at, Target, leads_nowhere, leads_to, target_path, target_nodes, target_places, target_in, target_from, target_of}
@@ -101,6 +101,7 @@ module _ (r : Request) (W : World) (i : ℕ) (V : Pieces) (is_whole : AreWhole V
       let rest = listed_of (terms t) inner sets D (asked t.missing missing) are is in
       λ j. map value (map (λ e. e.val) (below_rank t.sort (offered_bound t) (entries j))) ++ rest j
   keys_of (range g) inner sets D are own is = listed_of (range g) inner sets D (range_keys g) are is
+  keys_of (date_range g) inner sets D are own is = listed_of (date_range g) inner sets D (date_range_keys g) are is
   keys_of (query q) inner sets D are own is = refl
 
   pub rows_of : (path : Path) (nodes : Nodes) (sets : Sets) (X : List Place) → AreLive V sets → IsOf sets X → answer_rows r W i path nodes X ≡ set_rows (on path) V nodes sets

@@ -4,9 +4,9 @@ use Rattle.std.specs.List.Sorted.{IsStrictlySortedBy}
 use Rattle.std.specs.Map.{keys_of}
 use Rattle.fc_spec.specs.words.Lists.{is_empty}
 use Rattle.fc_spec.specs.documents.World.{Place}
-use Rattle.fc_spec.specs.requests.Request.{Stat, Terms, Kind, terms, range, query, Nodes, stats_of}
+use Rattle.fc_spec.specs.requests.Request.{Stat, Terms, Kind, terms, range, date_range, query, Nodes, stats_of}
 use Rattle.fc_spec.specs.requests.Shape.{holds_exclusion}
-use Rattle.fc_spec.specs.replies.Printed.{asked, range_keys}
+use Rattle.fc_spec.specs.replies.Printed.{asked, range_keys, date_range_keys}
 use Rattle.fc_spec.specs.requests.Buckets.{Key, missing, whole, bucket_places, is_key_of}
 use Rattle.fc_spec.specs.requests.Ranks.{below_rank, offered_bound}
 use Rattle.fc_spec.specs.requests.Statistics.{stats_over}
@@ -28,6 +28,7 @@ top_values t es = map of_entry (below_rank t.sort (offered_bound t) (values_of_t
 abbrev pub listed_of : Kind → Nodes → List Entry → List Entry
 listed_of (terms t) inner es = if holds_exclusion inner then top_values t es ++ map (entry_or_none (stats_of inner) es) (asked t.missing missing) else top_of t.sort (offered_bound t) es
 listed_of (range g) inner es = if holds_exclusion inner then map (entry_or_none (stats_of inner) es) (range_keys g) else es
+listed_of (date_range g) inner es = if holds_exclusion inner then map (entry_or_none (stats_of inner) es) (date_range_keys g) else es
 listed_of (query q) inner es = entry_or_none (stats_of inner) es whole ∷ []
 
 -- the entries are those of the node's buckets that have one of the places, each with the statistics of its places

@@ -9,14 +9,14 @@ use Rattle.fc_spec.specs.documents.Val.{Text}
 use Rattle.fc_spec.specs.documents.Sets.{passing_of, places_at, each_set, each_two}
 use Rattle.fc_spec.specs.documents.Live.{HasWholeBlocks, live_in}
 use Rattle.fc_spec.specs.queries.Matching.{matches}
-use Rattle.fc_spec.specs.requests.Request.{Kind, terms, range, query, Facet, Nodes, no_nodes, statistic, facet, Request, stats_of}
+use Rattle.fc_spec.specs.requests.Request.{Kind, terms, range, date_range, query, Facet, Nodes, no_nodes, statistic, facet, Request, stats_of}
 use Rattle.fc_spec.specs.requests.Buckets.{Key, value, missing, whole, in_bucket, bucket_places}
 use Rattle.fc_spec.specs.requests.DomainSets.{changed_set, bucket_set}
 use Rattle.fc_spec.specs.requests.Base.{meets_base}
 use Rattle.fc_spec.specs.requests.Paths.{Path, at_root, into, excluded_on, meets_path}
 use Rattle.fc_spec.specs.requests.Ranks.{below_rank, offered_bound}
 use Rattle.fc_spec.specs.requests.Statistics.{stats_over}
-use Rattle.fc_spec.specs.replies.Printed.{asked, range_keys}
+use Rattle.fc_spec.specs.replies.Printed.{asked, range_keys, date_range_keys}
 use Rattle.fc_spec.specs.replies.Values.{entries_in}
 use Rattle.fc_spec.specs.messages.Message.{Partials, no_partials, partial, Rows, no_rows, row, Way, Want, way_of, Ask, first, more}
 use Rattle.fc_spec.specs.messages.Target.{facet_at}
@@ -84,6 +84,7 @@ bucket_sets V kind key domain = each_set (bucket_set kind key) (whole_world V) d
 abbrev pub own_keys : Kind → Nodes → List Place → List Key
 own_keys (terms t) inner Y = map value (map (λ e. e.val) (below_rank t.sort (offered_bound t) (entries_in t (stats_of inner) Y))) ++ listed_keys (terms t) inner Y (asked t.missing missing)
 own_keys (range g) inner Y = listed_keys (range g) inner Y (range_keys g)
+own_keys (date_range g) inner Y = listed_keys (date_range g) inner Y (date_range_keys g)
 own_keys (query q) inner Y = whole ∷ []
 
 -- what is listed for the facets of a bucket, from its sets

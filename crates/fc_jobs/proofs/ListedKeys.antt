@@ -8,11 +8,11 @@ use Rattle.fc_spec.specs.documents.World.{Place}
 use Rattle.fc_spec.specs.words.Lists.{is_empty}
 use Rattle.fc_spec.specs.requests.Buckets.{Key, value, missing, gap, before, between, after, whole, bucket_places, is_key_of}
 use Rattle.fc_spec.specs.requests.Ranks.{offered_bound}
-use Rattle.fc_spec.specs.requests.Request.{Stat, Terms, Kind, terms, range, query, Nodes, stats_of}
+use Rattle.fc_spec.specs.requests.Request.{Stat, Terms, Kind, terms, range, date_range, query, Nodes, stats_of}
 use Rattle.fc_spec.specs.requests.Shape.{no_exclusions}
 use Rattle.fc_spec.specs.requests.Statistics.{stats_over}
-use Rattle.fc_spec.specs.replies.Printed.{asked, range_keys}
-use Rattle.fc_spec.proofs.replies.PrintedKeys.{every_asked, every_range_key}
+use Rattle.fc_spec.specs.replies.Printed.{asked, range_keys, date_range_keys}
+use Rattle.fc_spec.proofs.replies.PrintedKeys.{every_asked, every_range_key, every_date_range_key}
 use Rattle.fc_spec.specs.messages.KeyOrder.{same_key}
 use Rattle.fc_spec.proofs.messages.Keys.{same_key_itself}
 use Rattle.fc_spec.proofs.words.Members.{Every, every_append, every_filter, every_map}
@@ -98,6 +98,11 @@ values_own p ((between, s) ∷ es) own = values_own p es own.1
 values_own p ((after, s) ∷ es) own = values_own p es own.1
 values_own p ((whole, s) ∷ es) own = values_own p es own.1
 
+-- of a range facet they are all of its keys, or those of the tally
+all_listed : (kind : Kind) (inner : Nodes) (es : List Entry) (keys : List Key) → Every (is_key_of kind) keys → HaveKeysOf kind es → (none : Bool) → HaveKeysOf kind (cond (not none) (map (entry_or_none (stats_of inner) es) keys) es)
+all_listed kind inner es keys all own true = own
+all_listed kind inner es keys all own false = every_map (λ e. is_key_of kind e.0) (entry_or_none (stats_of inner) es) keys all
+
 -- what is listed has keys of the tally, or others of the facet
 pub listed_keys : (kind : Kind) (inner : Nodes) (es : List Entry) → HaveKeysOf kind es → HaveKeysOf kind (listed_of kind inner es)
 listed_keys (terms t) inner es own = go (no_exclusions inner)
@@ -110,11 +115,8 @@ listed_keys (terms t) inner es own = go (no_exclusions inner)
     go false =
         every_append (λ e. is_key_of (terms t) e.0) (top_values t es) (map (entry_or_none (stats_of inner) es) (asked t.missing missing)) values
         (every_map (λ e. is_key_of (terms t) e.0) (entry_or_none (stats_of inner) es) (asked t.missing missing) (every_asked (is_key_of (terms t)) t.missing missing refl))
-listed_keys (range g) inner es own = go (no_exclusions inner)
-  where
-    go : (none : Bool) → Every (λ e. is_key_of (range g) e.0) (cond (not none) (map (entry_or_none (stats_of inner) es) (range_keys g)) es)
-    go true = own
-    go false = every_map (λ e. is_key_of (range g) e.0) (entry_or_none (stats_of inner) es) (range_keys g) (every_range_key g)
+listed_keys (range g) inner es own = all_listed (range g) inner es (range_keys g) (every_range_key g) own (no_exclusions inner)
+listed_keys (date_range g) inner es own = all_listed (date_range g) inner es (date_range_keys g) (every_date_range_key g) own (no_exclusions inner)
 listed_keys (query q) inner es own = (refl, tt)
 
 -- buckets have the keys of the entries that they are of

@@ -2,28 +2,27 @@
 ghost use Rattle.std.specs.Prelude.{◌≡◌, ◌∷◌, ◌++◌, [], IfOk, OnOk, map, unwrap_or};
 ghost use Rattle.fc_spec.specs.replies.Printed as printed;
 ghost use Rattle.fc_spec.specs.requests.Buckets.{gap as gap_key};
-ghost use Rattle.fc_spec.specs.requests.Gaps.{gap_count};
 ghost use Rattle.fc_spec.specs.requests.Statistics.{stats_over};
 ghost use Rattle.fc_spec.specs.words.Lists.{numbers_below};
-ghost use Rattle.fc_facet.specs.KindView.{range_view};
-ghost use Rattle.fc_facet.specs.RangeGaps.{HasFewGaps};
 ghost use Rattle.fc_partial.specs.BucketView.{bare_part, bucket_view};
 ghost use Rattle.fc_partial.specs.StatsView.{stats_view};
 ghost use Rattle.fc_partial.specs.Tallying.{IsTally, entry_at};
 ghost use Rattle.fc_partial.specs.View.{key_view};
+ghost use Rattle.fc_request.specs.FacetNode.{kind_view};
+ghost use Rattle.fc_request.specs.Ranged.{IsRange, keys_of_range};
 ghost use Rattle.fc_answers.specs.Listed.{entry_or_none};
 
 use fc_base::WantMemory;
-use fc_facet::Range;
 use fc_partial::{Key, PartialBucket, Stats, Tally};
+use fc_request::{Kind, buckets_of_range};
 use std::alloc::Global;
 
-fn gap_keys(alloc: Global, range: &Range) -> Result<Vec<Key>, WantMemory>
-    requires { HasFewGaps (range_view range.now) }
-    ensures { IfOk result (λ keys. map key_view keys.items ≡ map gap_key (numbers_below (gap_count (range_view range.now)))) }
+// The keys of so many gaps, in their order.
+fn gap_keys(alloc: Global, gaps: u32) -> Result<Vec<Key>, WantMemory>
+    ensures { IfOk result (λ keys. map key_view keys.items ≡ map gap_key (numbers_below gaps)) }
 {
     let mut keys = Vec::new(alloc);
-    for gap in 0..range.gaps() {
+    for gap in 0..gaps {
         keys.push(Key::Gap(gap))?;
     }
     Ok(keys)
@@ -39,14 +38,15 @@ fn push_asked(keys: &mut Vec<Key>, wanted: bool, key: Key) -> Result<(), WantMem
 }
 
 /// The keys of a range facet's buckets, in their order.
-pub(crate) fn range_keys(alloc: Global, range: &Range) -> Result<Vec<Key>, WantMemory>
-    requires { HasFewGaps (range_view range.now) }
-    ensures { IfOk result (λ keys. map key_view keys.items ≡ printed.range_keys (range_view range.now)) }
+pub(crate) fn range_keys(alloc: Global, kind: &Kind) -> Result<Vec<Key>, WantMemory>
+    requires { IsRange (kind_view kind.now) }
+    ensures { IfOk result (λ keys. map key_view keys.items ≡ keys_of_range (kind_view kind.now)) }
 {
-    let mut keys = gap_keys(alloc, range)?;
-    push_asked(&mut keys, range.before, Key::Before)?;
-    push_asked(&mut keys, range.between, Key::Between)?;
-    push_asked(&mut keys, range.after, Key::After)?;
+    let buckets = buckets_of_range(kind);
+    let mut keys = gap_keys(alloc, buckets.gaps)?;
+    push_asked(&mut keys, buckets.before, Key::Before)?;
+    push_asked(&mut keys, buckets.between, Key::Between)?;
+    push_asked(&mut keys, buckets.after, Key::After)?;
     Ok(keys)
 }
 

@@ -5,20 +5,20 @@ ghost use Rattle.fc_spec.specs.requests.Buckets.{is_key_of};
 ghost use Rattle.fc_spec.specs.requests.Request as definition;
 ghost use Rattle.fc_spec.specs.requests.Request.{stats_of};
 ghost use Rattle.fc_query.specs.QueryView.{query_view};
-ghost use Rattle.fc_facet.specs.KindView.{range_view, terms_view};
-ghost use Rattle.fc_facet.specs.RangeGaps.{HasFewGaps};
+ghost use Rattle.fc_facet.specs.KindView.{terms_view};
 ghost use Rattle.fc_facet.specs.declared.kind.Kind.TheVariants as variant;
 ghost use Rattle.fc_refine.specs.CountableRanges.{IsCountable};
 ghost use Rattle.fc_partial.specs.BucketView.{bare, bucket_view, buckets_view};
 ghost use Rattle.fc_partial.specs.Tallying.{IsTally};
 ghost use Rattle.fc_request.specs.FacetNode.{has_buckets, kind_of, kind_view};
 ghost use Rattle.fc_request.specs.NodeView.{inner_view};
+ghost use Rattle.fc_request.specs.Ranged.{IsRange};
 ghost use Rattle.fc_answers.specs.Listed.{listed_of};
 ghost use Rattle.fc_answers.specs.LeastListed.{adds_missing};
 
 use crate::filling::{bucket_of, filled, range_keys};
 use fc_base::WantMemory;
-use fc_facet::{Range, Terms};
+use fc_facet::Terms;
 use fc_partial::{Key, PartialBucket, Tally};
 use fc_query::Query;
 use fc_refine::{offered, top};
@@ -72,13 +72,12 @@ fn values_listed(
 fn ranges_listed(
     alloc: Global,
     node: &Node,
-    range: &Range,
     tally: Tally,
 ) -> Result<Vec<PartialBucket>, WantMemory>
-    requires few { HasFewGaps (range_view range.now) }
+    requires range { IsRange (kind_view (kind_of node.now)) }
     requires stats { tally.stats ≡ stats_of (inner_view node.now) }
     ensures list { IfOk result (λ list. buckets_view list.items
-        ≡ bare (listed_of (definition.range (range_view range.now)) (inner_view node.now) tally.entries)) }
+        ≡ bare (listed_of (kind_view (kind_of node.now)) (inner_view node.now) tally.entries)) }
     ensures tally { IsTally tally }
 {
     if !node.holds_exclusion() {
@@ -86,7 +85,7 @@ fn ranges_listed(
         return Ok(list);
     }
     let none = tally.neutral()?;
-    let keys = range_keys(alloc, range)?;
+    let keys = range_keys(alloc, &node.kind)?;
     let list = filled(alloc, &tally, keys, &none)?;
     Ok(list)
 }
@@ -128,8 +127,8 @@ pub fn listed(alloc: Global, node: &Node, tally: Tally) -> Result<Vec<PartialBuc
             let list = values_listed(alloc, node, terms, tally)?;
             Ok(list)
         }
-        Kind::Range(range) => {
-            let list = ranges_listed(alloc, node, range, tally)?;
+        Kind::Range(_) | Kind::DateRange(_) => {
+            let list = ranges_listed(alloc, node, tally)?;
             Ok(list)
         }
         Kind::Query(query) => {

@@ -30,6 +30,7 @@ is_statistic (k.Stat s) h = (s, refl)
 is_statistic (k.Terms t) h = absurd (cc h)
 is_statistic (k.Range g) h = absurd (cc h)
 is_statistic (k.Query q) h = absurd (cc h)
+is_statistic (k.DateRange g) h = absurd (cc h)
 
 pub facet_first : (n : Node) (ns : List Node) → has_buckets (kind_of n) ≡ true → facets_of (nodes_view (n ∷ ns)) ≡ nested_view n ∷ facets_of (nodes_view ns)
 facet_first n ns h = ap facets_of (facet_is n h (nodes_view ns))

@@ -40,12 +40,14 @@ use Rattle.fc_units.proofs.AskedTops.{root_top, same_domain, wanted_top}
 kind_from : (c : definition.DomainChange) (kind : Kind) (n : definition.Nodes) (d : definition.DomainChange) (m : definition.Nodes) → node_of c kind n ≡ reading.of_facet d (query all) m → kind_view kind ≡ query all
 kind_from c (k.Terms t) n d m e = cc
 kind_from c (k.Range g) n d m e = cc
+kind_from c (k.DateRange g) n d m e = cc
 kind_from c (k.Query q) n d m e = cc
 kind_from c (k.Stat s) n d m e = absurd (cc)
 
 change_from : (c : definition.DomainChange) (kind : Kind) (n : definition.Nodes) (d : definition.DomainChange) (m : definition.Nodes) → node_of c kind n ≡ reading.of_facet d (query all) m → c ≡ d
 change_from c (k.Terms t) n d m e = cc
 change_from c (k.Range g) n d m e = cc
+change_from c (k.DateRange g) n d m e = cc
 change_from c (k.Query q) n d m e = cc
 change_from c (k.Stat s) n d m e = absurd (cc)
 

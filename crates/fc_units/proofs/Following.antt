@@ -206,6 +206,7 @@ countable_node s n valid = countable_kind (kind_view (kind_of n)) (kind_fits s (
     countable_kind : (k : definition.Kind) → FitsColumns (texts_held s.fields) k → IsCountable k
     countable_kind (definition.terms t) fits = tt
     countable_kind (definition.range g) fits = fits.2
+    countable_kind (definition.date_range g) fits = fits.2
     countable_kind (definition.query q) fits = tt
 
 -- the keys of its tally are its own
