@@ -3,7 +3,7 @@ use Rattle.std.proofs.Common.{◌≡◌, ℕ, zero, suc, List, [], ◌∷◌, �
 use Rattle.std.specs.Prelude.{not, ◌==◌}
 use Rattle.std.specs.List.{filter, flat_map, enumerate_from}
 use Rattle.fc_spec.specs.documents.Val.{Val, has_val, distinct}
-use Rattle.fc_spec.specs.requests.Request.{Stat, Terms, Kind, terms, range, query, Facet, Nodes, no_nodes, statistic, facet, stats_of}
+use Rattle.fc_spec.specs.requests.Request.{Stat, Terms, Kind, terms, range, date_range, query, Facet, Nodes, no_nodes, statistic, facet, stats_of}
 use Rattle.fc_spec.specs.requests.Buckets.{Key, value, missing, gap, before, between, after, whole}
 use Rattle.fc_spec.specs.requests.Ranks.{Entry, below_rank}
 use Rattle.fc_spec.specs.requests.Shape.{asks_again, counts_all}
@@ -55,6 +55,7 @@ module _ {B C D E : Type 0} (R : Reading B D) (S : Reading C E) (f : B → C) (g
   keys_same : (kind : Kind) (inner : Nodes) (H : List ℕ) (Y : D) → printed_keys R kind inner H Y ≡ printed_keys S kind inner H (g Y)
   keys_same (terms t) inner H Y = ap (terms_keys t) (chosen_entries_same t inner H Y)
   keys_same (range p) inner H Y = refl
+  keys_same (date_range p) inner H Y = refl
   keys_same (query q) inner H Y = refl
 
   carried_same : (kind : Kind) (inner : Nodes) (H : List ℕ) (Y : D) (key : Key) → carried R kind inner H Y key ≡ carried S kind inner H (g Y) key
@@ -66,6 +67,7 @@ module _ {B C D E : Type 0} (R : Reading B D) (S : Reading C E) (f : B → C) (g
   carried_same (terms t) inner H Y after = refl
   carried_same (terms t) inner H Y whole = refl
   carried_same (range p) inner H Y key = refl
+  carried_same (date_range p) inner H Y key = refl
   carried_same (query q) inner H Y key = refl
 
   -- what is made of a bucket's shards and the bucket, where it is made alike of those of both
@@ -104,6 +106,7 @@ module _ {B C D E : Type 0} (R : Reading B D) (S : Reading C E) (f : B → C) (g
     facet_lacks_same (terms t) inner zero n H Y way u v same = ap (λ all. cond (asks_again t inner) all []) (values_same t inner n H Y way)
     facet_lacks_same (terms t) inner (suc e) n H Y way u v same = same e
     facet_lacks_same (range p) inner e n H Y way u v same = same e
+    facet_lacks_same (date_range p) inner e n H Y way u v same = same e
     facet_lacks_same (query q) inner e n H Y way u v same = same e
 
     -- in printed buckets

@@ -3,7 +3,7 @@ use Rattle.std.proofs.Common.{◌≡◌, ℕ, zero, suc, ◌+◌, ◌≤◌, Lis
 use Rattle.std.specs.List.{filter, flat_map, enumerate_from}
 use Rattle.std.proofs.lemmas.Bool.{false≢true}
 use Rattle.fc_spec.specs.documents.Val.{Val, has_val, same_val, distinct}
-use Rattle.fc_spec.specs.requests.Request.{Stat, Terms, Kind, terms, range, query, Facet, Nodes, no_nodes, statistic, facet, Request, stats_of}
+use Rattle.fc_spec.specs.requests.Request.{Stat, Terms, Kind, terms, range, date_range, query, Facet, Nodes, no_nodes, statistic, facet, Request, stats_of}
 use Rattle.fc_spec.specs.requests.Buckets.{Key, value}
 use Rattle.fc_spec.specs.requests.Paths.{at_root}
 use Rattle.fc_spec.specs.requests.Ranks.{Entry, below_rank}
@@ -106,6 +106,7 @@ module _ (A C : List Told) (r : Request) (e : ℕ) (shallow : (i : ℕ) (way : W
   keys_alike : (kind : Kind) (inner : Nodes) (H : List ℕ) (way : Way) (n : ℕ) → way_depth r.nodes way ≤ e → ((key : Key) → way_depth r.nodes (way ++ step_to n key) ≤ e) → printed_keys (over_held A) kind inner H (node_at way n) ≡ printed_keys (over_held C) kind inner H (node_at way n)
   keys_alike (terms t) inner H way n le deeper = λ j. terms_keys t (map (λ v. known_entry_alike t inner H way n v le (deeper (value v)) j) (chosen_alike t inner H way n le j))
   keys_alike (range g) inner H way n le deeper = refl
+  keys_alike (date_range g) inner H way n le deeper = refl
   keys_alike (query q) inner H way n le deeper = refl
 
   carried_alike : (kind : Kind) (inner : Nodes) (H : List ℕ) (way : Way) (n : ℕ) (key : Key) → way_depth r.nodes way ≤ e → carried (over_held A) kind inner H (node_at way n) key ≡ carried (over_held C) kind inner H (node_at way n) key
@@ -140,6 +141,9 @@ module _ (A C : List Told) (r : Request) (e : ℕ) (shallow : (i : ℕ) (way : W
       let own = ap own_depth is in
       ap (λ k. under_held A k inner n H way d) (sym is) ∙ under_alike way n f inner H d at inside (omega arith) ∙ ap (λ k. under_held C k inner n H way d) is
   at_alike way n f (range g) inner H d is at inside bound =
+      let own = ap own_depth is in
+      ap (λ k. under_held A k inner n H way d) (sym is) ∙ under_alike way n f inner H d at inside (omega arith) ∙ ap (λ k. under_held C k inner n H way d) is
+  at_alike way n f (date_range g) inner H d is at inside bound =
       let own = ap own_depth is in
       ap (λ k. under_held A k inner n H way d) (sym is) ∙ under_alike way n f inner H d at inside (omega arith) ∙ ap (λ k. under_held C k inner n H way d) is
   at_alike way n f (query q) inner H d is at inside bound =

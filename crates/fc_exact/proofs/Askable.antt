@@ -11,7 +11,7 @@ use Rattle.fc_spec.specs.requests.Paths.{at_root, domain}
 use Rattle.fc_spec.specs.requests.Buckets.{value, has_prefix, in_bucket, is_key_of}
 use Rattle.fc_spec.specs.documents.Document.{values_of}
 use Rattle.fc_spec.specs.requests.Ranks.{Entry, rank, offered_bound}
-use Rattle.fc_spec.specs.requests.Request.{Stat, Terms, Kind, terms, range, query, Facet, Nodes, no_nodes, statistic, facet, Request, stats_of}
+use Rattle.fc_spec.specs.requests.Request.{Stat, Terms, Kind, terms, range, date_range, query, Facet, Nodes, no_nodes, statistic, facet, Request, stats_of}
 use Rattle.fc_spec.specs.requests.Statistics.{stats_over, pair_values}
 use Rattle.fc_spec.specs.replies.Values.{value_places, values_in, entries_in}
 use Rattle.fc_spec.specs.replies.Reading.{offered}
@@ -114,6 +114,7 @@ module _ (x : Request) (W : World) (top : AreTopNodes x.nodes) (sent : List Exac
       let key : has_key (facet_at k x.nodes) (value u.0) ≡ true = ap (λ o. has_key o (value u.0)) at ∙ prefix in
       subst Names (sym u.2) (and_from (has_key (facet_at k x.nodes) (value u.0)) true key refl))
   named_at f (range g) k is at = absurd is
+  named_at f (date_range g) k is at = absurd is
   named_at f (query q) k is at = absurd is
 
   -- of the facets from some place on

@@ -5,7 +5,7 @@ use Rattle.std.specs.List.{filter}
 use Rattle.fc_spec.specs.documents.Val.{Val, same_val}
 use Rattle.fc_spec.specs.requests.Buckets.{value}
 use Rattle.fc_spec.specs.requests.Least.{least_count}
-use Rattle.fc_spec.specs.requests.Request.{Kind, terms, range, query, Nodes, no_nodes, statistic, facet}
+use Rattle.fc_spec.specs.requests.Request.{Kind, terms, range, date_range, query, Nodes, no_nodes, statistic, facet}
 use Rattle.fc_spec.specs.replies.Tops.{printed_values, top_bound}
 use Rattle.fc_spec.specs.messages.Message.{Want}
 use Rattle.fc_spec.specs.messages.TopRounds.{ToldCount, values_told, count_told, entry_told, entries_told, least_asked, leasts_from, wants_at, wants_from, tops_told_of, tops_told_from}
@@ -61,11 +61,13 @@ entries_are A H n = entries_map A H n (values_told A n)
 least_is : (A : List ToldCount) (H : List ℕ) (n : ℕ) (k : Kind) → least_in H k (values_in (told_of_facet A n)) ≡ least_asked A H n k
 least_is A H n (terms t) = ap (least_count (length H) (top_bound t)) (entries_are A H n)
 least_is A H n (range g) = refl
+least_is A H n (date_range g) = refl
 least_is A H n (query q) = refl
 
 printed_is : (A : List ToldCount) (H : List ℕ) (n : ℕ) (k : Kind) → printed_in H k (values_in (told_of_facet A n)) ≡ tops_told_of A H n k
 printed_is A H n (terms t) = ap (printed_values t) (entries_are A H n)
 printed_is A H n (range g) = refl
+printed_is A H n (date_range g) = refl
 printed_is A H n (query q) = refl
 
 abbrev want_of : ℕ → Val → Want

@@ -5,21 +5,21 @@ use Rattle.std.specs.List.{range_with_len}
 use Rattle.std.proofs.lemmas.List.{map-append}
 use Rattle.std.proofs.lemmas.List.Elements.{All-head, All-tail, All-nil, All-cons}
 use Rattle.fc_spec.specs.requests.Buckets.{Key, value, missing, gap, before, between, after}
-use Rattle.fc_spec.specs.requests.Gaps.{gap_count}
 use Rattle.fc_spec.specs.requests.Ranks.{Entry}
-use Rattle.fc_spec.specs.requests.Request.{Terms, Range, Kind, terms, range, Nodes}
-use Rattle.fc_spec.specs.words.Lists.{numbers_below}
+use Rattle.fc_spec.specs.requests.Request.{Terms, Kind, terms, Nodes}
 use Rattle.fc_spec.specs.replies.Chosen as chosen
 use Rattle.fc_spec.specs.replies.Distributed.{printed_keys}
 use Rattle.fc_spec.specs.replies.Printed.{asked}
 use Rattle.fc_spec.specs.replies.Reading.{Reading}
 use Rattle.fc_base.specs.View.{val_view}
+use Rattle.fc_request.specs.Ranged.{IsRange, asks_after, asks_before, asks_between, gap_keys_of, keys_of_range}
 use Rattle.fc_reading.specs.declared.candidate.Candidate.{Candidate}
 use Rattle.fc_lacks.specs.declared.keyed.Keyed.{Keyed}
 use Rattle.fc_reading.specs.Distinct.{AreDistinct}
 use Rattle.fc_lacks.specs.Keys.{AreCountedKeys, IsCountedKey, WithKey, keyed_from, keyed_of, keyed_on, keyed_view}
 use Rattle.fc_reading.specs.Terms.{candidates_view, IsOn}
 use Rattle.fc_reading.proofs.DistinctShards.{known_distinct}
+use Rattle.fc_reading.proofs.Ranges.{range_carries, range_prints}
 
 -- the bucket of the next gap is put behind the others
 pub next_key : {H : Type 0} (f : Key → WithKey H) (done now : List (WithKey H)) (n end : ℕ) → n < end → now ≡ done ++ f (gap n) ∷ []
@@ -59,24 +59,29 @@ module _ {H D : Type 0} (R : Reading H D) (inner : Nodes) (K : List ℕ) (Y : D)
       ∙ sym (map-append f (map (λ (e : Entry). value e.val) printed) (asked t.missing missing))
 
   -- of a range facet: those of the gaps, and those beside them
-  pub range_keyed : (g : Range) (kind : Kind) (gaps first second third : List (WithKey H)) → kind ≡ range g
-      → gaps ≡ map (keyed_on R kind K Y) (map gap (numbers_below (gap_count g)))
-      → first ≡ gaps ++ map (keyed_on R kind K Y) (asked g.before before)
-      → second ≡ first ++ map (keyed_on R kind K Y) (asked g.between between)
-      → third ≡ second ++ map (keyed_on R kind K Y) (asked g.after after)
-      → third ≡ map (keyed_of R (range g) inner K Y) (printed_keys R (range g) inner K Y)
-  range_keyed g kind gaps first second third k is low middle high =
+  range_of : (kind : Kind) → IsRange kind → (keys : List Key) → map (keyed_on R kind K Y) keys ≡ map (keyed_of R kind inner K Y) keys
+  range_of kind is [] = refl
+  range_of kind is (key ∷ keys) = λ i. keyed_on R kind (sym (range_carries R inner K Y kind is key) i) Y key ∷ range_of kind is keys i
+
+  pub range_keyed : (kind : Kind) → IsRange kind → (gaps first second third : List (WithKey H))
+      → gaps ≡ map (keyed_on R kind K Y) (gap_keys_of kind)
+      → first ≡ gaps ++ map (keyed_on R kind K Y) (asked (asks_before kind) before)
+      → second ≡ first ++ map (keyed_on R kind K Y) (asked (asks_between kind) between)
+      → third ≡ second ++ map (keyed_on R kind K Y) (asked (asks_after kind) after)
+      → third ≡ map (keyed_of R kind inner K Y) (printed_keys R kind inner K Y)
+  range_keyed kind range gaps first second third is low middle high =
       let f : Key → WithKey H = keyed_on R kind K Y in
-      let js = map gap (numbers_below (gap_count g)) in
-      let a = asked g.before before in
-      let b = asked g.between between in
-      let c = asked g.after after in
+      let js = gap_keys_of kind in
+      let a = asked (asks_before kind) before in
+      let b = asked (asks_between kind) between in
+      let c = asked (asks_after kind) after in
       let left : third ≡ ((map f js ++ map f a) ++ map f b) ++ map f c =
       high ∙ ap (λ l. l ++ map f c) (middle ∙ ap (λ l. l ++ map f b) (low ∙ ap (λ l. l ++ map f a) is)) in
       left ∙ append_assoc (map f js ++ map f a) (map f b) (map f c) ∙ append_assoc (map f js) (map f a) (map f b ++ map f c)
       ∙ ap (λ l. map f js ++ (map f a ++ l)) (sym (map-append f b c)) ∙ ap (λ l. map f js ++ l) (sym (map-append f a (b ++ c)))
       ∙ sym (map-append f js (a ++ (b ++ c)))
-      ∙ ap (λ k. map (keyed_on R k K Y) (js ++ (a ++ (b ++ c)))) k
+      ∙ range_of kind range (keys_of_range kind)
+      ∙ ap (map (keyed_of R kind inner K Y)) (sym (range_prints R inner K Y kind range))
 
   -- a candidate has its count
   value_counted : {B : Type 0} (held : B → H) (t : Terms) → AreDistinct K → (c : Candidate B) → IsOn R t inner K Y held (chosen.known R t inner K Y) c → IsCountedKey R held (keyed_from c)

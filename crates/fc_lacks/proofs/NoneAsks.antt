@@ -3,7 +3,7 @@ use Rattle.std.proofs.Common.{◌≡◌, ℕ, zero, suc, List, [], ◌∷◌, �
 use Rattle.std.specs.List.{flat_map}
 use Rattle.std.proofs.lemmas.Bool.{false≢true}
 use Rattle.fc_spec.specs.words.Lists.{is_empty}
-use Rattle.fc_spec.specs.requests.Request.{Kind, terms, range, query, Facet, Nodes, no_nodes, statistic, facet}
+use Rattle.fc_spec.specs.requests.Request.{Kind, terms, range, date_range, query, Facet, Nodes, no_nodes, statistic, facet}
 use Rattle.fc_spec.specs.replies.Distributed.{printed_keys, carried}
 use Rattle.fc_spec.specs.replies.Reading.{Reading}
 use Rattle.fc_spec.specs.messages.Lacks.{Lack, facet_wanted}
@@ -27,6 +27,7 @@ module _ {B D : Type 0} (R : Reading B D) (has : B → ℕ → Bool) where
   none_at (terms t) inner zero n H Y way asks under h u = ap (λ b. cond b (lacking_values R has t inner n H Y way) []) h
   none_at (terms t) inner (suc e) n H Y way asks under h u = u e h
   none_at (range g) inner e n H Y way asks under h u = u e h
+  none_at (date_range g) inner e n H Y way asks under h u = u e h
   none_at (query q) inner e n H Y way asks under h u = u e h
 
   none_printed : (empty : Bool) (f : Facet) (all : List Lack) → all ≡ [] → facet_wanted empty f all ≡ []

@@ -2,7 +2,7 @@
 use Rattle.std.proofs.Common.{◌≡◌, ℕ, zero, suc, List, [], ◌∷◌, ◌++◌, Bool, true, false, cond, not, is_some, refl, ap, ap₂, sym, ◌∙◌, ◌==◌}
 use Rattle.std.specs.List.{filter, flat_map}
 use Rattle.std.proofs.lemmas.List.Elements.{filter-append}
-use Rattle.fc_spec.specs.requests.Request.{Terms, Kind, terms, range, query, Facet, Nodes, no_nodes, statistic, facet}
+use Rattle.fc_spec.specs.requests.Request.{Terms, Kind, terms, range, date_range, query, Facet, Nodes, no_nodes, statistic, facet}
 use Rattle.fc_spec.specs.requests.Buckets.{Key, value}
 use Rattle.fc_spec.specs.requests.Shape.{asks_again}
 use Rattle.fc_spec.specs.words.Lists.{is_empty, numbers_below}
@@ -63,6 +63,7 @@ module _ (A : List Told) where
       go false = refl
   at_untold (terms t) inner (suc e) n H way u l same = same e
   at_untold (range g) inner e n H way u l same = same e
+  at_untold (date_range g) inner e n H way u l same = same e
   at_untold (query q) inner e n H way u l same = same e
 
   printed_untold : (empty : Bool) (f : Facet) (w l : List Lack) → untold A w ≡ l → untold A (facet_wanted empty f w) ≡ facet_wanted empty f l

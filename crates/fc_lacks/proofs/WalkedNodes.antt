@@ -102,6 +102,7 @@ module _ {B D : Type 0} (R : Reading B D) (has : B → ℕ → Bool) where
           go (k.Stat s) no_s no_t = absurd (no_s s refl)
           go (k.Terms t) no_s no_t = absurd (no_t t refl)
           go (k.Range r) no_s no_t = refl
+          go (k.DateRange r) no_s no_t = refl
           go (k.Query q) no_s no_t = refl
 
     -- at a node that is not printed nothing
@@ -112,4 +113,5 @@ module _ {B D : Type 0} (R : Reading B D) (has : B → ℕ → Bool) where
         go (k.Stat s) is = statistic_lacks node s is
         go (k.Terms t) is = left_out node (ap has_buckets is) none no_tag
         go (k.Range r) is = left_out node (ap has_buckets is) none no_tag
+        go (k.DateRange r) is = left_out node (ap has_buckets is) none no_tag
         go (k.Query q) is = left_out node (ap has_buckets is) none no_tag

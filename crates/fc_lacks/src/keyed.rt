@@ -1,26 +1,23 @@
 // Printed buckets by their keys.
 ghost use Rattle.std.specs.Prelude.{◌≡◌, ◌∷◌, ◌++◌, [], IfOk, IsTrue, OnOk, map};
-ghost use Rattle.fc_spec.specs.requests.Buckets.{gap as gap_key};
-ghost use Rattle.fc_spec.specs.requests.Gaps.{gap_count};
 ghost use Rattle.fc_spec.specs.requests.Request as definition;
 ghost use Rattle.fc_spec.specs.replies.Distributed.{printed_keys};
 ghost use Rattle.fc_spec.specs.replies.Printed.{asked as asked_of};
-ghost use Rattle.fc_spec.specs.words.Lists.{numbers_below};
 ghost use Rattle.fc_facet.specs.declared.kind.Kind.TheVariants as variant;
-ghost use Rattle.fc_facet.specs.KindView.{range_view, terms_view};
-ghost use Rattle.fc_facet.specs.RangeGaps.{HasFewGaps};
+ghost use Rattle.fc_facet.specs.KindView.{terms_view};
 ghost use Rattle.fc_partial.specs.View.{key_view};
 ghost use Rattle.fc_refine.specs.CountableRanges.{IsCountable, IsThere};
 ghost use Rattle.fc_request.specs.FacetNode.{has_buckets, kind_of, kind_view};
 ghost use Rattle.fc_request.specs.NodeView.{inner_view};
+ghost use Rattle.fc_request.specs.Ranged.{IsRange, gap_keys_of};
 ghost use Rattle.fc_reading.specs.Distinct.{AreDistinct};
 ghost use Rattle.fc_lacks.specs.Keys.{AreCountedKeys, keyed_from, keyed_of, keyed_on, keyed_view};
 
 use fc_base::WantMemory;
-use fc_facet::{Kind, Range, Terms};
+use fc_facet::{Kind, Terms};
 use fc_partial::Key;
 use fc_reading::{BucketReading, Candidate, printed_values};
-use fc_request::Node;
+use fc_request::{Node, buckets_of_range};
 use std::alloc::Global;
 use std::borrow::CowSlice;
 
@@ -116,21 +113,19 @@ fn of_gaps<'s, R: BucketReading>(
     alloc: Global,
     reading: &R,
     kind: &Kind,
-    range: &Range,
     shards: &'s [u32],
     domain: &R::Domain,
 ) -> Result<Vec<Keyed<'s, R::Bucket>>, WantMemory>
-    requires kind { kind.now ≡ variant.Range range.now }
-    requires few { HasFewGaps (range_view range.now) }
+    requires range { IsRange (kind_view kind.now) }
     requires made { R.is_for domain.now kind.now }
     requires distinct { AreDistinct shards.now }
     ensures keyed { IfOk result (λ list. map (keyed_view R.held) list.items
-        ≡ map (keyed_on (R.reading reading.now) (kind_view kind.now) shards.now (R.over domain.now))
-        (map gap_key (numbers_below (gap_count (range_view range.now))))) }
+        ≡ map (keyed_on (R.reading reading.now) (kind_view kind.now) shards.now (R.over domain.now)) (gap_keys_of (kind_view kind.now))) }
     ensures counted { IfOk result (λ list. AreCountedKeys (R.reading reading.now) R.held list.items) }
 {
     let mut list = Vec::new(alloc);
-    for gap in 0..range.gaps() {
+    let buckets = buckets_of_range(kind);
+    for gap in 0..buckets.gaps {
         push_key(
             alloc,
             reading,
@@ -177,32 +172,31 @@ fn keyed_terms<'s, R: BucketReading>(
     Ok(list)
 }
 
-// The printed buckets of a range facet.
+// The printed buckets of a range facet, over integers or over dates.
 fn keyed_range<'s, R: BucketReading>(
     alloc: Global,
     reading: &R,
     kind: &Kind,
-    range: &Range,
     shards: &'s [u32],
     domain: &R::Domain,
 ) -> Result<Vec<Keyed<'s, R::Bucket>>, WantMemory>
-    requires kind { kind.now ≡ variant.Range range.now }
-    requires few { HasFewGaps (range_view range.now) }
+    requires range { IsRange (kind_view kind.now) }
     requires made { R.is_for domain.now kind.now }
     requires distinct { AreDistinct shards.now }
     ensures keyed { IfOk result (λ list. (inner : definition.Nodes) → map (keyed_view R.held) list.items
-        ≡ map (keyed_of (R.reading reading.now) (definition.range (range_view range.now)) inner shards.now (R.over domain.now))
-        (printed_keys (R.reading reading.now) (definition.range (range_view range.now)) inner shards.now (R.over domain.now))) }
+        ≡ map (keyed_of (R.reading reading.now) (kind_view kind.now) inner shards.now (R.over domain.now))
+        (printed_keys (R.reading reading.now) (kind_view kind.now) inner shards.now (R.over domain.now))) }
     ensures counted { IfOk result (λ list. AreCountedKeys (R.reading reading.now) R.held list.items) }
 {
-    let mut list = of_gaps(alloc, reading, kind, range, shards, domain)?;
+    let mut list = of_gaps(alloc, reading, kind, shards, domain)?;
+    let buckets = buckets_of_range(kind);
     push_asked(
         alloc,
         reading,
         kind,
         shards,
         domain,
-        range.before,
+        buckets.before,
         Key::Before,
         &mut list,
     )?;
@@ -212,7 +206,7 @@ fn keyed_range<'s, R: BucketReading>(
         kind,
         shards,
         domain,
-        range.between,
+        buckets.between,
         Key::Between,
         &mut list,
     )?;
@@ -222,7 +216,7 @@ fn keyed_range<'s, R: BucketReading>(
         kind,
         shards,
         domain,
-        range.after,
+        buckets.after,
         Key::After,
         &mut list,
     )?;
@@ -252,8 +246,8 @@ pub(crate) fn printed_buckets<'s, R: BucketReading>(
             let list = keyed_terms(alloc, reading, node, terms, shards, domain)?;
             Ok(list)
         }
-        Kind::Range(range) => {
-            let list = keyed_range(alloc, reading, kind, range, shards, domain)?;
+        Kind::Range(_) | Kind::DateRange(_) => {
+            let list = keyed_range(alloc, reading, kind, shards, domain)?;
             Ok(list)
         }
         Kind::Query(_) => {

@@ -5,6 +5,7 @@ pub mod Merging
 pub mod OfferedValues
 pub mod Printing
 pub mod RangeParts
+pub mod Ranges
 pub mod Rows
 pub mod RowsMade
 pub mod Sizes

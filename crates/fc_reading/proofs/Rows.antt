@@ -1,7 +1,7 @@
 -- Rows and facets, part by part.
 use Rattle.std.proofs.Common.{◌≡◌, ℕ, List, [], ◌∷◌, ◌++◌, map, Option, None, Some, option_map, refl, ap, sym, ◌∙◌}
 use Rattle.fc_spec.specs.documents.Val.{Text}
-use Rattle.fc_spec.specs.requests.Request.{Kind, terms, range, query, Nodes}
+use Rattle.fc_spec.specs.requests.Request.{Kind, terms, range, date_range, query, Nodes}
 use Rattle.fc_spec.specs.requests.Buckets.{Key}
 use Rattle.fc_spec.specs.replies.Reply.{Bucket, Facets, no_parts, part, Spot, listed, as_missing, as_before, as_between, as_after, row_of, with_buckets, spot_of, many, one}
 use Rattle.fc_spec.specs.replies.Reading.{Reading}
@@ -64,7 +64,9 @@ module _ {B H D : Type 0} (R : Reading H D) (held : B → H) (inner : Nodes) (K 
       ≡ with_buckets name kind (λ k. count (carried R kind inner K Y k) (R.bucket_at kind Y k)) (λ k. inside (carried R kind inner K Y k) (R.bucket_at kind Y k)) (printed_keys R kind inner K Y) more
   put_as_defined name (terms t) (Many ps) more h = ap (λ qs. many name (row_with count inside qs) more) h.0 ∙ ap (λ row. many name row more) (sym (row_of_keys (terms t) _))
   put_as_defined name (range g) (Many ps) more h = ap (λ qs. many name (row_with count inside qs) more) h.0 ∙ ap (λ row. many name row more) (sym (row_of_keys (range g) _))
+  put_as_defined name (date_range g) (Many ps) more h = ap (λ qs. many name (row_with count inside qs) more) h.0 ∙ ap (λ row. many name row more) (sym (row_of_keys (date_range g) _))
   put_as_defined name (query q) (Many ps) more h = absurd h
   put_as_defined name (terms t) (One p) more h = absurd h
   put_as_defined name (range g) (One p) more h = absurd h
+  put_as_defined name (date_range g) (One p) more h = absurd h
   put_as_defined name (query q) (One p) more h = ap (λ s. one name (bucket_with count inside s) more) h.0

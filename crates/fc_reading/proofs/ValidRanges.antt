@@ -1,13 +1,14 @@
 -- The ranges of a valid request can be counted.
 use Rattle.std.specs.Prelude.{Bool}
 use Rattle.fc_spec.specs.documents.Schema.{Schema}
-use Rattle.fc_spec.specs.requests.Request.{Kind, terms, range, query, Nodes, no_nodes, statistic, facet, Request}
+use Rattle.fc_spec.specs.requests.Request.{Kind, terms, range, date_range, query, Nodes, no_nodes, statistic, facet, Request}
 use Rattle.fc_spec.specs.requests.ValidRequests.{IsValidKind, AreValidNodes, IsSearchable}
 use Rattle.fc_refine.specs.CountableRanges.{IsCountable, AreCountable}
 
 kind_countable : (s : Schema) (inner : Nodes) (k : Kind) → IsValidKind s inner k → IsCountable k
 kind_countable s inner (terms t) valid = tt
 kind_countable s inner (range g) valid = record { ordered = valid.ordered; forward = valid.forward; few = valid.few }
+kind_countable s inner (date_range g) valid = record { some = valid.some; few = valid.few; ascending = valid.ascending }
 kind_countable s inner (query q) valid = tt
 
 nodes_countable : (s : Schema) (unmoved : Bool) (nodes : Nodes) → AreValidNodes s unmoved nodes → AreCountable nodes

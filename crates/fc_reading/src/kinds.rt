@@ -39,8 +39,8 @@ pub(crate) fn printed<'s, R: BucketReading>(
             let parts = terms_parts(alloc, reading, node, terms, &stats, shards, domain)?;
             Ok(Printed::Many(parts))
         }
-        Kind::Range(range) => {
-            let parts = range_parts(alloc, reading, kind, range, &stats, shards, domain)?;
+        Kind::Range(_) | Kind::DateRange(_) => {
+            let parts = range_parts(alloc, reading, kind, &stats, shards, domain)?;
             Ok(Printed::Many(parts))
         }
         Kind::Query(_) => {

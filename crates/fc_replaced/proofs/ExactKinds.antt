@@ -23,6 +23,7 @@ is_there t false = refl
 pub is_exact_by : (kind : request.Kind) → shape.is_exact kind ≡ is_some (exact_of kind)
 is_exact_by (request.terms t) = sym (is_there t (shape.is_exact (request.terms t)))
 is_exact_by (request.range g) = refl
+is_exact_by (request.date_range g) = refl
 is_exact_by (request.query q) = refl
 
 same_there : (t u : Terms) (b : Bool) → there_if t b ≡ Some u → t ≡ u
@@ -32,6 +33,7 @@ same_there t u false h = absurd (cc h)
 pub exact_kind : (kind : request.Kind) (t : Terms) → exact_of kind ≡ Some t → kind ≡ request.terms t
 exact_kind (request.terms u) t h = ap request.terms (same_there u t (shape.is_exact (request.terms u)) h)
 exact_kind (request.range g) t h = absurd (cc h)
+exact_kind (request.date_range g) t h = absurd (cc h)
 exact_kind (request.query q) t h = absurd (cc h)
 
 -- a node, by its kind
@@ -41,6 +43,7 @@ part_with n kind = ((out-Node n).name, node_of (domain_view (out-Node n).domain)
 node_exact : (n : Node) (kind : Kind) → is_exact (part_with n kind) ≡ shape.is_exact (kind_view kind)
 node_exact n (k.Terms t) = refl
 node_exact n (k.Range g) = refl
+node_exact n (k.DateRange g) = refl
 node_exact n (k.Query q) = refl
 node_exact n (k.Stat s) = refl
 

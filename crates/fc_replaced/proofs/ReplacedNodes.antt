@@ -60,6 +60,7 @@ exact_by_kind n (k.Terms u) t vs more h =
     let still : shape.is_exact (request.terms t) ≡ true = ap shape.is_exact (sym is) ∙ exact in
     ap by_terms is ∙ ap (λ b. chosen_if b (keys t) (request.facet f (inner_view n) more)) still
 exact_by_kind n (k.Range g) t vs more h = absurd (cc h)
+exact_by_kind n (k.DateRange g) t vs more h = absurd (cc h)
 exact_by_kind n (k.Query q) t vs more h = absurd (cc h)
 exact_by_kind n (k.Stat s) t vs more h = absurd (cc h)
 
@@ -75,6 +76,7 @@ plain_by_kind n (k.Terms t) vs more h =
     let exact : shape.is_exact kind ≡ false = is_exact_by kind ∙ ap is_some h in
     ap (λ b. chosen_if b (key_nodes f (terms_view t) (inner_view n) (top_keys (terms_view t) vs) more) (request.facet f (inner_view n) more)) exact
 plain_by_kind n (k.Range g) vs more h = refl
+plain_by_kind n (k.DateRange g) vs more h = refl
 plain_by_kind n (k.Query q) vs more h = refl
 plain_by_kind n (k.Stat s) vs more h = refl
 

@@ -70,11 +70,13 @@ pub plain_restored : (kind : Kind) (name : Text) (vs : List Val) (F more : Facet
 plain_restored (request.terms t) name vs F more h =
     ap (λ b. chosen_if b (many name (row_from t (top_keys t vs) F) more) (with_first F more)) (is_exact_by (request.terms t) ∙ ap is_some h)
 plain_restored (request.range g) name vs F more h = refl
+plain_restored (request.date_range g) name vs F more h = refl
 plain_restored (request.query q) name vs F more h = refl
 
 pub plain_after : (kind : Kind) (vs : List Val) (F : Facets) → exact_of kind ≡ None → after_facet kind vs F ≡ after_first F
 plain_after (request.terms t) vs F h = ap (λ b. chosen_if b (after_keys (top_keys t vs) F) (after_first F)) (is_exact_by (request.terms t) ∙ ap is_some h)
 plain_after (request.range g) vs F h = refl
+plain_after (request.date_range g) vs F h = refl
 plain_after (request.query q) vs F h = refl
 
 -- ---- one node of the code

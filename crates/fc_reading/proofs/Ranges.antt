@@ -1,0 +1,57 @@
+-- Range facets, over integers or over dates: they have buckets, which can be counted, are there, and carry the shards around them.
+use Rattle.std.proofs.Common.{◌≡◌, ◌<◌, ℕ, List, Bool, true, None, refl}
+use Rattle.fc_spec.specs.requests.Buckets.{Key, gap, before, between, after}
+use Rattle.fc_spec.specs.requests.Request.{Kind, terms, range, date_range, query, Nodes}
+use Rattle.fc_spec.specs.replies.Distributed.{carried, printed_keys}
+use Rattle.fc_spec.specs.replies.Reading.{Reading}
+use Rattle.fc_spec.specs.replies.Reply.{val_of}
+use Rattle.fc_facet.specs.declared.kind.Kind.{Kind as CodeKind}
+use Rattle.fc_facet.specs.declared.kind.Kind.TheVariants as k
+use Rattle.fc_refine.specs.CountableRanges.{IsCountable, IsThere}
+use Rattle.fc_request.specs.FacetNode.{has_buckets, kind_view}
+use Rattle.fc_request.specs.Ranged.{IsRange, gaps_of, keys_of_range}
+
+pub range_has_buckets : (kind : CodeKind) → IsRange (kind_view kind) → has_buckets kind ≡ true
+range_has_buckets (k.Terms t) is = refl
+range_has_buckets (k.Range g) is = refl
+range_has_buckets (k.Query q) is = refl
+range_has_buckets (k.DateRange g) is = refl
+range_has_buckets (k.Stat s) is = absurd is
+
+pub range_is_countable : (kind : Kind) → IsRange kind → IsCountable kind
+range_is_countable (terms t) is = tt
+range_is_countable (range g) is = is
+range_is_countable (query q) is = tt
+range_is_countable (date_range g) is = is
+
+pub gap_is_there : (kind : Kind) → IsRange kind → (i : ℕ) → i < gaps_of kind → IsThere kind (gap i)
+gap_is_there (terms t) is i below = tt
+gap_is_there (range g) is i below = below
+gap_is_there (query q) is i below = tt
+gap_is_there (date_range g) is i below = below
+
+-- the buckets beside the gaps are there, and have no `val`
+pub beside_are_there : (kind : Kind) → IsRange kind → IsThere kind before × IsThere kind between × IsThere kind after
+beside_are_there (terms t) is = absurd is
+beside_are_there (range g) is = (tt, tt, tt)
+beside_are_there (query q) is = absurd is
+beside_are_there (date_range g) is = (tt, tt, tt)
+
+pub beside_have_no_val : (kind : Kind) → IsRange kind → (val_of kind before ≡ None) × (val_of kind between ≡ None) × (val_of kind after ≡ None)
+beside_have_no_val (terms t) is = absurd is
+beside_have_no_val (range g) is = (refl, refl, refl)
+beside_have_no_val (query q) is = absurd is
+beside_have_no_val (date_range g) is = (refl, refl, refl)
+
+module _ {H D : Type 0} (R : Reading H D) (inner : Nodes) (shards : List ℕ) (Y : D) where
+  pub range_carries : (kind : Kind) → IsRange kind → (key : Key) → carried R kind inner shards Y key ≡ shards
+  range_carries (terms t) is key = absurd is
+  range_carries (range g) is key = refl
+  range_carries (query q) is key = absurd is
+  range_carries (date_range g) is key = refl
+
+  pub range_prints : (kind : Kind) → IsRange kind → printed_keys R kind inner shards Y ≡ keys_of_range kind
+  range_prints (terms t) is = absurd is
+  range_prints (range g) is = refl
+  range_prints (query q) is = absurd is
+  range_prints (date_range g) is = refl
