@@ -69,11 +69,7 @@ fn values_listed(
 }
 
 // What is listed of a range facet.
-fn ranges_listed(
-    alloc: Global,
-    node: &Node,
-    tally: Tally,
-) -> Result<Vec<PartialBucket>, WantMemory>
+fn ranges_listed(alloc: Global, node: &Node, tally: Tally) -> Result<Vec<PartialBucket>, WantMemory>
     requires range { IsRange (kind_view (kind_of node.now)) }
     requires stats { tally.stats ≡ stats_of (inner_view node.now) }
     ensures list { IfOk result (λ list. buckets_view list.items

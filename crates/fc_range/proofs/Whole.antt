@@ -58,6 +58,7 @@ pub query_of : (k : code.Kind) → name_of k ≡ Some names.Query → (q : Query
 query_of (kinds.Terms t) e = cc
 query_of (kinds.Range g) e = cc
 query_of (kinds.Query q) e = (query_view q, refl)
+query_of (kinds.DateRange g) e = cc
 query_of (kinds.Stat s) e = cc
 
 pub whole_key : (k : code.Kind) → name_of k ≡ Some names.Query → is_key_of (kind_view k) whole ≡ true

@@ -37,16 +37,7 @@ fn gap_parts<'s, R: BucketReading>(
     for gap in 0..buckets.gaps {
         let low = low_of_range(alloc, kind, gap)?;
         let key = Key::Gap(gap);
-        parts.push(part_at(
-            alloc,
-            reading,
-            kind,
-            stats,
-            shards,
-            domain,
-            &key,
-            Some(low),
-        )?)?;
+        parts.push(part_at(alloc, reading, kind, stats, shards, domain, &key, Some(low))?)?;
     }
     Ok(parts)
 }

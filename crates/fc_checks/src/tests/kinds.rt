@@ -4,8 +4,8 @@ ghost use Rattle.std.specs.Prelude.{IfOk, map};
 ghost use Rattle.fc_kind.specs.Names.{Covers};
 
 use fc_base::WantMemory;
-use fc_docset::DocSet;
 use fc_date_range::DateRangeKind;
+use fc_docset::DocSet;
 use fc_kind::{FacetKind, KindName, covers, the_kind};
 use fc_partial::{Key, Tally};
 use fc_range::{QueryKind, RangeKind};
