@@ -1,5 +1,5 @@
 -- The parts of a range facet.
-use Rattle.std.proofs.Common.{◌≡◌, ◌∙◌, ◌+◌, ◌-◌, ◌<◌, ◌++◌, ◌∷◌, [], List, ℕ, suc, map, Bool, true, false, Option, None, Some, ap, sym, refl, append_assoc, arith}
+use Rattle.std.proofs.Common.{◌≡◌, ◌∙◌, ◌+◌, ◌-◌, ◌<◌, ◌++◌, ◌∷◌, [], List, ℕ, suc, map, Bool, true, false, Option, None, ap, sym, refl, append_assoc, arith}
 use Rattle.std.specs.List.{range_with_len}
 use Rattle.std.proofs.lemmas.List.{map-append}
 use Rattle.fc_spec.specs.documents.Val.{Val}
@@ -24,6 +24,14 @@ next_gap {H = H} held f done p n end h is =
     let rest = map f (map gap (range_with_len (n + 1) (end - (n + 1)))) in
     ap (λ l. l ++ rest) (map-append see done (p ∷ [])) ∙ append_assoc (map see done) (see p ∷ []) rest
     ∙ ap (λ (x : Seen H). map see done ++ (x ∷ rest)) is ∙ ap (λ m. map see done ++ map f (map gap (range_with_len n m))) e
+
+-- they are what the facet prints
+pub are_printed : {B H D : Type 0} (R : Reading H D) (held : B → H) (kind : Kind) (inner : Nodes) (shards : List ℕ) (Y : D) (ps : Parts B) → IsRange kind
+    → parts_view held ps ≡ parts_of R kind inner shards Y → AreCounted R held (stats_of inner) ps → IsPrinted R held kind inner shards Y (Many ps)
+are_printed R held (terms t) inner shards Y ps is parts counted = absurd is
+are_printed R held (range g) inner shards Y ps is parts counted = (parts, counted)
+are_printed R held (query q) inner shards Y ps is parts counted = absurd is
+are_printed R held (date_range g) inner shards Y ps is parts counted = (parts, counted)
 
 module _ {H D : Type 0} (R : Reading H D) (inner : Nodes) (shards : List ℕ) (Y : D) (kind : Kind) (is : IsRange kind) where
   -- what the code gives for a key

@@ -1,15 +1,21 @@
 -- Range facets, over integers or over dates: they have buckets, which can be counted, are there, and carry the shards around them.
-use Rattle.std.proofs.Common.{◌≡◌, ◌<◌, ℕ, List, Bool, true, None, refl}
+use Rattle.std.proofs.Common.{◌≡◌, ◌<◌, ◌⊎◌, ℕ, List, true, None, inl, inr, refl, subst, sym}
 use Rattle.fc_spec.specs.requests.Buckets.{Key, gap, before, between, after}
 use Rattle.fc_spec.specs.requests.Request.{Kind, terms, range, date_range, query, Nodes}
 use Rattle.fc_spec.specs.replies.Distributed.{carried, printed_keys}
 use Rattle.fc_spec.specs.replies.Reading.{Reading}
 use Rattle.fc_spec.specs.replies.Reply.{val_of}
+use Rattle.fc_facet.specs.declared.kind.DateRange.{DateRange}
 use Rattle.fc_facet.specs.declared.kind.Kind.{Kind as CodeKind}
 use Rattle.fc_facet.specs.declared.kind.Kind.TheVariants as k
+use Rattle.fc_facet.specs.declared.kind.Range.{Range}
 use Rattle.fc_refine.specs.CountableRanges.{IsCountable, IsThere}
 use Rattle.fc_request.specs.FacetNode.{has_buckets, kind_view}
 use Rattle.fc_request.specs.Ranged.{IsRange, gaps_of, keys_of_range}
+
+pub is_range : (kind : CodeKind) → ((g : Range) × kind ≡ k.Range g) ⊎ ((g : DateRange) × kind ≡ k.DateRange g) → IsCountable (kind_view kind) → IsRange (kind_view kind)
+is_range kind (inl (g, e)) countable = subst (λ kind. IsRange (kind_view kind)) (sym e) (subst (λ kind. IsCountable (kind_view kind)) e countable)
+is_range kind (inr (g, e)) countable = subst (λ kind. IsRange (kind_view kind)) (sym e) (subst (λ kind. IsCountable (kind_view kind)) e countable)
 
 pub range_has_buckets : (kind : CodeKind) → IsRange (kind_view kind) → has_buckets kind ≡ true
 range_has_buckets (k.Terms t) is = refl

@@ -18,9 +18,9 @@ returns-clause-keyed g c = λ inner.
     let first = see c.push_asked.new.list.items in
     let second = see c.push_asked-2.new.list.items in
     range_keyed R inner shards Y kind c.requires.range gaps first second (see c.push_asked-3.new.list.items) c.in_ok-list.ensures.keyed
-    (c.in_ok-push_asked.ensures.keyed ∙ ap (λ b. gaps ++ on (asked b before)) c.buckets.ensures.before)
-    (c.in_ok-push_asked-2.ensures.keyed ∙ ap (λ b. first ++ on (asked b between)) c.buckets.ensures.between)
-    (c.in_ok-push_asked-3.ensures.keyed ∙ ap (λ b. second ++ on (asked b after)) c.buckets.ensures.after)
+    (c.in_ok-push_asked.ensures.keyed ∙ ap (λ b. gaps ++ on (asked b before)) c.buckets_of_range-buckets.ensures.before)
+    (c.in_ok-push_asked-2.ensures.keyed ∙ ap (λ b. first ++ on (asked b between)) c.buckets_of_range-buckets.ensures.between)
+    (c.in_ok-push_asked-3.ensures.keyed ∙ ap (λ b. second ++ on (asked b after)) c.buckets_of_range-buckets.ensures.after)
 
 pub returns-clause-counted : goal.returns-clause-counted
 returns-clause-counted g c = c.in_ok-push_asked-3.ensures.counted (c.in_ok-push_asked-2.ensures.counted (c.in_ok-push_asked.ensures.counted c.in_ok-list.ensures.counted))

@@ -11,7 +11,7 @@ loop-gap-preserved g c =
     let f = keyed_on (g.R.BucketReading.reading c.args.reading.now) kind c.args.shards.now (g.R.BucketReading.over c.args.domain.now) in
     let see = map (keyed_view g.R.BucketReading.held) in
     let n = c.loop-gap.gap in (
-      next_key f (see c.loop-gap.list.items) (see c.push_key.new.list.items) n (gaps_of kind) (subst (λ m. n < m) c.buckets.ensures.gaps c.loop-gap-test.true) c.in_ok-push_key.ensures.keyed
+      next_key f (see c.loop-gap.list.items) (see c.push_key.new.list.items) n (gaps_of kind) (subst (λ m. n < m) c.buckets_of_range-buckets.ensures.gaps c.loop-gap-test.true) c.in_ok-push_key.ensures.keyed
           ∙ c.loop-gap.invariant.0,
       c.in_ok-push_key.ensures.counted c.loop-gap.invariant.1,
     )

@@ -14,5 +14,5 @@ returns-clause-parts g c = λ inner.
     let on = part_on R inner shards Y kind c.requires.range None in
     all_parts R inner shards Y kind c.requires.range g.R.BucketReading.held
     (record { list = c.in_ok-list.list; missing = None; before = c.in_ok-before.before; between = c.in_ok-between.between; after = c.in_ok-after.after })
-    refl (c.in_ok-list.ensures.parts inner) (c.in_ok-before.ensures.part ∙ ap (λ b. map on (asked b before)) c.buckets.ensures.before)
-    (c.in_ok-between.ensures.part ∙ ap (λ b. map on (asked b between)) c.buckets.ensures.between) (c.in_ok-after.ensures.part ∙ ap (λ b. map on (asked b after)) c.buckets.ensures.after)
+    refl (c.in_ok-list.ensures.parts inner) (c.in_ok-before.ensures.part ∙ ap (λ b. map on (asked b before)) c.buckets_of_range-buckets.ensures.before)
+    (c.in_ok-between.ensures.part ∙ ap (λ b. map on (asked b between)) c.buckets_of_range-buckets.ensures.between) (c.in_ok-after.ensures.part ∙ ap (λ b. map on (asked b after)) c.buckets_of_range-buckets.ensures.after)
