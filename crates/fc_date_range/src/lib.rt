@@ -1,2 +1,15 @@
 //! Range facets over dates as a kind: a bucket for each gap between dates.
 #![tactic(auto)]
+
+mod beside;
+mod buckets;
+mod choice;
+mod counting;
+mod gaps;
+mod kind;
+mod numbers;
+mod selecting;
+mod span;
+mod spans;
+
+pub use kind::DateRangeKind;

@@ -1,0 +1,5 @@
+pub mod HeldDates
+pub mod Spans
+pub mod GapSpans
+pub mod GapKeys
+pub mod Reached
