@@ -81,5 +81,6 @@ pub(crate) fn collect_beside(
     if !asked {
         return Ok(());
     }
-    collect_bucket(alloc, segment, docs, range, stats, key, into)
+    collect_bucket(alloc, segment, docs, range, stats, key, into)?;
+    Ok(())
 }

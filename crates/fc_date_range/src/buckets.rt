@@ -1,5 +1,5 @@
 // The spans of the buckets of a range facet over dates.
-ghost use Rattle.std.specs.Prelude.{◌≡◌, ◌<◌, ◌||◌, ◌&&◌, ◌==◌, ◌==◌, [], length};
+ghost use Rattle.std.specs.Prelude.{◌≡◌, ◌<◌, ◌||◌, not};
 ghost use Rattle.std.specs.Bool.{IsTrue};
 ghost use Rattle.fc_spec.specs.requests.Buckets.{holds_date, is_date_range_key};
 ghost use Rattle.fc_spec.specs.requests.DateGaps as definition;
@@ -46,6 +46,20 @@ fn holds_end(range: &DateRange) -> bool
     range.upper || range.edge
 }
 
+// Whether the bucket before the gaps holds the start.
+fn is_start_before(range: &DateRange) -> bool
+    ensures { result ≡ (range.now.outer || not (range.now.lower || range.now.edge)) }
+{
+    range.outer || !holds_start(range)
+}
+
+// Whether the bucket after the gaps holds the last high end.
+fn is_end_after(range: &DateRange) -> bool
+    ensures { result ≡ (range.now.outer || not (range.now.upper || range.now.edge)) }
+{
+    range.outer || !holds_end(range)
+}
+
 // Whether a gap holds its low end.
 fn holds_low(range: &DateRange, number: u32) -> bool
     ensures { result ≡ holds_low (date_range_view range.now) number }
@@ -58,7 +72,7 @@ fn holds_high(range: &DateRange, number: u32) -> bool
     requires { HasFewEdges (date_range_view range.now) }
     ensures { result ≡ holds_high (date_range_view range.now) number }
 {
-    range.upper || (range.edge && range.gaps() == number + 1)
+    range.upper || (range.edge && u64::from(range.gaps()) == u64::from(number) + 1)
 }
 
 /// The span of a gap, by its number from 0.
@@ -83,7 +97,7 @@ fn of_before(column: &TextColumn, range: &DateRange) -> Span
 {
     Span {
         from: 0,
-        past: first_behind(column, start_of(range), range.outer || !holds_start(range)),
+        past: first_behind(column, start_of(range), is_start_before(range)),
     }
 }
 
@@ -106,7 +120,7 @@ fn of_after(column: &TextColumn, range: &DateRange) -> Span
         result.from result.past }
 {
     Span {
-        from: first_from(column, end_of(range), range.outer || !holds_end(range)),
+        from: first_from(column, end_of(range), is_end_after(range)),
         past: column.terms(),
     }
 }

@@ -46,7 +46,7 @@ fn ended(spans: &[Span], ord: u32) -> usize
     requires { Rise spans.now }
     ensures within { result ≤ length spans.now }
     ensures ended { (i : ℕ) → i < result → (span_at spans.now i).past ≤ ord }
-    ensures open { (i : ℕ) → result ≤ i → i < length spans.now → ord < (span_at spans.now i).past }
+    ensures left { (i : ℕ) → result ≤ i → i < length spans.now → ord < (span_at spans.now i).past }
 {
     spans.partition_point(|span| span.past <= ord)
 }

@@ -1,0 +1,14 @@
+pub mod Tests
+pub mod HeldDates
+pub mod FirstTerms
+pub mod Edges
+pub mod BucketSpans
+pub mod RisingSpans
+pub mod SpansSoFar
+pub mod CountedOnce
+pub mod Selected
+pub mod BucketRows
+pub mod GapBuckets
+pub mod BesideGaps
+pub mod Reached
+pub mod EndedSpans
