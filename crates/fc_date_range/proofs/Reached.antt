@@ -78,6 +78,17 @@ module _ (spans : List Span) where
           ];
     }
 
+  -- before the first ordinal
+  pub none_reached : (least : ℕ) → AreReached spans (λ i. false) least 0
+  none_reached least = record { within = omega arith; behind = λ i h. refl; settled = λ i ord inside from e. absurd (omega arith) }
+
+  pub alike_reached : (t u : ℕ → Bool) (least reached : ℕ) → ((i : ℕ) → t i ≡ u i) → AreReached spans t least reached → AreReached spans u least reached
+  alike_reached t u least reached same r = record {
+    within = r.within;
+    behind = λ i h. sym (same i) ∙ r.behind i h;
+    settled = λ i ord inside from e. sym (same i) ∙ r.settled i ord inside from e;
+  }
+
   -- one ordinal more, which is none of the earlier ones
   module _ (seen : ℕ → Bool) (ord mid new : ℕ) (a : AreReached spans seen ord mid) (b : Reaches spans ord mid new) where
     pub counted_apart : (i : ℕ) → seen i ≡ true → (nat_le mid i && is_held spans ord i) ≡ false
