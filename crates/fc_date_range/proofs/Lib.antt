@@ -9,6 +9,7 @@ pub mod CountedOnce
 pub mod Selected
 pub mod BucketRows
 pub mod GapBuckets
+pub mod GapRows
 pub mod BesideGaps
 pub mod Reached
 pub mod EndedSpans

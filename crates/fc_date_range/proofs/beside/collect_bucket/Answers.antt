@@ -20,7 +20,7 @@ add_documents-requires-clause-add_up c = λ x there.
     let picked : bucket_places k key (places_on 0 blocks c.args.docs.now) ≡ places_on 0 blocks c.select_bucket.new.into = bucket_picked k key blocks c.args.docs.now ∙ ap (places_on 0 blocks) (sym c.select_bucket.ensures.set) in
     subst (λ (X : List Place). AddUp x (stats_over c.args.into.now.stats X)) picked (c.requires.add_up x there)
 
-pub returns : goal.returns-clause-collects
+pub returns : goal.returns
 returns c =
     let k = kind.date_range (date_range_view c.args.range.now) in
     let key = key_view c.args.key in
