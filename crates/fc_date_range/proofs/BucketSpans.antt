@@ -1,7 +1,7 @@
 -- The spans of buckets.
-use Rattle.std.proofs.Common.{◌≡◌, ◌<◌, ℕ, Bool, true, false, not, ◌&&◌, ◌||◌, List, [], length, get_or, nat_le, refl, sym, ap, ap₂, ◌∙◌, arith, inl, inr}
+use Rattle.std.proofs.Common.{◌≡◌, ◌<◌, ℕ, Bool, true, false, not, ◌&&◌, ◌||◌, List, [], length, get_or, nat_le, refl, sym, ap, ap₂, ◌∙◌, arith}
 use Rattle.std.specs.Prelude.{nat_lt}
-use Rattle.std.specs.Ordering.{is_le, is_lt}
+use Rattle.std.specs.Ordering.{is_le}
 use Rattle.fc_spec.specs.documents.Val.{Text, same_text, text_cmp}
 use Rattle.fc_spec.specs.requests.DateGaps.{date_gap_count, date_lies_in, high_date, in_date_gap, in_dates_after, in_dates_before, is_before, last_date, low_date}
 use Rattle.fc_spec.specs.requests.Request.{DateRange}
@@ -11,7 +11,7 @@ use Rattle.fc_domain.proofs.TextOrder.{le_both_ways, lt-not_le}
 use Rattle.fc_date_range.proofs.Edges.{ends_in_order}
 use Rattle.fc_date_range.proofs.FirstTerms.{from_below, from_up_to}
 use Rattle.fc_date_range.proofs.HeldDates.{lies_at, lies_both, same_turned}
-use Rattle.fc_date_range.proofs.Tests.{and_false, and_true, and_turned, before_is, below_is, below_not, from_is, not_not, past_is}
+use Rattle.fc_date_range.proofs.Tests.{and_true, and_turned, below_is, below_not, from_is, not_not}
 use Rattle.fc_date_range.specs.GapSpans.{IsGapSpan}
 use Rattle.fc_date_range.specs.HeldDates.{holds_high, holds_low, is_from, is_to}
 use Rattle.fc_date_range.specs.Spans.{IsBetween, IsFirst, IsSpanOf, in_span}

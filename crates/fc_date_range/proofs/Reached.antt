@@ -4,9 +4,8 @@ use Rattle.std.specs.Prelude.{nat_le, nat_lt}
 use Rattle.std.proofs.lemmas.Bool.{cases_lt, false≢true, or_left, or_right}
 use Rattle.std.proofs.lemmas.List.{get_or_past}
 use Rattle.fc_date_range.proofs.Tests.{and_false, before_is, below_is, from_is, is_below, is_from, past_is}
-use Rattle.fc_date_range.specs.GapSpans.{Rise, is_held, no_span, span_at}
+use Rattle.fc_date_range.specs.GapSpans.{is_held, no_span, span_at}
 use Rattle.fc_date_range.specs.Reached.{AreReached, Reaches}
-use Rattle.fc_date_range.specs.Spans.{in_span}
 use Rattle.fc_date_range.specs.declared.span.Span.{Span}
 
 split : (a b : Bool) → (a && b) ≡ true → (a ≡ true) × (b ≡ true)

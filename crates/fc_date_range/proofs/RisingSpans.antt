@@ -1,8 +1,8 @@
 -- The spans of gaps rise.
-use Rattle.std.proofs.Common.{◌≡◌, ◌+◌, ◌<◌, ◌≤◌, ℕ, Bool, true, not, List, length, ap, arith, inl, inr}
+use Rattle.std.proofs.Common.{◌≡◌, ◌+◌, ◌<◌, ◌≤◌, ℕ, not, List, length, ap, arith, inl, inr}
 use Rattle.std.proofs.lemmas.Bool.{cases_lt}
 use Rattle.fc_spec.specs.documents.Val.{Text}
-use Rattle.fc_spec.specs.requests.DateGaps.{date_gap_count, high_date, low_date}
+use Rattle.fc_spec.specs.requests.DateGaps.{high_date, low_date}
 use Rattle.fc_spec.specs.requests.Request.{DateRange}
 use Rattle.fc_facet.specs.RangeGaps.{HasFewEdges}
 use Rattle.fc_date_range.proofs.Edges.{edge_before}

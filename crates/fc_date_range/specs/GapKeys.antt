@@ -1,5 +1,5 @@
 -- The keys of the gaps of a range facet over dates.
-use Rattle.std.specs.Prelude.{◌^◌, ℤ, pos, ◌≤ℤ◌, ◌<ℤ◌, unsigned_abs, Bool, false, nat_lt}
+use Rattle.std.specs.Prelude.{ℤ, unsigned_abs, Bool, false, nat_lt}
 use Rattle.fc_spec.specs.requests.Buckets.{Key, gap}
 use Rattle.fc_spec.specs.requests.DateGaps.{date_gap_count}
 use Rattle.fc_spec.specs.requests.Request.{DateRange}

@@ -111,7 +111,13 @@ fn of_between(column: &TextColumn, range: &DateRange) -> Span
     if range.gaps() == 0 {
         return at(column, start, holds_start(range), holds_end(range));
     }
-    between(column, start, holds_start(range), end_of(range), holds_end(range))
+    between(
+        column,
+        start,
+        holds_start(range),
+        end_of(range),
+        holds_end(range),
+    )
 }
 
 fn of_after(column: &TextColumn, range: &DateRange) -> Span

@@ -1,4 +1,4 @@
-use Rattle.std.proofs.Common.{◌≤◌, ◌<◌, nat_le, rules, of_calls}
+use Rattle.std.proofs.Common.{nat_le, rules, of_calls}
 use Rattle.std.proofs.lemmas.Fn.{always_returns_same}
 use Rattle.std.proofs.lemmas.List.Sorted.{IsPartitionedBy-leb}
 use Rattle.fc_date_range.proofs.EndedSpans.{ended_from, left_from, past_in_order}

@@ -30,7 +30,7 @@ add_postings-requires-clause-add_up c =
     let holds = has_in_span column spans in
     let cells = held_stats blocks holds bound ss (positions docs) in
     let cell = cell_of_bucket (kind.date_range g) (is_gap_of g) blocks docs c.requires.length holds bound ss (record { stats = ss; cells = cells }) (held_counted blocks holds bound ss (positions docs)) gap_key
-        (gap_rows g c.requires.few column spans c.requires.spans blocks c.requires.column bound refl) in
+    (gap_rows g c.requires.few column spans c.requires.spans blocks c.requires.column bound refl) in
     λ i here some. subst (λ (s : Stats). ForSome (entry_at c.args.into.now.entries (gap i)) (λ there. AddUp there s)) (sym (cell i here)) (c.requires.add_up (gap i) (gap_there g bound i count here))
 
 pub returns : goal.returns

@@ -1,4 +1,4 @@
-use Rattle.std.proofs.Common.{◌≡◌, ◌+◌, ◌<◌, ◌++◌, ◌∷◌, [], ℕ, List, length, sym, subst, ◌∙◌, arith, length-append}
+use Rattle.std.proofs.Common.{◌≡◌, ◌+◌, ◌<◌, ◌++◌, ◌∷◌, [], ℕ, List, sym, subst, ◌∙◌, arith, length-append}
 use Rattle.fc_spec.specs.requests.DateGaps.{date_gap_count}
 use Rattle.fc_facet.specs.KindView.{date_range_view}
 use Rattle.fc_date_range.proofs.RisingSpans.{spans_rise}
