@@ -1,5 +1,5 @@
 // The documents in a bucket of a range facet over dates.
-ghost use Rattle.std.specs.Prelude.{◌≡◌, ◌<◌, ℕ, ◌&&◌, [], length, map, slice_index_or, All};
+ghost use Rattle.std.specs.Prelude.{◌≡◌, ◌<◌, ℕ, ◌&&◌, length, map, All};
 ghost use Rattle.std.specs.Bool.{IsTrue};
 ghost use Rattle.fc_spec.specs.documents.Sets.{zip_with};
 ghost use Rattle.fc_spec.specs.documents.Totals.{document_total};

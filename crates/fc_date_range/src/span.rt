@@ -1,7 +1,6 @@
 // Spans of the ordinals of a column.
-ghost use Rattle.std.specs.Prelude.{◌≡◌, ◌||◌, not, length};
+ghost use Rattle.std.specs.Prelude.{not};
 ghost use Rattle.fc_spec.specs.requests.DateGaps.{date_lies_in};
-ghost use Rattle.fc_column.specs.Terms.{terms_of};
 ghost use Rattle.fc_date_range.specs.HeldDates.{is_from, is_to};
 ghost use Rattle.fc_date_range.specs.Spans.{IsBetween, IsFirst, IsSpanOf};
 
@@ -15,7 +14,7 @@ pub(crate) struct Span {
     pub(crate) past: u32,
 }
 
-// The first ordinal behind a date, or of that date where it is held.
+/// The first ordinal behind a date, or of that date where it is held.
 pub(crate) fn first_from(column: &TextColumn, low: &Name, with_low: bool) -> u32
     ensures { IsFirst column.now (is_from low.now with_low) result }
 {
@@ -26,7 +25,7 @@ pub(crate) fn first_from(column: &TextColumn, low: &Name, with_low: bool) -> u32
     }
 }
 
-// The ordinal behind the last one before a date, or of that date where it is held.
+/// The ordinal behind the last one before a date, or of that date where it is held.
 pub(crate) fn first_behind(column: &TextColumn, high: &Name, with_high: bool) -> u32
     ensures { IsFirst column.now (λ t. not (is_to high.now with_high t)) result }
 {
