@@ -6,6 +6,7 @@ pub mod GatheredPlaces
 pub mod KeptBuckets
 pub mod KeptLengths
 pub mod ListedKeys
+pub mod ListedRanges
 pub mod NodesThere
 pub mod RebuiltScopes
 pub mod SegmentLimits

@@ -18,7 +18,7 @@ returns-in_ok-list-in-Range-clause-keys c =
     let es = c.args.tally.entries in
     let inner = inner_view c.args.node.now in
     keys_listed (kind_view (kind_of c.args.node.now)) inner es c.in_ok-list-in-Range.list.items c.requires.keys
-    (c.in_ok-list-in-Range.ensures.list ∙ ap (λ k. bare (listed_of (kind_view k) inner es)) (sym c.in-Range.is))
+    c.in_ok-list-in-Range.ensures.list
 
 pub returns-in_ok-list-in-Query-clause-keys : goal.returns-in_ok-list-in-Query-clause-keys
 returns-in_ok-list-in-Query-clause-keys c =
