@@ -3,6 +3,14 @@ end, written by hand from what `--help` says."""
 
 ONE = '{"schema":{"shards":1,"fields":{%s}}}'
 ADD = '{"add":{"shard":0,"doc":{%s}}}'
+# Texts that are no dates, each for another reason: the day, the time, the digits behind the point, the way it is written.
+NO_DATES = [
+    "2023-02-29T00:00:00Z", "1900-02-29T00:00:00Z", "2024-04-31T00:00:00Z", "2024-00-01T00:00:00Z", "2024-13-01T00:00:00Z",
+    "0000-01-01T00:00:00Z", "10000-01-01T00:00:00Z", "2024-01-01T24:00:00Z", "2024-01-01T00:60:00Z", "2024-01-01T23:59:60Z",
+    "2024-01-01T00:00:00.Z", "2024-01-01T00:00:00.1234567890Z", "2024-01-01T00:00:00", "2024-01-01T00:00Z", "2024-01-01",
+    "2024-01-01 00:00:00Z", "2024-01-01t00:00:00z", "2024-01-01T00:00:00+01:00", "2024-1-1T00:00:00Z", "٢٠٢٤-01-01T00:00:00Z",
+    " 2024-01-01T00:00:00Z", "2024-01-01T00:00:00Z ", "NOW", "1704067200", "2024.5",
+]
 
 CASES = [
     ("cells that are empty, or spell what is no integer of 64 bits as it is printed",
@@ -26,6 +34,35 @@ CASES = [
      "--type price=string --type size=strings --type count=plong --type later=plongs a.csv",
      [ONE % '"price":"string","size":"strings","count":"plong","later":"plongs"',
       ADD % '"id":"1","price":"2.50","size":"40","count":7', ADD % '"id":"2","price":"3","count":0']),
+    ("dates of all years and each number of digits, as they are written, and a cell that is empty",
+     {"a.csv": "id,at,end,one\n1,2024-02-29T09:15:00.5Z,0001-01-01T00:00:00Z,2000-02-29T23:59:59Z\n2,,9999-12-31T23:59:59.123456789Z,\n"
+               "3,2024-02-29T09:15:00.500Z,2024-12-31T00:00:00.0Z,\n"}, "a.csv",
+     [ONE % '"at":"pdate","end":"pdate","one":"pdate"',
+      ADD % '"id":"1","at":"2024-02-29T09:15:00.5Z","end":"0001-01-01T00:00:00Z","one":"2000-02-29T23:59:59Z"',
+      ADD % '"id":"2","end":"9999-12-31T23:59:59.123456789Z"',
+      ADD % '"id":"3","at":"2024-02-29T09:15:00.500Z","end":"2024-12-31T00:00:00.0Z"']),
+    ("several dates: cells that are split, and one date that is written twice",
+     {"a.csv": "id,seen\n1,2024-03-01T08:30:00Z;;2024-02-29T10:00:00Z\n2,2024-02-29T10:00:00Z\n",
+      "b.jsonl": '{"id":"3","at":["2024-02-29T10:00:00Z",null,"2024-02-29T10:00:00.000Z"]}\n'}, "--split 'seen=;' a.csv b.jsonl",
+     [ONE % '"seen":"pdates","at":"pdates"', ADD % '"id":"1","seen":["2024-03-01T08:30:00Z","2024-02-29T10:00:00Z"]',
+      ADD % '"id":"2","seen":"2024-02-29T10:00:00Z"', ADD % '"id":"3","at":["2024-02-29T10:00:00Z","2024-02-29T10:00:00.000Z"]']),
+    *((f"dates beside {other!r}, which is none",
+       {"a.csv": f"id,at,seen\n1,2024-02-29T09:00:00Z,2024-02-29T09:00:00Z;{other}\n2,{other},\n"}, "--split 'seen=;' a.csv",
+       [ONE % '"at":"string","seen":"strings"', ADD % f'"id":"1","at":"2024-02-29T09:00:00Z","seen":["2024-02-29T09:00:00Z","{other}"]',
+        ADD % f'"id":"2","at":"{other}"']) for other in NO_DATES),
+    ("dates beside numbers and an empty text of JSON lines",
+     {"a.jsonl": '{"id":"1","at":"2024-02-29T09:00:00Z","n":1704067200}\n{"id":"2","at":"","n":"2024-02-29T09:00:00Z"}\n'}, "a.jsonl",
+     [ONE % '"at":"string","n":"string"', ADD % '"id":"1","at":"2024-02-29T09:00:00Z","n":"1704067200"',
+      ADD % '"id":"2","at":"","n":"2024-02-29T09:00:00Z"']),
+    ("types of dates that are set, and dates that are set to be texts",
+     {"a.jsonl": '{"id":"1","at":"2024-02-29T09:00:00Z","seen":["2024-02-29T09:00:00Z","0001-01-01T00:00:00.000000001Z"],'
+                 '"text":"2024-02-29T09:00:00Z","texts":["2024-02-29T09:00:00Z"]}\n{"id":"2","at":[],"one":"2024-02-29T09:00:00Z"}\n'},
+     "--type at=pdate --type seen=pdates --type text=string --type texts=strings --type one=pdates --type later=pdate a.jsonl",
+     [ONE % '"at":"pdate","seen":"pdates","text":"string","texts":"strings","one":"pdates","later":"pdate"',
+      ADD % '"id":"1","at":"2024-02-29T09:00:00Z","seen":["2024-02-29T09:00:00Z","0001-01-01T00:00:00.000000001Z"],'
+            '"text":"2024-02-29T09:00:00Z","texts":"2024-02-29T09:00:00Z"', ADD % '"id":"2","one":"2024-02-29T09:00:00Z"']),
+    ("ids that are dates stay texts", {"a.csv": "day,at\n2024-02-29T09:00:00Z,2024-02-29T09:00:00Z\n"}, "--id day a.csv",
+     [ONE % '"at":"pdate"', ADD % '"id":"2024-02-29T09:00:00Z","at":"2024-02-29T09:00:00Z"']),
     ("JSON lines: arrays, nulls, a name that stands twice, numbers beside texts, blank lines",
      {"a.jsonl": '{"id":7,"tags":["a",null,2],"n":[5],"none":null,"empty":[]}\n \n'
                  '{"tags":"b","n":-3,"id":"8","tags":["c"],"_version_":1.5}\n{"id":"9","text":"12"}'}, "a.jsonl",

@@ -13,6 +13,7 @@ from calls import EXAMPLES, TOOLS, call, command, folder_of
 
 from script_of import limits
 from script_of.command import main
+from script_of.fields import TYPES
 
 SHOP, GUIDE = os.path.join(EXAMPLES, "shop"), os.path.join(os.path.dirname(EXAMPLES), "docs", "guide.md")
 sys.path.insert(0, SHOP)
@@ -56,6 +57,7 @@ def check(program):
     for words, told in wrong_files.WORDS:
         status, written, said = called({}, words)
         yield f"the words {words[:40]!r}", (2, "", True), (status, written, told in said)
+    yield from of_types()
     yield from of_limits()
 
 
@@ -103,6 +105,23 @@ def of_right_files(program, name, files, words, lines):
     status, replies = run(program, script)
     searches = sum(line.startswith('{"search"') for line in lines)
     yield f"{name}, read by the program", (0, searches), (status, replies.count("\n"))
+
+
+def of_types():
+    """The types are those of the guide's table, and `--help` names each; what is said of fields tells why a type is not another."""
+    with open(GUIDE, encoding="utf-8") as file:
+        table = file.read().split("| Type | Values of one document |\n", 1)[1].split("\n\n", 1)[0]
+    yield "the types of fields", tuple(re.findall(r"^\| `(\w+)` \|", table, re.M)), TYPES
+    status, written, _ = called({}, "--help")
+    yield "the types in the help", (0, True), (status, f"the type of a field: {', '.join(TYPES)}" in " ".join(written.split()))
+    date = "2024-02-29T09:00:00Z"
+    files = {"a.csv": f"id,at,seen,mixed,number,text\n{date},{date},{date},{date},{date},x\n2,,{date};{date},x,7,x\n3,,,y,x,{date}\n"}
+    told = "script-of: 3 documents on 1 shard: 3\nscript-of:   id      string\nscript-of:   at      pdate\n" \
+           "script-of:   seen    pdates (several values in a.csv, line 3)\n" \
+           "script-of:   mixed   string (a text that is no date in a.csv, line 3)\n" \
+           "script-of:   number  string (a text in a.csv, line 2)\n" \
+           "script-of:   text    string (a text that is no date in a.csv, line 2)\n"
+    yield "what is said of dates", told, called(files, "--split 'seen=;' a.csv")[2]
 
 
 def of_limits():

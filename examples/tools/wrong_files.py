@@ -1,6 +1,7 @@
 """Files and words that tools/script-of does not take: a name, the files, the words, and what it says of them."""
 
 DEEP = "[" * 128
+NO_DATE = "is no date of the form YYYY-MM-DDThh:mm:ssZ, as at is set to hold; --type at=string (or strings) keeps its text"
 
 
 def bad(name, content, told, words="", file="a.jsonl", status=65):
@@ -53,6 +54,15 @@ CASES = [
     table("an integer of more than 64 bits", "id,n\n1,9223372036854775808\n",
           "line 2, column 3: '9223372036854775808' is no integer of 64 bits, as n is set to hold", "--type n=plongs"),
     table("several values for one", "id,n\n1,2;3\n", "line 2, column 3: several values, and n is set to hold one", "--split 'n=;' --type n=plong"),
+    table("a day that is none of the calendar", "id,at\n1,2024-02-29T00:00:00Z\n2,2023-02-29T00:00:00Z\n",
+          f"line 3, column 3: '2023-02-29T00:00:00Z' {NO_DATE}", "--type at=pdate"),
+    table("ten digits behind the point of a date", "id,at\n1,2024-02-29T00:00:00.1234567890Z\n",
+          f"line 2, column 3: '2024-02-29T00:00:00.1234567890Z' {NO_DATE}", "--type at=pdates"),
+    table("a text in a field of dates", "id,at\n1," + "x" * 41 + "\n", f"line 2, column 3: '{'x' * 40}..' {NO_DATE}", "--type at=pdate"),
+    table("an integer in a field of dates", "id,at\n1,1704067200\n", f"line 2, column 3: '1704067200' {NO_DATE}", "--type at=pdate"),
+    table("a fraction in a field of dates", "id,at\n1,2024.5\n", f"line 2, column 3: '2024.5' {NO_DATE}", "--type at=pdate"),
+    table("several dates for one", "id,at\n1,2024-02-29T00:00:00Z;2024-02-29T00:00:00.000Z\n",
+          "line 2, column 3: several values, and at is set to hold one", "--split 'at=;' --type at=pdate"),
     table("a text of 32,767 bytes", "id,a\n1," + "é" * 16383 + "x\n",
           "line 2, column 3: a text of 32,767 bytes, and one has at most 32,766 (field a)"),
     table("a field to be renamed that is none", "id\n1\n", "no file has a field 'x', which was to be renamed", "--rename x=y"),
@@ -97,6 +107,10 @@ CASES = [
         "line 1, column 60: a child has children, and a script has no grandchildren"),
     bad("several values in a field that is set", '{"id":"1","a":["x","x"]}\n',
         "line 1, column 11: several values, and a is set to hold one", "--type a=string"),
+    bad("a number in a field of dates", '{"id":"1","at":["2024-02-29T00:00:00Z",1704067200]}\n',
+        f"line 1, column 40: '1704067200' {NO_DATE}", "--type at=pdates"),
+    bad("a truth value in a field of dates", '{"id":"1","at":true}\n', f"line 1, column 16: 'true' {NO_DATE}", "--type at=pdate"),
+    bad("an empty text in a field of dates", '{"id":"1","at":""}\n', f"line 1, column 16: '' {NO_DATE}", "--type at=pdate"),
     array("no array", '{"id":"1"}', "line 1, column 1: an array of documents is wanted, which begins with ["),
     array("an empty file", "", "line 1, column 1: an array of documents is wanted, which begins with ["),
     array("an array that ends", '[\n {"id":"1"},\n {"id":"2"}', "line 3, column 12: a comma or ] is wanted where the file ends"),
@@ -123,6 +137,7 @@ CASES = [
     ("no such file of requests", {"a.csv": "id\n1\n"}, "--requests none.json a.csv", "none.json: No such file or directory", 66),
 ]
 
+TYPES = "a type is one of string, strings, plong, plongs, pdate, pdates, and that of id is string"
 # Words that argparse refuses, with the last part of what it says.
 WORDS = [
     ("", "the following arguments are required: FILE"),
@@ -130,8 +145,10 @@ WORDS = [
     ("--shards ² a.csv", "argument --shards: '²' is no whole number from 1 to 64"),
     ("--by color a.csv", "argument --by: invalid choice: 'color' (choose from 'hash', 'turn')"),
     ("--type price a.csv", "argument --type: 'price' is not of the form NAME=VALUE"),
-    ("--type price=float a.csv", "argument --type: 'price=float': a type is one of string, strings, plong, plongs, and that of id is string"),
-    ("--type id=plong a.csv", "argument --type: 'id=plong': a type is one of string, strings, plong, plongs, and that of id is string"),
+    ("--type price=float a.csv", f"argument --type: 'price=float': {TYPES}"),
+    ("--type id=plong a.csv", f"argument --type: 'id=plong': {TYPES}"),
+    ("--type id=pdate a.csv", f"argument --type: 'id=pdate': {TYPES}"),
+    ("--type at=date a.csv", f"argument --type: 'at=date': {TYPES}"),
     ("--commit-every 0 a.csv", "argument --commit-every: '0' is no whole number from 1 to 1,048,576"),
     ("--session '' a.csv", "argument --session: a session's name is a text of 1 to 64 bytes"),
     (f"--session {'é' * 33} a.csv", "argument --session: a session's name is a text of 1 to 64 bytes"),

@@ -16,8 +16,10 @@ and a search for each request. Nothing is written where something is wrong."""
 FORMS = """A CSV file has the names of its fields in the first line; an empty cell is no value, and spaces belong to what they stand
 beside. A JSON field with an array, or with its name several times, has several values. A name that begins and ends with _, such
 as _version_, is passed over. A field whose values are integers of 64 bits, in a CSV file without zeros in front, is a plong, or
-plongs where a document has several; every other is a string, or strings. Exit statuses: 0; 2 for words that are not taken; 65 for
-a fault in a file; 66 where a file cannot be read; 73 where writing fails."""
+plongs where a document has several. One whose values are dates such as 2024-02-29T09:00:00Z, perhaps with a point and 1 to 9 digits
+before the Z, is a pdate, or pdates; the program keeps their milliseconds, and no digit behind. Every other is a string, or strings;
+id is a string. Exit statuses: 0; 2 for words that are not taken; 65 for a fault in a file; 66 where a file cannot be read; 73
+where writing fails."""
 
 
 def pair(text):
@@ -63,7 +65,7 @@ def words():
     parser.add_argument("--by", choices=("hash", "turn"), default="hash",
                         help="a document's shard: by a hash of its id (CRC-32, the default), or one shard after another")
     parser.add_argument("--type", type=field_type, action="append", default=[], metavar="FIELD=TYPE", dest="types",
-                        help="the type of a field: string, strings, plong, plongs")
+                        help=f"the type of a field: {', '.join(TYPES)}")
     parser.add_argument("--id", metavar="COLUMN", help="the name, in the files, of what holds the id")
     parser.add_argument("--rename", type=pair, action="append", default=[], metavar="OLD=NEW", dest="renames",
                         help="the field NEW stands under OLD in the files")

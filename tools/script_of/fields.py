@@ -2,26 +2,31 @@
 import re
 
 from . import limits
+from .dates import is_date
 from .documents import Spelled
 from .faults import Fault, Wrong
 from .json_text import Members, Number, integer
 
-TYPES = ("string", "strings", "plong", "plongs")
+TYPES = ("string", "strings", "plong", "plongs", "pdate", "pdates")
 
 
 class Field:
-    """What was seen of a field: how many values, how many of them numbers, and where the first text, the first fraction and
-    the first document with several values stood."""
+    """What was seen of a field: how many values, how many of them numbers and how many dates, and where the first text, the
+    first text that is no date, the first fraction and the first document with several values stood."""
 
     def __init__(self, set_type=None, is_given=False):
         # The type that it has, whatever its values, and whether it was given by whoever calls.
-        self.set_type, self.is_given, self.values, self.numbers = set_type, is_given, 0, 0
-        self.text, self.fraction, self.several = None, None, None
+        self.set_type, self.is_given, self.values, self.numbers, self.dates = set_type, is_given, 0, 0, 0
+        self.text, self.other, self.fraction, self.several = None, None, None, None
 
     def type(self):
         if self.set_type:
             return self.set_type
-        kind = "plong" if self.values and not self.text else "string"
+        kind = "string"
+        if self.values and not self.text:
+            kind = "plong"
+        elif self.values and self.dates == self.values:
+            kind = "pdate"
         return kind + "s" if self.several else kind
 
 
@@ -39,7 +44,7 @@ class Fields:
         field = self.fields.setdefault(name, Field())
         taken = [value_for(field, name, one_at, value, place) for one_at, value in values]
         if len(taken) > 1:
-            if field.set_type in ("string", "plong"):
+            if field.set_type in ("string", "plong", "pdate"):
                 raise Wrong(at, "a document has one id" if name == "id" else f"several values, and {name} is set to hold one")
             field.several = field.several or place(at)
         field.values += len(taken)
@@ -65,6 +70,8 @@ class Fields:
             told.append(f"several values in {at_line(field.several)}")
         if field.text and field.numbers:
             told.append(f"a text in {at_line(field.text)}")
+        elif field.other and field.dates:
+            told.append(f"a text that is no date in {at_line(field.other)}")
         return ", ".join(told)
 
 
@@ -87,11 +94,12 @@ def value_for(field, name, at, value, place):
         raise Wrong(at, f"an array in an array (field {name})")
     if field.set_type in ("plong", "plongs"):
         return integer_for(name, at, value)
+    if field.set_type in ("pdate", "pdates"):
+        return date_for(name, at, value)
     if isinstance(value, bool):
-        text = "true" if value else "false"
         if not field.is_given:
-            raise Wrong(at, f"{text} is neither a text nor a whole number; {keeps(name)}")
-        return text
+            raise Wrong(at, f"{spelled(value)} is neither a text nor a whole number; {keeps(name)}")
+        return spelled(value)
     if isinstance(value, int):
         field.numbers += 1
         return str(value) if field.set_type else value
@@ -109,17 +117,35 @@ def text_for(field, name, at, value, place):
         field.fraction = field.fraction or (place(at), str(value))
     else:
         field.text = field.text or place(at)
+        if not field.set_type and is_date(value):
+            field.dates += 1
+        else:
+            field.other = field.other or place(at)
     return str(value)
 
 
 def integer_for(name, at, value):
-    if isinstance(value, bool):
-        value = "true" if value else "false"
-    if isinstance(value, int):
+    if isinstance(value, int) and not isinstance(value, bool):
         return value
-    spelled = re.fullmatch("(-?)0*([0-9]+)", value)
-    number = integer(spelled[1] + spelled[2]) if spelled else None
+    text = spelled(value)
+    found = re.fullmatch("(-?)0*([0-9]+)", text)
+    number = integer(found[1] + found[2]) if found else None
     if number is None:
-        shown = value if len(value) <= 40 else value[:40] + ".."
-        raise Wrong(at, f"{shown!r} is no integer of 64 bits, as {name} is set to hold")
+        raise Wrong(at, f"{shown(text)} is no integer of 64 bits, as {name} is set to hold")
     return number
+
+
+def date_for(name, at, value):
+    text = spelled(value)
+    if not is_date(text):
+        raise Wrong(at, f"{shown(text)} is no date of the form YYYY-MM-DDThh:mm:ssZ, as {name} is set to hold; {keeps(name)}")
+    return text
+
+
+def spelled(value):
+    """The text of a text, a number or a truth value."""
+    return str(value).lower() if isinstance(value, bool) else str(value)
+
+
+def shown(text):
+    return repr(text if len(text) <= 40 else text[:40] + "..")
