@@ -24,6 +24,24 @@ NASTY = {
     "\u202eabc": "\\u202eabc", "\x00\x1b[2J\n": "\\u0000\\u001b[2J\\u000a", "שלום": "שלום", "\ud800": "\\ud800", "x" * 40000: "x" * 40000,
 }
 
+# Dates as the values of buckets, and whether they are those of a range: by equal steps of time, or by months.
+DATES = [
+    (["2024-02-29T23:00:00.000Z", "2024-03-01T00:00:00.000Z", "2024-03-01T01:00:00.000Z"], True),
+    (["2024-02-29T23:00:00.000Z", "2024-03-01T00:00:00.000Z", "2024-03-01T01:00:00.001Z"], False),
+    (["2024-03-01T01:00:00.000Z", "2024-03-01T00:00:00.000Z", "2024-02-29T23:00:00.000Z"], False),
+    (["2023-12-31T00:00:00.000Z", "2024-01-31T00:00:00.000Z", "2024-02-29T00:00:00.000Z", "2024-03-29T00:00:00.000Z"], True),
+    (["2024-01-29T00:00:00.000Z", "2024-02-29T00:00:00.000Z", "2024-03-31T00:00:00.000Z"], True),
+    (["2024-01-28T00:00:00.000Z", "2024-02-28T00:00:00.000Z", "2024-03-31T00:00:00.000Z"], False),
+    (["2024-01-01T00:00:00.000Z", "2024-02-01T00:00:00.000Z", "2024-03-01T09:00:00.000Z"], False),
+    (["2024-01-01T00:00:00.000Z", "2024-02-01T00:00:00.000Z", "2024-04-01T00:00:00.000Z"], False),
+    (["2024-02-29T00:00:00.000Z", "2025-02-28T00:00:00.000Z", "2026-02-28T00:00:00.000Z", "2028-02-28T00:00:00.000Z"], False),
+    (["2024-02-29T00:00:00.000Z", "2025-02-28T00:00:00.000Z", "2026-02-28T00:00:00.000Z", "2027-02-28T00:00:00.000Z"], True),
+    (["0001-01-01T00:00:00.000Z", "0002-01-01T00:00:00.000Z", "0003-01-01T00:00:00.000Z"], True),
+    (["2024-01-01T00:00:00Z", "2024-01-02T00:00:00Z", "2024-01-03T00:00:00Z"], False),
+    (["2023-02-28T00:00:00.000Z", "2023-02-29T00:00:00.000Z"], False), (["2024-01-01T00:00:00.000Z", 7], False),
+    (["2024-01-01T00:00:00.000Z"], False),
+]
+
 # A line, what is said of it behind its number.
 WRONG = [
     ("", "no JSON"), ("{", "no JSON"), ("7", "no JSON object"), ("[" * 100000, "no JSON"), ('{"facets":{"count":1}}', "session is missing"),
@@ -52,6 +70,7 @@ def check():
     yield from of_the_shop()
     yield from of_nasty_values()
     yield from of_many_buckets()
+    yield from of_dates()
     yield from of_wrong_lines()
 
 
@@ -195,6 +214,14 @@ def of_many_buckets():
         deep = {f"f{i}": {"buckets": [bucket(1, f"v{i}", **deep)]}}
     page = page_of([reply(**deep)])
     yield "eight facets in each other", ([], 7), (page.wrong, page.elements.count("details"))
+
+
+def of_dates():
+    for dates, is_range in DATES:
+        facet = {"buckets": [bucket(i, one) for i, one in enumerate(dates)]}
+        page = page_of([reply(dates=facet, other={**facet, "missing": bucket(1)})])
+        yield f"a page of the dates {dates}", ([], is_range), (page.wrong, page.elements.count("svg") == 1)
+        yield f"bars of the dates {dates}", len(dates) * is_range, page.elements.count("rect")
 
 
 def of_wrong_lines():

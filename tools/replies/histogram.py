@@ -6,7 +6,7 @@ HEIGHT = 100
 
 
 def histogram(buckets):
-    """The figure of some buckets, of which there is at least one, with numbers as values."""
+    """The figure of some buckets, of which there is at least one, with numbers or dates as values."""
     most = max(one.count for one in buckets)
     each = -(-len(buckets) // BARS)
     bars = [buckets[i:i + each] for i in range(0, len(buckets), each)]

@@ -1,6 +1,8 @@
 """What a line says: a reply, the fault of a request or the fault of the script, which the program writes, or what tools/book tells
 was sent for a search."""
+import datetime
 import json
+import re
 from collections import namedtuple
 
 Reply = namedtuple("Reply", "session generations bucket")
@@ -14,6 +16,7 @@ Bucket = namedtuple("Bucket", "value count statistics facets")
 # Beside the buckets stand, by their names: missing, before, after, between.
 Facet = namedtuple("Facet", "buckets beside")
 
+DATE = re.compile(r"\d{4}-\d\d-\d\dT\d\d:\d\d:\d\d\.\d{3}Z", re.ASCII)
 BESIDE = ("missing", "before", "between", "after")
 SENT_HEADS = ("round", "shards", "bytes", "most by one")
 
@@ -130,7 +133,35 @@ def facet(name, said):
 def is_range(facet):
     """Whether the buckets go up by equal steps, as those of a range facet. A reply does not say of which kind a facet is."""
     values = [one.value for one in facet.buckets]
-    if any(name == "missing" for name, _ in facet.beside) or not all(map(is_number, values)):
+    if any(name == "missing" for name, _ in facet.beside):
         return False
-    steps = {high - low for low, high in zip(values, values[1:])}
+    if all(map(is_number, values)):
+        return is_even(values)
+    moments = [moment(one) for one in values]
+    return None not in moments and (is_even([milliseconds(one) for one in moments]) or goes_by_months(moments))
+
+
+def is_even(numbers):
+    steps = {high - low for low, high in zip(numbers, numbers[1:])}
     return len(steps) == 1 and steps.pop() > 0
+
+
+def goes_by_months(moments):
+    """Whether moments are equally many months apart, of one time of day. The day is cut back at a month's end and stays so."""
+    days = [one.day for one in moments]
+    return (is_even([one.year * 12 + one.month for one in moments]) and len({one.time() for one in moments}) == 1
+            and days == sorted(days, reverse=True))
+
+
+def moment(value):
+    """The moment of a date's canonical text, or None."""
+    if not is_text(value) or not DATE.fullmatch(value):
+        return None
+    try:
+        return datetime.datetime.strptime(value, "%Y-%m-%dT%H:%M:%S.%fZ")
+    except ValueError:
+        return None
+
+
+def milliseconds(when):
+    return (when - datetime.datetime.min) // datetime.timedelta(milliseconds=1)
