@@ -12,7 +12,7 @@ use Rattle.fc_spec.specs.requests.DateGaps.{date_gap_count, high_date, is_before
 use Rattle.fc_spec.specs.requests.Request.{DateRange}
 use Rattle.fc_facet.specs.RangeGaps.{HasFewEdges}
 
-ascending : (ts : List Text) → IsStrictlySortedBy text_cmp ts → IsAscending text_cmp ts
+pub ascending : (ts : List Text) → IsStrictlySortedBy text_cmp ts → IsAscending text_cmp ts
 ascending [] sorted = λ i j d order inside. absurd (omega arith)
 ascending (t ∷ ts) sorted = AllPairs-cons (λ low high. text_cmp low high ≡ Less) t ts (All-after_first text_cmp t ts sorted) (ascending ts (sorted_tail text_cmp t ts sorted))
 

@@ -13,3 +13,7 @@ pub mod GapRows
 pub mod BesideGaps
 pub mod Reached
 pub mod EndedSpans
+pub mod NearDates
+pub mod ReachedDates
+pub mod DateSteps
+pub mod DateRows

@@ -60,15 +60,15 @@ fn is_end_after(range: &DateRange) -> bool
     range.outer || !holds_end(range)
 }
 
-// Whether a gap holds its low end.
-fn holds_low(range: &DateRange, number: u32) -> bool
+/// Whether a gap holds its low end.
+pub(crate) fn holds_low(range: &DateRange, number: u32) -> bool
     ensures { result ≡ holds_low (date_range_view range.now) number }
 {
     range.lower || (range.edge && number == 0)
 }
 
-// Whether a gap holds its high end.
-fn holds_high(range: &DateRange, number: u32) -> bool
+/// Whether a gap holds its high end.
+pub(crate) fn holds_high(range: &DateRange, number: u32) -> bool
     requires { HasFewEdges (date_range_view range.now) }
     ensures { result ≡ holds_high (date_range_view range.now) number }
 {

@@ -5,6 +5,7 @@ mod beside;
 mod buckets;
 mod choice;
 mod counting;
+mod dates;
 mod gaps;
 mod kind;
 mod numbers;
