@@ -1,6 +1,8 @@
 // The gaps of a range facet over dates, by the dates of each document: the edges of the range are not searched in the column.
 ghost use Rattle.std.specs.Prelude.{◌≡◌, [], ◌∷◌, length, map, OnOk, true};
 ghost use Rattle.std.specs.Option.{ForSome};
+ghost use Rattle.std.proofs.Props.{props};
+ghost use Rattle.std.proofs.lemmas.Map.Keys.{IsStrictlySortedBy-prop};
 ghost use Rattle.fc_spec.specs.documents.Columns.{column_of};
 ghost use Rattle.fc_spec.specs.documents.Sets.{places_on};
 ghost use Rattle.fc_spec.specs.documents.Totals.{document_total, documents_in};
@@ -37,7 +39,7 @@ use std::alloc::Global;
 struct GapDates<'a> {
     range: &'a DateRange,
     column: &'a TextColumn,
-    ghost few: { HasFewEdges (date_range_view range.now) },
+    ghost few: { HasFewEdges (date_range_view range.now) } by { Prim.hlevel (props, IsStrictlySortedBy-prop) },
 }
 
 impl Numbering for GapDates<'_> {
