@@ -20,7 +20,8 @@ ghost use Rattle.fc_kind.specs.Columns.{FitsColumns, HaveFields};
 ghost use Rattle.fc_date_range.specs.GapKeys.{is_gap_of};
 ghost use Rattle.fc_date_range.specs.GapSpans.{AreGapSpans};
 
-use crate::choice::is_cheap_by_postings;
+use crate::choice::{is_cheap_by_dates, is_cheap_by_postings};
+use crate::dates::collect_by_dates;
 use crate::numbers::GapSpans;
 use crate::spans::spans_of;
 use fc_base::{Stat, WantMemory};
@@ -120,6 +121,9 @@ pub(crate) fn collect_gaps(
     let Column::Text(column) = segment.column(range.field) else {
         unreachable!()
     };
+    if is_cheap_by_dates(range, docs) {
+        return collect_by_dates(alloc, segment, docs, range, column, stats, into);
+    }
     let spans = spans_of(alloc, column, range)?;
     let gaps = GapSpans {
         column,
