@@ -5,11 +5,10 @@ use Rattle.std.specs.List.Sorted.{IsStrictlyIncreasing}
 use Rattle.std.specs.Ordering.{is_lt}
 use Rattle.std.specs.Prelude.{nat_lt}
 use Rattle.std.proofs.lemmas.Bool.{false≢true, or_left, or_right}
-use Rattle.std.proofs.lemmas.List.{length-map}
 use Rattle.std.proofs.lemmas.List.Folds.{list_any_at}
 use Rattle.std.proofs.lemmas.List.Kept.{AllPairs-from_increasing}
 use Rattle.fc_spec.specs.documents.Columns.{column_of}
-use Rattle.fc_spec.specs.documents.Document.{Block, values_of}
+use Rattle.fc_spec.specs.documents.Document.{Block}
 use Rattle.fc_spec.specs.documents.Totals.{document_total, documents_in}
 use Rattle.fc_spec.specs.documents.Val.{Text, same_text, text}
 use Rattle.fc_spec.specs.requests.Buckets.{gap, in_bucket, in_date_range}

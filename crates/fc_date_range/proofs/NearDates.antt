@@ -1,6 +1,6 @@
 -- Which gaps are near a date, and how gaps lie beside each other.
-use Rattle.std.proofs.Common.{◌≡◌, ◌⊎◌, inl, inr, ℕ, ◌+◌, ◌-◌, ◌<◌, ◌≤◌, Bool, true, false, not, ◌&&◌, ◌||◌, length, get_or, refl, sym, ap, subst, ◌∙◌, arith}
-use Rattle.std.specs.Ordering.{is_le, is_lt}
+use Rattle.std.proofs.Common.{◌≡◌, ◌⊎◌, inl, inr, ℕ, ◌+◌, ◌<◌, ◌≤◌, Bool, true, false, not, ◌&&◌, ◌||◌, length, refl, sym, ap, ◌∙◌, arith}
+use Rattle.std.specs.Ordering.{is_le}
 use Rattle.std.proofs.lemmas.Bool.{cases_eq, cases_lt, false≢true}
 use Rattle.fc_spec.specs.documents.Val.{Text, same_text, text_cmp}
 use Rattle.fc_spec.specs.requests.DateGaps.{date_gap_count, date_lies_in, high_date, in_date_gap, is_before, low_date}

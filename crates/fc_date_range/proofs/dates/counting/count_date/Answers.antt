@@ -1,4 +1,4 @@
-use Rattle.std.proofs.Common.{◌≡◌, ◌≤◌, ◌∙◌, ◌&&◌, true, map, sym, arith, rules}
+use Rattle.std.proofs.Common.{◌≡◌, ◌≤◌, ◌&&◌, true, map, sym, arith, rules}
 use Rattle.std.specs.Prelude.{nat_le}
 use Rattle.fc_spec.specs.requests.DateGaps.{date_gap_count, in_date_gap}
 use Rattle.fc_facet.specs.KindView.{date_range_view}

@@ -1,4 +1,4 @@
-use Rattle.std.proofs.Common.{◌≡◌, ◌≤◌, true, false, List, [], length, get_or, subst, sym, ap, ◌∙◌, arith, rules, of_calls}
+use Rattle.std.proofs.Common.{◌≡◌, ◌≤◌, true, false, List, [], length, get_or, subst, sym, ap, arith, rules, of_calls}
 use Rattle.std.specs.Ordering.{is_lt}
 use Rattle.std.proofs.lemmas.Fn.{always_returns_same}
 use Rattle.fc_spec.specs.documents.Columns.{IsAscending}
