@@ -153,8 +153,8 @@ impl LongColumn {
         }
     }
 
-    /// The positions with an integer from `lo` to `hi`, both included, in the order of their integers:
-    /// each once for each such integer.
+    /// The positions with an integer from `lo` to `hi`, both included, in any order: each once for each
+    /// such integer.
     pub fn positions_between(&self, lo: i64, hi: i64) -> &[u32]
         ensures positions { (at : ℕ) → count_by (λ position. position == at) result.now
             ≡ count_by (is_between lo hi) (slice_index_or self.now at []) }

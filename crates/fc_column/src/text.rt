@@ -158,8 +158,8 @@ impl TextColumn {
         mark(self.positions_between(lo, hi), into);
     }
 
-    /// The positions with an ordinal from `first` up to but not including `past`, ordinal after ordinal, those of each ordinal
-    /// in ascending order.
+    /// The positions with an ordinal from `first` up to but not including `past`, in any order; each once
+    /// where no position has more than one text.
     pub fn positions_between(&self, first: u32, past: u32) -> &[u32]
         ensures positions { (at : ℕ) → is_among at result.now
             ≡ has_from_to first past (ordinals_in self.now (slice_index_or self.now at [])) }
