@@ -38,7 +38,7 @@ pub fn covers(kinds: &[Box<dyn FacetKind>]) -> bool
         && has(kinds, KindName::DateRange)
 }
 
-/// The first of them that has the name.
+/// A kind that has the name.
 pub fn the_kind(kinds: &[Box<dyn FacetKind>], wanted: KindName) -> &Box<dyn FacetKind>
     requires { Covers (map name kinds.now) }
     ensures { name result.now ≡ wanted }
