@@ -4,7 +4,6 @@ use Rattle.fc_spec.specs.documents.Operations.{blocks_added}
 use Rattle.fc_spec.specs.documents.Totals.{document_total}
 use Rattle.fc_docs.specs.View.{op_view}
 use Rattle.fc_segment.specs.Begun.{begun}
-use Rattle.fc_segment.specs.Parents.{parents_in}
 use Rattle.fc_segment.proofs.AddedBatches.{none_begun, whole_begun}
 use Rattle.fc_segment.proofs.parents.parents_of.Goals as goal
 
