@@ -1,6 +1,6 @@
--- Range facets, over integers or over dates: they have buckets, which can be counted, are there, and carry the shards around them.
-use Rattle.std.proofs.Common.{◌≡◌, ◌<◌, ◌⊎◌, ℕ, List, true, None, inl, inr, refl, subst, sym}
-use Rattle.fc_spec.specs.requests.Buckets.{Key, gap, before, between, after}
+-- Range facets, over integers or over dates: the buckets beside their gaps have no `val`, and carry the shards around them.
+use Rattle.std.proofs.Common.{◌≡◌, ◌⊎◌, ℕ, List, None, inl, inr, refl, subst, sym}
+use Rattle.fc_spec.specs.requests.Buckets.{Key, before, between, after}
 use Rattle.fc_spec.specs.requests.Request.{Kind, terms, range, date_range, query, Nodes}
 use Rattle.fc_spec.specs.replies.Distributed.{carried, printed_keys}
 use Rattle.fc_spec.specs.replies.Reading.{Reading}
@@ -9,39 +9,13 @@ use Rattle.fc_facet.specs.declared.kind.DateRange.{DateRange}
 use Rattle.fc_facet.specs.declared.kind.Kind.{Kind as CodeKind}
 use Rattle.fc_facet.specs.declared.kind.Kind.TheVariants as k
 use Rattle.fc_facet.specs.declared.kind.Range.{Range}
-use Rattle.fc_refine.specs.CountableRanges.{IsCountable, IsThere}
-use Rattle.fc_request.specs.FacetNode.{has_buckets, kind_view}
-use Rattle.fc_request.specs.Ranged.{IsRange, gaps_of, keys_of_range}
+use Rattle.fc_refine.specs.CountableRanges.{IsCountable}
+use Rattle.fc_request.specs.FacetNode.{kind_view}
+use Rattle.fc_request.specs.Ranged.{IsRange, keys_of_range}
 
 pub is_range : (kind : CodeKind) → ((g : Range) × kind ≡ k.Range g) ⊎ ((g : DateRange) × kind ≡ k.DateRange g) → IsCountable (kind_view kind) → IsRange (kind_view kind)
 is_range kind (inl (g, e)) countable = subst (λ kind. IsRange (kind_view kind)) (sym e) (subst (λ kind. IsCountable (kind_view kind)) e countable)
 is_range kind (inr (g, e)) countable = subst (λ kind. IsRange (kind_view kind)) (sym e) (subst (λ kind. IsCountable (kind_view kind)) e countable)
-
-pub range_has_buckets : (kind : CodeKind) → IsRange (kind_view kind) → has_buckets kind ≡ true
-range_has_buckets (k.Terms t) is = refl
-range_has_buckets (k.Range g) is = refl
-range_has_buckets (k.Query q) is = refl
-range_has_buckets (k.DateRange g) is = refl
-range_has_buckets (k.Stat s) is = absurd is
-
-pub range_is_countable : (kind : Kind) → IsRange kind → IsCountable kind
-range_is_countable (terms t) is = tt
-range_is_countable (range g) is = is
-range_is_countable (query q) is = tt
-range_is_countable (date_range g) is = is
-
-pub gap_is_there : (kind : Kind) → IsRange kind → (i : ℕ) → i < gaps_of kind → IsThere kind (gap i)
-gap_is_there (terms t) is i below = tt
-gap_is_there (range g) is i below = below
-gap_is_there (query q) is i below = tt
-gap_is_there (date_range g) is i below = below
-
--- the buckets beside the gaps are there, and have no `val`
-pub beside_are_there : (kind : Kind) → IsRange kind → IsThere kind before × IsThere kind between × IsThere kind after
-beside_are_there (terms t) is = absurd is
-beside_are_there (range g) is = (tt, tt, tt)
-beside_are_there (query q) is = absurd is
-beside_are_there (date_range g) is = (tt, tt, tt)
 
 pub beside_have_no_val : (kind : Kind) → IsRange kind → (val_of kind before ≡ None) × (val_of kind between ≡ None) × (val_of kind after ≡ None)
 beside_have_no_val (terms t) is = absurd is
