@@ -33,3 +33,4 @@ pub mod NestedExclusion
 pub mod TwoExclusions
 pub mod FilterAround
 pub mod StepInside
+pub mod ShownNumbers

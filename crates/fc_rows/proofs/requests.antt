@@ -12,3 +12,4 @@ pub mod RequestWords
 pub mod SortTexts
 pub mod StatisticTexts
 pub mod WorkedRequests
+pub mod ReadNumbers

@@ -14,3 +14,5 @@ pub mod RenumberedReply
 pub mod SingleIndex
 pub mod DistinctKeys
 pub mod TopValues
+pub mod CountedValues
+pub mod FoldedReply

@@ -25,3 +25,4 @@ pub mod ReplacedLaw
 pub mod TopsLaw
 pub mod CertificateLaw
 pub mod TopRoundsLaw
+pub mod FoldedNumbers

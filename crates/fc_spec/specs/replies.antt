@@ -10,3 +10,5 @@ pub mod Replied
 pub mod Tops
 pub mod Restored
 pub mod Json
+pub mod Folded
+pub mod Numbers

@@ -18,5 +18,6 @@ pub mod DomainReading
 pub mod SortReading
 pub mod FacetReading
 pub mod DateRangeReading
+pub mod Spread
 pub mod RequestReading
 pub mod ValidRequests

@@ -31,6 +31,7 @@ ghost use Rattle.fc_spec.specs.laws.Blockwise.{
 };
 ghost use Rattle.fc_spec.specs.laws.CertificateLaw.{CertifiedAreEnough, RanksAreReached, SharesAreEnough, TopsAreListed, TopsLookAtCounts};
 ghost use Rattle.fc_spec.specs.laws.CombiningLaw.{CombinesLists, CombinesParts};
+ghost use Rattle.fc_spec.specs.laws.FoldedNumbers.{FoldsIntoNumbers, FoldsSingleIndex};
 ghost use Rattle.fc_spec.specs.scripts.JsonValues.{TextsAreJson};
 ghost use Rattle.fc_spec.specs.laws.LacksLaws.{
   FirstTellOnce,
@@ -113,6 +114,13 @@ pub fn without_limits()
     ensures same_world { IsExactWithoutLimits }
     ensures any_shards { IsExactOverSingle }
     ensures single_index { IsSingleWithoutLimits }
+{}
+
+/// The numbers of values and of buckets that the folded reply prints are those over the places of each bucket. Without
+/// limits it is that of a single index.
+pub fn folds_into_numbers()
+    ensures numbers { FoldsIntoNumbers }
+    ensures single_index { FoldsSingleIndex }
 {}
 
 /// Under facets that refine or have no limit, printed buckets are exact over all shards.

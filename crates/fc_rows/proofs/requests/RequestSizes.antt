@@ -10,7 +10,7 @@ use Rattle.fc_spec.specs.requests.ValidRequests.{node_depth}
 use Rattle.fc_rows.proofs.requests.RequestWords.{request_in, FailsAt, walked}
 
 -- so many statistics, whose names are numbers; a comma behind each
-abbrev statistics : ℕ → Text
+abbrev pub statistics : ℕ → Text
 statistics n = flat_map (λ k. codes "'" ++ decimal_text (pos (k + 10)) ++ codes "':'missing(id)',") (numbers_below n)
 
 abbrev queried : Text → Text
@@ -21,7 +21,7 @@ abbrev nested : ℕ → Text → Text
 nested zero inner = inner
 nested (suc n) inner = codes "'a':" ++ queried (nested n inner)
 
-abbrev asking : Text → Text
+abbrev pub asking : Text → Text
 asking members = codes "{'facet':{" ++ members ++ codes "}}"
 
 abbrev node_count : Nodes → ℕ
@@ -37,7 +37,7 @@ abbrev size_in : Option (Result Request RequestFault) → Option (Result (ℕ ×
 size_in o = option_map size o
 
 -- the request of these members is read, with so many nodes, and so many of them around each other
-abbrev HasSize : Text → (nodes depth : ℕ) → Type 0
+abbrev pub HasSize : Text → (nodes depth : ℕ) → Type 0
 HasSize t nodes depth = size_in (request_in (asking t)) ≡ Some (Ok (nodes, depth))
 
 -- ---- 64 nodes beside each other, and 65

@@ -254,5 +254,5 @@ range_part_valid s ms numbers =
   where
     at : (field : ℕ) → field < length s.fields → (b : Bool) → has_type s holds_dates field ≡ b
         → IfOk (if b then (date_range_parts field ms >>= λ g. Ok (date_range g)) else (range_parts s ms >>= λ g. Ok (range g))) (IsKindAnywhere s)
-    at field h true e = going_on (IsKindAnywhere s) (IsValidDateRange s) (date_range_parts field ms) _ (date_range_valid s field ms h e) (λ g k. (λ inner. k, refl))
-    at field h false e = going_on (IsKindAnywhere s) (IsValidRange s) (range_parts s ms) _ (range_valid s ms numbers) (λ g k. (λ inner. k, refl))
+    at field h true e = going_on (IsKindAnywhere s) (IsValidDateRange s) (date_range_parts field ms) _ (date_range_valid s field ms h e) (λ g k. ((λ inner. k), refl, refl))
+    at field h false e = going_on (IsKindAnywhere s) (IsValidRange s) (range_parts s ms) _ (range_valid s ms numbers) (λ g k. ((λ inner. k), refl, refl))

@@ -10,7 +10,8 @@ use Rattle.serde_json.specs.Find.{get_member, as_i64}
 use Rattle.fc_spec.specs.documents.Val.{Text}
 use Rattle.fc_spec.specs.documents.Schema.{Schema, field_named, holds_texts}
 use Rattle.fc_spec.specs.documents.IntegerTexts.{is_long}
-use Rattle.fc_spec.specs.requests.Request.{Terms, Sort, Nodes, no_nodes, Kind}
+use Rattle.fc_spec.specs.requests.Request.{its_buckets, Terms, Sort, Nodes, no_nodes, Kind}
+use Rattle.fc_spec.specs.requests.Spread.{show_of}
 use Rattle.fc_spec.specs.requests.RequestFault.{unknown_field, bad_parameter, wrong_field_type, too_large, missing_parameter}
 use Rattle.fc_spec.specs.requests.RequestWalk.{required, optional, integer_in, whole_in, truth_in, text_in}
 use Rattle.fc_spec.specs.requests.Gaps.{gap_count, last_end}
@@ -95,11 +96,15 @@ exactly_refined not_refined h = absurd cc
 exactly_refined by_offers h = refl
 exactly_refined exactly h = refl
 
--- valid by itself, as its sort stands
-pub parts_valid : (s : Schema) (ms : Members) → IfOk (terms_parts s ms) (IsValidTerms s no_nodes)
+-- valid by itself, as its sort stands, and its buckets are printed
+pub record IsPlainTerms (s : Schema) (t : Terms) : Type 0 where
+  pub valid : IsValidTerms s no_nodes t
+  pub shown : t.show ≡ its_buckets
+
+pub parts_valid : (s : Schema) (ms : Members) → IfOk (terms_parts s ms) (IsPlainTerms s)
 unfolding IsPrefix
 parts_valid s ms =
-    let P = IsValidTerms s no_nodes in
+    let P = IsPlainTerms s in
     going_on P (λ n. n < length s.fields) (required (codes "field") (field_in s) ms) _ (needed (λ n. n < length s.fields) (codes "field") (field_in s) ms (field_in_valid s))
     (λ field h. going_on P (IsWithin (pos 0) (pos 1_000_000)) (optional (codes "offset") (up_to_a_million (pos 0)) (pos 0) ms) _ (up_to (pos 0) (pos 0) (codes "offset") ms refl)
     (λ offset o. going_on P (IsWithin (negsuc 0) (pos 1_000_000)) (optional (codes "limit") (up_to_a_million (negsuc 0)) (pos 10) ms) _ (up_to (negsuc 0) (pos 10) (codes "limit") ms refl)
@@ -111,17 +116,20 @@ parts_valid s ms =
     (λ overrequest a. going_on P (IsWithin (negsuc 0) (pos 1_000_000)) (optional (codes "overrefine") (up_to_a_million (negsuc 0)) (negsuc 0) ms) _ (up_to (negsuc 0) (negsuc 0) (codes "overrefine") ms refl)
     (λ overrefine b. whatever P (optional (codes "method") text_in [] ms) _
     (λ method. record {
-      field = h;
-      offset = from_zero offset o;
-      limit = limit_few limit l;
-      sort = tt;
-      mincount = (from_one mincount m).0;
-      few = (from_one mincount m).1;
-      prefix = p;
-      overrequest = over_few (limit_from limit) overrequest (limit_few limit l) a;
-      overrefine = over_few (limit_from limit) overrefine (limit_few limit l) b;
-      unlimited = λ e. (no_over (limit_from limit) overrequest e, no_over (limit_from limit) overrefine e);
-      exact = λ e. (exactly_refined refine e, refl);
+      shown = refl;
+      valid = record {
+        field = h;
+        offset = from_zero offset o;
+        limit = limit_few limit l;
+        sort = tt;
+        mincount = (from_one mincount m).0;
+        few = (from_one mincount m).1;
+        prefix = p;
+        overrequest = over_few (limit_from limit) overrequest (limit_few limit l) a;
+        overrefine = over_few (limit_from limit) overrefine (limit_few limit l) b;
+        unlimited = λ e. (no_over (limit_from limit) overrequest e, no_over (limit_from limit) overrefine e);
+        exact = λ e. (exactly_refined refine e, refl);
+      };
     }))))))))))
 
 -- and with a sort by what stands under it
@@ -204,9 +212,9 @@ range_valid s ms numbers =
 
 -- ---- queries
 
--- it is valid whatever stands inside it, and is not refined exactly
+-- it is valid whatever stands inside it, is not refined exactly, and shows its buckets
 abbrev pub IsKindAnywhere : Schema → Kind → Type 0
-IsKindAnywhere s kind = ((inner : Nodes) → IsValidKind s inner kind) × (says_exact kind ≡ false)
+IsKindAnywhere s kind = ((inner : Nodes) → IsValidKind s inner kind) × (says_exact kind ≡ false) × (show_of kind ≡ its_buckets)
 
 pub query_part_valid : (s : Schema) (ms : Members) → IfOk (query_part s ms) (IsKindAnywhere s)
-query_part_valid s ms = going_on (IsKindAnywhere s) (IsValidQuery s) (required (codes "q") (text_query s) ms) _ (needed (IsValidQuery s) (codes "q") (text_query s) ms (text_query_valid s)) (λ q h. (λ inner. h, refl))
+query_part_valid s ms = going_on (IsKindAnywhere s) (IsValidQuery s) (required (codes "q") (text_query s) ms) _ (needed (IsValidQuery s) (codes "q") (text_query s) ms (text_query_valid s)) (λ q h. ((λ inner. h), refl, refl))

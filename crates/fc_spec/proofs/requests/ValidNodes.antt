@@ -8,11 +8,12 @@ use Rattle.std.proofs.lemmas.Bool.{and_parts}
 use Rattle.fc_spec.specs.documents.Schema.{Schema}
 use Rattle.fc_spec.specs.documents.Val.{Text, text_cmp}
 use Rattle.fc_spec.specs.documents.World.{World, Place, on_shards}
-use Rattle.fc_spec.specs.requests.Request.{Kind, terms, range, date_range, query, Facet, Nodes, no_nodes, statistic, facet, Request, stats_of}
+use Rattle.fc_spec.specs.requests.Request.{Show, its_buckets, its_number, number_beside, Kind, terms, range, date_range, query, Facet, Nodes, no_nodes, statistic, facet, Request, stats_of}
 use Rattle.fc_spec.specs.requests.Buckets.{Key, whole, bucket_places}
 use Rattle.fc_spec.specs.requests.Paths.{Path, at_root, into}
 use Rattle.fc_spec.specs.requests.Statistics.{Stats, stats_over}
-use Rattle.fc_spec.specs.requests.ValidRequests.{IsValidKind, AreValidNodes, node_depth, node_names}
+use Rattle.fc_spec.specs.requests.ValidRequests.{IsValidKind, AreValidNodes, node_depth, with_name, node_names}
+use Rattle.fc_spec.specs.requests.Spread.{show_of}
 use Rattle.fc_spec.specs.requests.Shape.{has_limit, is_exact}
 use Rattle.fc_spec.specs.messages.Lacks.{own_depth, terms_depth}
 use Rattle.fc_spec.specs.messages.Message.{Partials, no_partials, Rows, Way, Want, way_of, Ask, first, more}
@@ -150,13 +151,23 @@ valid_sort_exact_by_count s r h = sorted_by_count s true r.nodes h.nodes
 no_statistic : (name : Text) (nodes : Nodes) → AllByRecursion (λ n. text_cmp name n ≡ Less) (node_names nodes) → has_statistic name nodes ≡ false
 no_statistic name no_nodes h = refl
 no_statistic name (statistic other s rest) h = ap (λ o. is_eq o || has_statistic name rest) h.0 ∙ no_statistic name rest h.1
-no_statistic name (facet f inner rest) h = no_statistic name rest h.1
+no_statistic name (facet f inner rest) h = no_statistic name rest (behind (show_of f.kind) h)
+  where
+    behind : (w : Show) → AllByRecursion (λ n. text_cmp name n ≡ Less) (with_name w f.name (node_names rest)) → AllByRecursion (λ n. text_cmp name n ≡ Less) (node_names rest)
+    behind its_buckets h = h.1
+    behind its_number h = h.1
+    behind number_beside h = h
 
 named_apart : (nodes : Nodes) → IsStrictlySortedBy text_cmp (node_names nodes) → AreNamedApart nodes
 unfolding IsStrictlySortedBy
 named_apart no_nodes h = tt
 named_apart (statistic name s rest) h = (no_statistic name rest h.0, named_apart rest h.1)
-named_apart (facet f inner rest) h = named_apart rest h.1
+named_apart (facet f inner rest) h = named_apart rest (behind (show_of f.kind) h)
+  where
+    behind : (w : Show) → IsStrictlySortedBy text_cmp (with_name w f.name (node_names rest)) → IsStrictlySortedBy text_cmp (node_names rest)
+    behind its_buckets h = h.1
+    behind its_number h = h.1
+    behind number_beside h = h
 
 pub valid_are_named_apart : ValidAreNamedApart
 valid_are_named_apart s r h = named_apart r.nodes (h.names).0

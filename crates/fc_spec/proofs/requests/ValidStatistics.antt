@@ -10,8 +10,7 @@ use Rattle.fc_spec.specs.documents.Schema as schema
 use Rattle.fc_spec.specs.requests.Request.{Sort, by_count, by_index, by_statistic, Nodes, no_nodes, statistic, facet, stats_of}
 use Rattle.fc_spec.specs.requests.RequestFault.{unknown_field, bad_statistic, wrong_field_type, unknown_sort}
 use Rattle.fc_spec.specs.requests.ValidRequests.{NamesStatistic, IsValidStatistic}
-use Rattle.fc_spec.specs.queries.FilterReading.{cut_at}
-use Rattle.fc_spec.specs.requests.StatisticReading.{statistic_of, statistic_named, stripped, is_space, takes_texts, has_type}
+use Rattle.fc_spec.specs.requests.StatisticReading.{called, statistic_of, statistic_named, takes_texts, has_type}
 use Rattle.fc_spec.specs.requests.SortReading.{named_sort, statistic_number, sort_key, sort_of, default_sort, sort_in}
 use Rattle.fc_spec.specs.words.Walks.{unless}
 use Rattle.fc_spec.proofs.words.Present.{either, mapped, weaker}
@@ -31,11 +30,11 @@ field_there s name = at (field_named s name) refl
 pub statistic_valid : (s : Schema) (t : Text) → IfOk (statistic_of s t) (IsValidStatistic s)
 statistic_valid s t =
     let P = IsValidStatistic s in
-    whatever P (ok_or (cut_at 40 t) bad_statistic) _ (λ opened. whatever P (ok_or (cut_at 41 opened.1) bad_statistic) _ (λ closed. whatever P (unless _ bad_statistic) _
-    (λ u. whatever P (ok_or (statistic_named (stripped is_space opened.0)) bad_statistic) _
-    (λ kind. going_on P (λ n. n < length s.fields) (ok_or (field_named s (stripped is_space closed.0)) unknown_field) _ (there (λ n. n < length s.fields) (field_named s (stripped is_space closed.0)) unknown_field (field_there s (stripped is_space closed.0)))
+    whatever P (ok_or (called t) bad_statistic) _
+    (λ call. whatever P (ok_or (statistic_named call.0) bad_statistic) _
+    (λ kind. going_on P (λ n. n < length s.fields) (ok_or (field_named s call.1) unknown_field) _ (there (λ n. n < length s.fields) (field_named s call.1) unknown_field (field_there s call.1))
     (λ field h. going_on P (λ w. (takes_texts kind || has_type s (λ k. not (holds_texts k)) field) ≡ true) (unless (takes_texts kind || has_type s (λ k. not (holds_texts k)) field) wrong_field_type) _ (passed (takes_texts kind || has_type s (λ k. not (holds_texts k)) field) wrong_field_type)
-    (λ w e. record { field = h; of_integers = λ n. or_right (takes_texts kind) (has_type s (λ k. not (holds_texts k)) field) e n }))))))
+    (λ w e. record { field = h; of_integers = λ n. or_right (takes_texts kind) (has_type s (λ k. not (holds_texts k)) field) e n }))))
 
 -- ---- sorts
 

@@ -6,6 +6,7 @@ use Rattle.fc_spec.specs.documents.Schema.{Schema}
 use Rattle.fc_spec.specs.documents.World.{World}
 use Rattle.fc_spec.specs.requests.Request.{Request}
 use Rattle.fc_spec.specs.queries.ValidQueries.{IsValidQuery}
+use Rattle.fc_spec.specs.requests.Spread.{IsSpread}
 use Rattle.fc_spec.specs.requests.ValidRequests.{IsSearchable, IsValidFilter, AreValidNodes, node_depth, IsValidRequest}
 use Rattle.fc_spec.specs.scripts.JsonValues.{HasNumbers, HasAscendingKeys}
 use Rattle.fc_spec.specs.scripts.Script.{Line, add, delete, commit, sync, asks, Script}
@@ -23,9 +24,9 @@ use Rattle.fc_spec.specs.laws.TopRoundsLaw.{SortExactByCount}
 use Rattle.fc_spec.specs.replies.Tops.{only_exact}
 use Rattle.fc_spec.specs.messages.TopRounds.{ExactAsk, exact_answer}
 
--- for data whose numbers are those of JSON, the query, the filters and each node of the request that is read are valid, only outermost facets are refined exactly, and nodes nest at most eight deep
+-- for data whose numbers are those of JSON, the query, the filters and each node of the request that is read are valid, only outermost facets are refined exactly, nodes nest at most eight deep, and what shows a number stands where that is asked for
 abbrev pub ReadAreValid : Type 0
-ReadAreValid = (s : Schema) (d : Data) (r : Request) → HasNumbers d → request_of s d ≡ Ok r → IsValidQuery s r.query × All (IsValidFilter s) r.filters × AreValidNodes s true r.nodes × IsTrue (outermost_exact r.nodes) × (node_depth r.nodes ≤ 8)
+ReadAreValid = (s : Schema) (d : Data) (r : Request) → HasNumbers d → request_of s d ≡ Ok r → IsValidQuery s r.query × All (IsValidFilter s) r.filters × AreValidNodes s true r.nodes × IsTrue (outermost_exact r.nodes) × (node_depth r.nodes ≤ 8) × IsSpread r
 
 -- where the keys of each object ascend too, the request is valid
 abbrev pub ReadAreValidWhole : Type 0

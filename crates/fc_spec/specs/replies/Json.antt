@@ -3,7 +3,7 @@ use Rattle.std.specs.Prelude.{ℕ, ℤ, pos, negsuc, Option, None, Some, codes}
 use Rattle.serde_json.specs.Data.{Data, unsigned, negative, number as json_number, string, array, object, Items, no_items, item, Members, no_members, put}
 use Rattle.serde_json.specs.Written.{compact_text}
 use Rattle.fc_spec.specs.documents.Val.{Text, Val, text, long}
-use Rattle.fc_spec.specs.replies.Reply.{Spot, listed, as_missing, as_before, as_between, as_after, Bucket, bucket, Facets, no_facets, number, one, many, Row, no_parts, part}
+use Rattle.fc_spec.specs.replies.Reply.{Spot, listed, as_missing, as_before, as_between, as_after, Bucket, bucket, Facets, no_facets, number, one, many, counted, Row, no_parts, part}
 
 -- a number that is not negative, and an integer
 abbrev pub natural_data : ℕ → Data
@@ -46,6 +46,8 @@ abbrev mutual
   put_facets (number name n more) ms = put_facets more (put name (integer_data n) ms)
   put_facets (one name b more) ms = put_facets more (put name (bucket_data b) ms)
   put_facets (many name row more) ms = put_facets more (put name (object (put_row row (put (codes "buckets") (array (listed_items row)) no_members))) ms)
+  put_facets (counted name n row more) ms =
+      put_facets more (put name (object (put_row row (put (codes "numBuckets") (natural_data n) (put (codes "buckets") (array (listed_items row)) no_members)))) ms)
 
   -- the buckets of the list, in their order
   pub listed_items : Row → Items

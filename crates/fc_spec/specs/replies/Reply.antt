@@ -14,7 +14,7 @@ pub data Spot : Type 0 where
   as_between : Spot
   as_after : Spot
 
--- a bucket has its `val`, where it has one, its count and its facets; a facet is a number, one bucket or a row of buckets
+-- a bucket has its `val`, where it has one, its count and its facets; a facet is a number, one bucket, a row of buckets, or a row with a number beside it
 mutual
   pub data Bucket : Type 0 where
     bucket : Option Val → ℕ → Facets → Bucket
@@ -24,6 +24,7 @@ mutual
     number : Text → ℤ → Facets → Facets
     one : Text → Bucket → Facets → Facets
     many : Text → Row → Facets → Facets
+    counted : Text → ℕ → Row → Facets → Facets
 
   pub data Row : Type 0 where
     no_parts : Row

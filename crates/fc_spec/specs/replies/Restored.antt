@@ -5,7 +5,7 @@ use Rattle.fc_spec.specs.words.Lists.{is_empty}
 use Rattle.fc_spec.specs.requests.Request.{Terms, Kind, terms, Nodes, no_nodes, statistic, facet, Request}
 use Rattle.fc_spec.specs.requests.Shape.{is_exact}
 use Rattle.fc_spec.specs.requests.Buckets.{Key}
-use Rattle.fc_spec.specs.replies.Reply.{Bucket, bucket, Facets, no_facets, number, one, many, Row, no_parts, part, spot_of, val_of}
+use Rattle.fc_spec.specs.replies.Reply.{Bucket, bucket, Facets, no_facets, number, one, many, counted, Row, no_parts, part, spot_of, val_of}
 use Rattle.fc_spec.specs.replies.Tops.{top_keys, first_list, lists_after}
 
 -- the first facet, and those behind it
@@ -14,12 +14,14 @@ after_first no_facets = no_facets
 after_first (number name n more) = more
 after_first (one name b more) = more
 after_first (many name row more) = more
+after_first (counted name n row more) = more
 
 abbrev pub with_first : Facets → Facets → Facets
 with_first no_facets more = more
 with_first (number name n rest) more = number name n more
 with_first (one name b rest) more = one name b more
 with_first (many name row rest) more = many name row more
+with_first (counted name n row rest) more = counted name n row more
 
 -- the first is a number of that name
 abbrev pub is_number_of : Text → Facets → Bool

@@ -1,18 +1,19 @@
 -- What request a JSON value is, or the first fault of a walk over it, with the names of the facets around it. Guide: JSON Request API; JSON Facet API.
 use Rattle.std.specs.Prelude.{ℕ, zero, suc, ◌+◌, List, [], ◌∷◌, codes, Bool, true, false, not, ◌||◌, ◌&&◌, ◌==◌, nat_lt, Option, None, Some, option_map, unwrap_or, ok_or, Result, Ok, Err, if◌then◌else◌}
 use Rattle.std.specs.Option.{option_and_then}
-use Rattle.serde_json.specs.Data.{Data, string, array, Members, no_members, member}
+use Rattle.serde_json.specs.Data.{Data, boolean, object, string, array, Members, no_members, member}
 use Rattle.serde_json.specs.Find.{as_object, as_str, get_member}
 use Rattle.fc_spec.specs.documents.Val.{Text, same_text}
-use Rattle.fc_spec.specs.documents.Schema.{Schema}
+use Rattle.fc_spec.specs.documents.Schema.{Schema, field_named}
 use Rattle.fc_spec.specs.scripts.JsonObjects.{natural_in}
 use Rattle.fc_spec.specs.queries.Query.{all}
 use Rattle.fc_spec.specs.queries.QueryFault.{FilterFault, shape, query as of_query}
 use Rattle.fc_spec.specs.queries.FilterReading.{filter_of}
-use Rattle.fc_spec.specs.requests.Request.{Filter, Stat, DomainChange, Kind, terms, Nodes, no_nodes, statistic, facet, Request}
-use Rattle.fc_spec.specs.requests.RequestFault.{QFault, not_an_object, bad_command, unknown_type, bad_parameter, reserved_name, too_large, RequestFault}
-use Rattle.fc_spec.specs.requests.RequestWalk.{query_fault, outside, inside, check_names, required, optional, text_in, each_item}
-use Rattle.fc_spec.specs.requests.StatisticReading.{statistic_of}
+use Rattle.fc_spec.specs.requests.Request.{Show, its_buckets, Filter, Stat, DomainChange, Terms, Kind, terms, Facet, Nodes, no_nodes, statistic, facet, Request}
+use Rattle.fc_spec.specs.requests.RequestFault.{QFault, unknown_field, not_an_object, bad_command, unknown_type, bad_parameter, reserved_name, too_large, RequestFault}
+use Rattle.fc_spec.specs.requests.RequestWalk.{query_fault, truth_in, outside, inside, check_names, required, optional, text_in, each_item}
+use Rattle.fc_spec.specs.requests.Spread.{unchanged, number_terms, beside_facet}
+use Rattle.fc_spec.specs.requests.StatisticReading.{unique_called, statistic_of}
 use Rattle.fc_spec.specs.requests.DomainReading.{change_in, text_query}
 use Rattle.fc_spec.specs.requests.Shape.{stays}
 use Rattle.fc_spec.specs.requests.SortReading.{sort_in, allows_exact}
@@ -37,6 +38,25 @@ abbrev pub with_node : Text → Node → Nodes → Nodes
 with_node name (of_statistic s) rest = statistic name s rest
 with_node name (of_facet change kind inner) rest = facet (record { name = name; change = change; kind = kind }) inner rest
 
+-- whether a command asks for the number of its facet's buckets
+abbrev pub is_true : Option Data → Bool
+is_true (Some (boolean b)) = b
+is_true _ = false
+
+abbrev pub asks_number : Data → Bool
+asks_number (object ms) = is_true (get_member (codes "numBuckets") ms)
+asks_number _ = false
+
+-- the facet that shows the number of a terms facet's buckets beside them, in front of others
+abbrev pub number_behind : Show → Facet → Terms → Nodes → Nodes
+number_behind its_buckets f t rest = facet (beside_facet f t) no_nodes rest
+number_behind _ f t rest = rest
+
+-- what stands behind a node that was read, where its number is asked for too; this is no node of the walk
+abbrev pub with_its_number : (asked : Bool) → Text → Node → Nodes → Nodes
+with_its_number true name (of_facet change (terms t) inner) rest = number_behind t.show (record { name = name; change = change; kind = terms t }) t rest
+with_its_number _ name node rest = rest
+
 -- what reads the members of an object as nodes, behind so many nodes of the walk
 abbrev pub Reader : Type 0
 Reader = ℕ → Members → Result (Walked Nodes) RequestFault
@@ -47,7 +67,7 @@ members_read node n no_members = Ok (record { read = no_nodes; nodes = n })
 members_read node n (member name d ms) = do
   first ← with_fault (inside name) (node n name d)
   rest ← members_read node first.nodes ms
-  Ok (record { read = with_node name first.read rest.read; nodes = rest.nodes })
+  Ok (record { read = with_node name first.read (with_its_number (asks_number d) name first.read rest.read); nodes = rest.nodes })
 
 -- the name is taken by what each bucket has
 abbrev pub is_reserved : Text → Bool
@@ -72,6 +92,7 @@ facet_read change kind inner = record { read = of_facet change kind inner.read; 
 abbrev pub terms_read : Schema → (outermost unmoved : Bool) → (Bool → Reader) → ℕ → Members → Result (Walked Node) RequestFault
 terms_read s outermost unmoved deeper n ms = do
   parts ← own (terms_parts s ms)
+  _ ← own (optional (codes "numBuckets") truth_in false ms)
   change ← own (change_in s unmoved ms)
   inner ← inner_read (deeper (unmoved && stays change)) n (get_member (codes "facet") ms)
   sort ← own (sort_in inner.read ms)
@@ -92,10 +113,17 @@ query_read s unmoved deeper n ms = do
   inner ← inner_read (deeper (unmoved && stays change)) n (get_member (codes "facet") ms)
   Ok (facet_read change q inner)
 
-abbrev pub statistic_read : Schema → ℕ → Text → Result (Walked Node) RequestFault
-statistic_read s n t = do
+-- a `unique` of a field, or else a statistic
+abbrev pub measure_read : Schema → ℕ → Text → (unique : Option Text) → Result (Walked Node) RequestFault
+measure_read s n t (Some name) = do
+  field ← own (ok_or (field_named s name) unknown_field)
+  Ok (record { read = of_facet unchanged (terms (number_terms field)) no_nodes; nodes = n })
+measure_read s n t None = do
   st ← own (statistic_of s t)
   Ok (record { read = of_statistic st; nodes = n })
+
+abbrev pub statistic_read : Schema → ℕ → Text → Result (Walked Node) RequestFault
+statistic_read s n t = measure_read s n t (unique_called t)
 
 abbrev pub func_read : Schema → ℕ → Members → Result (Walked Node) RequestFault
 func_read s n ms = do
@@ -118,7 +146,7 @@ type_named t =
 
 abbrev pub parameters : FacetType → List Text
 parameters terms_type =
-    codes "type" ∷ codes "field" ∷ codes "offset" ∷ codes "limit" ∷ codes "mincount" ∷ codes "missing" ∷ codes "prefix" ∷ codes "refine" ∷ codes "overrequest" ∷ codes "overrefine" ∷ codes "method" ∷ codes "domain" ∷ codes "facet" ∷ codes "sort" ∷ []
+    codes "type" ∷ codes "field" ∷ codes "offset" ∷ codes "limit" ∷ codes "mincount" ∷ codes "missing" ∷ codes "prefix" ∷ codes "refine" ∷ codes "overrequest" ∷ codes "overrefine" ∷ codes "method" ∷ codes "numBuckets" ∷ codes "domain" ∷ codes "facet" ∷ codes "sort" ∷ []
 parameters range_type =
     codes "type" ∷ codes "field" ∷ codes "start" ∷ codes "end" ∷ codes "gap" ∷ codes "hardend" ∷ codes "other" ∷ codes "include" ∷ codes "domain" ∷ codes "facet" ∷ []
 parameters query_type = codes "type" ∷ codes "q" ∷ codes "domain" ∷ codes "facet" ∷ []

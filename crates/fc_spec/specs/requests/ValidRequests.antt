@@ -7,7 +7,8 @@ use Rattle.fc_spec.specs.documents.IntegerTexts.{is_long}
 use Rattle.fc_spec.specs.dates.DateTexts.{IsCanonical}
 use Rattle.fc_spec.specs.queries.ValidQueries.{IsValidQuery}
 use Rattle.fc_spec.specs.queries.FilterReading.{is_tag}
-use Rattle.fc_spec.specs.requests.Request.{Filter, BlockStep, stay, parents, children, DomainChange, SortKey, by_count, by_index, by_statistic, Terms, Range, DateRange, Stat, Kind, terms, range, query, date_range, Facet, Nodes, no_nodes, statistic, facet, Request, stats_of}
+use Rattle.fc_spec.specs.requests.Request.{Filter, BlockStep, stay, parents, children, DomainChange, Show, number_beside, SortKey, by_count, by_index, by_statistic, Terms, Range, DateRange, Stat, Kind, terms, range, query, date_range, Facet, Nodes, no_nodes, statistic, facet, Request, stats_of}
+use Rattle.fc_spec.specs.requests.Spread.{show_of, IsSpread}
 use Rattle.fc_spec.specs.requests.Gaps.{gap_count, last_end}
 use Rattle.fc_spec.specs.requests.StatisticReading.{takes_texts, has_type}
 use Rattle.fc_spec.specs.requests.Shape.{stays, outermost_exact}
@@ -89,11 +90,16 @@ pub record IsValidStatistic (s : Schema) (st : Stat) : Type 0 where
   pub field : st.field < length s.fields
   pub of_integers : takes_texts st.of ≡ false → IsTrue (has_type s (λ k. not (holds_texts k)) st.field)
 
+-- with the name of a facet before them, unless what it shows stands beside the facet before it, whose name it has
+abbrev pub with_name : Show → Text → List Text → List Text
+with_name number_beside name names = names
+with_name _ name names = name ∷ names
+
 -- the names of nodes, in their order
 abbrev pub node_names : Nodes → List Text
 node_names no_nodes = []
 node_names (statistic name st rest) = name ∷ node_names rest
-node_names (facet f inner rest) = f.name ∷ node_names rest
+node_names (facet f inner rest) = with_name (show_of f.kind) f.name (node_names rest)
 
 -- a facet is valid but for the nodes nested in it
 pub record IsValidFacet (s : Schema) (unmoved : Bool) (f : Facet) (inner : Nodes) : Type 0 where
@@ -122,7 +128,7 @@ node_depth no_nodes = 0
 node_depth (statistic name st rest) = max 1 (node_depth rest)
 node_depth (facet f inner rest) = max (suc (node_depth inner)) (node_depth rest)
 
--- its query, filters and nodes are valid, only outermost facets are refined exactly, nodes nest at most eight deep, and their names differ and ascend
+-- its query, filters and nodes are valid, only outermost facets are refined exactly, nodes nest at most eight deep, their names differ and ascend, and what shows a number stands where that is asked for
 pub record IsValidRequest (s : Schema) (r : Request) : Type 0 where
   pub query : IsValidQuery s r.query
   pub filters : All (IsValidFilter s) r.filters
@@ -130,8 +136,9 @@ pub record IsValidRequest (s : Schema) (r : Request) : Type 0 where
   pub exact : IsTrue (outermost_exact r.nodes)
   pub depth : node_depth r.nodes ≤ 8
   pub names : AreOrderedNodes r.nodes
+  pub spread : IsSpread r
 
--- the same but for names, which may repeat: a search can be made of it
+-- the same but for names, which may repeat, and for what shows numbers: a search can be made of it
 pub record IsSearchable (s : Schema) (r : Request) : Type 0 where
   pub query : IsValidQuery s r.query
   pub filters : All (IsValidFilter s) r.filters
