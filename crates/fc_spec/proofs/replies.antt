@@ -16,3 +16,4 @@ pub mod DistinctKeys
 pub mod TopValues
 pub mod CountedValues
 pub mod FoldedReply
+pub mod NumberedPaths

@@ -26,3 +26,4 @@ pub mod TopsLaw
 pub mod CertificateLaw
 pub mod TopRoundsLaw
 pub mod FoldedNumbers
+pub mod NumberedPaths

@@ -32,6 +32,7 @@ ghost use Rattle.fc_spec.specs.laws.Blockwise.{
 ghost use Rattle.fc_spec.specs.laws.CertificateLaw.{CertifiedAreEnough, RanksAreReached, SharesAreEnough, TopsAreListed, TopsLookAtCounts};
 ghost use Rattle.fc_spec.specs.laws.CombiningLaw.{CombinesLists, CombinesParts};
 ghost use Rattle.fc_spec.specs.laws.FoldedNumbers.{FoldsIntoNumbers, FoldsSingleIndex};
+ghost use Rattle.fc_spec.specs.laws.NumberedPaths.{AreNumberedPathsExact, AreNumberedTopsExact};
 ghost use Rattle.fc_spec.specs.scripts.JsonValues.{TextsAreJson};
 ghost use Rattle.fc_spec.specs.laws.LacksLaws.{
   FirstTellOnce,
@@ -116,10 +117,12 @@ pub fn without_limits()
     ensures single_index { IsSingleWithoutLimits }
 {}
 
-/// The numbers of values and of buckets that the folded reply prints are those over the places of each bucket. Without
-/// limits it is that of a single index.
+/// The numbers of values and of buckets that the folded reply prints are those over the places of each bucket, on refined
+/// paths over all shards; its top buckets are those of a single index. Without limits it is the folded reply of a single index.
 pub fn folds_into_numbers()
     ensures numbers { FoldsIntoNumbers }
+    ensures paths { AreNumberedPathsExact }
+    ensures tops { AreNumberedTopsExact }
     ensures single_index { FoldsSingleIndex }
 {}
 

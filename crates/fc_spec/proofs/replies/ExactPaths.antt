@@ -19,7 +19,7 @@ use Rattle.fc_spec.proofs.replies.PrintedKeys.{every_exact_key, every_printed_ke
 use Rattle.fc_spec.proofs.replies.ByOffers.{root_inside, exact_root, offered_root}
 use Rattle.fc_spec.specs.requests.Base.{root_domain, meets_base}
 use Rattle.fc_spec.specs.requests.Shape.{is_exact, is_refining, no_exclusions}
-use Rattle.fc_spec.specs.replies.Reading.{Reading, over_places}
+use Rattle.fc_spec.specs.replies.Reading.{Reading, PathBucket, over_places}
 use Rattle.fc_spec.proofs.words.Members.{Every, every_filter}
 use Rattle.fc_spec.proofs.documents.Shards.{is_on, every_on_shards, on_shards_every}
 use Rattle.fc_spec.proofs.documents.AllShards.{every_place_on}
@@ -94,9 +94,27 @@ part_is r W path f inner H X Q allowed e refining k =
 abbrev pub facets_on : Request → World → Nodes → ℕ → ℕ → List ℕ → Path → List Place → Facets
 facets_on r W nodes n m H path X = dist_facets (over_places r W) nodes n m H (at_path path X)
 
--- the buckets of a facet in it
-abbrev buckets_on : Request → World → Facet → Nodes → List ℕ → Path → List Place → Facets → Facets
-buckets_on r W f inner H path X more = dist_buckets (over_places r W) f inner (λ K P. dist_facets (over_places r W) inner 0 0 K P) H (in_path path f (dist_domain r W path f H X)) more
+-- wherever the part of a key's bucket on its shards is that of its path, what is inside is right
+abbrev pub AreInside : Request → World → Path → Facet → Nodes → (Key → Facets → Type 0) → (List ℕ → PathBucket → Facets) → Type 0
+AreInside r W path f inner Inside inside =
+    (k : Key) (K : List ℕ) (P : List Place) → AreAllowed W K inner → on_shards K P ≡ path_places r W (into path f k) → Inside k (inside K (at_path (into path f k) P))
+
+-- the buckets of a facet in the bucket of a path
+abbrev pub buckets_on : Request → World → Facet → Nodes → (List ℕ → PathBucket → Facets) → List ℕ → Path → List Place → Facets → Facets
+buckets_on r W f inner inside H path X more = dist_buckets (over_places r W) f inner inside H (in_path path f (dist_domain r W path f H X)) more
+
+pub offered_exact : (r : Request) (W : World) (path : Path) (f : Facet) (inner rest : Nodes) (Inside : Key → Facets → Type 0) (inside : List ℕ → PathBucket → Facets) → AreInside r W path f inner Inside inside
+    → (H : List ℕ) (X : List Place) (more : Facets) → AreAllowed W H (facet f inner rest) → on_shards H X ≡ path_places r W path
+    → IsFacetOf r W path f f.kind Inside (buckets_on r W f inner inside H path X more) more
+offered_exact r W path f inner rest Inside inside within H X more allowed e =
+    let Y = in_path path f (dist_domain r W path f H X) in
+    let K = λ (k : Key). dist_shards r W path f inner H X k in
+    let P = λ (k : Key). bucket_places f.kind k (dist_domain r W path f H X) in
+    let is = part_is r W path f inner H X (path_places r W path) (first_allowed W H f inner rest allowed) e in
+    facet_exact r W path f.name f.change f.kind Inside (λ k. length (on_shards (K k) (P k))) (λ k. inside (K k) (at_path (into path f k) (P k)))
+    (printed_keys (over_places r W) f.kind inner H Y) more (every_printed_key r W f.kind inner H Y)
+    (λ k refined. let refining = (and_parts (is_refined path) (is_refining f.kind) refined).1 in
+    (ap length (is refining k), within k (K k) (P k) (inner_allowed (over_places r W) W H f inner rest Y k refining allowed) (is refining k)))
 
 -- the facets of a bucket whose part on its shards is its path's places
 pub facets_exact : (r : Request) (W : World) (nodes : Nodes) (n m : ℕ) (H : List ℕ) (path : Path) (X : List Place) → AreAllowed W H nodes → on_shards H X ≡ path_places r W path
@@ -105,17 +123,12 @@ facets_exact r W no_nodes n m H path X allowed e = refl
 facets_exact r W (statistic name s rest) n m H path X allowed e =
     (_, ap (λ Q. statistic_part (length Q == 0) name (shown (value_over s Q)) (facets_on r W rest (suc n) (suc m) H path X)) e, facets_exact r W rest (suc n) (suc m) H path X allowed e)
 facets_exact r W (facet f inner rest) n m H path X allowed e =
-    let Y = in_path path f (dist_domain r W path f H X) in
-    let K = λ (k : Key). dist_shards r W path f inner H X k in
-    let P = λ (k : Key). bucket_places f.kind k (dist_domain r W path f H X) in
-    let is = part_is r W path f inner H X (path_places r W path) (first_allowed W H f inner rest allowed) e in (
-      buckets_on r W f inner H path X (facets_on r W rest (suc n) m H path X),
-      facets_on r W rest (suc n) m H path X,
-      ap (λ Q. facet_part (length Q == 0) f (buckets_on r W f inner H path X (facets_on r W rest (suc n) m H path X)) (facets_on r W rest (suc n) m H path X)) e,
-      facet_exact r W path f.name f.change f.kind (λ k inside. AreFacetsOf r W inner (into path f k) inside) (λ k. length (on_shards (K k) (P k))) (λ k. facets_on r W inner 0 0 (K k) (into path f k) (P k))
-          (printed_keys (over_places r W) f.kind inner H Y) (facets_on r W rest (suc n) m H path X) (every_printed_key r W f.kind inner H Y)
-          (λ k refined. let refining = (and_parts (is_refined path) (is_refining f.kind) refined).1 in
-          (ap length (is refining k), facets_exact r W inner 0 0 (K k) (into path f k) (P k) (inner_allowed (over_places r W) W H f inner rest Y k refining allowed) (is refining k))),
+    let inside : List ℕ → PathBucket → Facets = λ K P. dist_facets (over_places r W) inner 0 0 K P in
+    let more = facets_on r W rest (suc n) m H path X in (
+      buckets_on r W f inner inside H path X more,
+      more,
+      ap (λ Q. facet_part (length Q == 0) f (buckets_on r W f inner inside H path X more) more) e,
+      offered_exact r W path f inner rest (λ k facets. AreFacetsOf r W inner (into path f k) facets) inside (λ k K P a h. facets_exact r W inner 0 0 K (into path f k) P a h) H X more allowed e,
       facets_exact r W rest (suc n) m H path X (rest_allowed W H f inner rest allowed) e,
     )
 
@@ -138,23 +151,17 @@ module _ (r : Request) (W : World) where
       on_shards_every H (places_inside r W at_root f k X) (every_filter (is_on H) (λ p. in_bucket f.kind k p.document) (domain r W at_root f.change X) (allowed_domain r W at_root f.change H X (inr refl) root_on))
 
   -- what a facet prints: by cases on its being exact
-  printed_exact : (n : ℕ) (f : Facet) (inner rest : Nodes) (more : Facets) → (b : Bool) → is_exact f.kind ≡ b
-      → IsFacetOf r W at_root f f.kind (λ k facets. AreFacetsOf r W inner (into at_root f k) facets) (root_buckets r W n f inner (root_inside r W inner) more) more
-  printed_exact n f inner rest more true e =
+  pub printed_exact : (n : ℕ) (f : Facet) (inner rest : Nodes) (Inside : Key → Facets → Type 0) (inside : List ℕ → PathBucket → Facets) → AreInside r W at_root f inner Inside inside
+      → (more : Facets) → (b : Bool) → is_exact f.kind ≡ b → IsFacetOf r W at_root f f.kind Inside (root_buckets r W n f inner inside more) more
+  printed_exact n f inner rest Inside inside within more true e =
       let Y = domain r W at_root f.change X in
-      subst (λ printed. IsFacetOf r W at_root f f.kind (λ k facets. AreFacetsOf r W inner (into at_root f k) facets) printed more) (sym (exact_root r W n f inner (root_inside r W inner) more e))
-      (facet_exact r W at_root f.name f.change f.kind (λ k facets. AreFacetsOf r W inner (into at_root f k) facets) (λ k. length (bucket_places f.kind k Y)) (λ k. facets_on r W inner 0 0 H (into at_root f k) (bucket_places f.kind k Y))
+      subst (λ printed. IsFacetOf r W at_root f f.kind Inside printed more) (sym (exact_root r W n f inner inside more e))
+      (facet_exact r W at_root f.name f.change f.kind Inside (λ k. length (bucket_places f.kind k Y)) (λ k. inside H (at_path (into at_root f k) (bucket_places f.kind k Y)))
       (exact_keys f.kind (stats_of inner) Y) more (every_exact_key f.kind (stats_of inner) Y)
-      (λ k refined. (refl, facets_exact r W inner 0 0 H (into at_root f k) (bucket_places f.kind k Y) (inr refl) (on_all f k))))
-  printed_exact n f inner rest more false e =
-      let Y = in_path at_root f (dist_domain r W at_root f H X) in
-      let K = λ (k : Key). dist_shards r W at_root f inner H X k in
-      let P = λ (k : Key). bucket_places f.kind k Y.places in
-      let is = part_is r W at_root f inner H X X (inr refl) (root_is r W) in
-      subst (λ printed. IsFacetOf r W at_root f f.kind (λ k facets. AreFacetsOf r W inner (into at_root f k) facets) printed more) (sym (offered_root r W n f inner (root_inside r W inner) more e))
-      (facet_exact r W at_root f.name f.change f.kind (λ k facets. AreFacetsOf r W inner (into at_root f k) facets) (λ k. length (on_shards (K k) (P k))) (λ k. facets_on r W inner 0 0 (K k) (into at_root f k) (P k))
-      (printed_keys (over_places r W) f.kind inner H Y) more (every_printed_key r W f.kind inner H Y)
-      (λ k refining. (ap length (is refining k), facets_exact r W inner 0 0 (K k) (into at_root f k) (P k) (inner_allowed (over_places r W) W H f inner rest Y k refining (inr refl)) (is refining k))))
+      (λ k refined. (refl, within k H (bucket_places f.kind k Y) (inr refl) (on_all f k))))
+  printed_exact n f inner rest Inside inside within more false e =
+      subst (λ printed. IsFacetOf r W at_root f f.kind Inside printed more) (sym (offered_root r W n f inner inside more e))
+      (offered_exact r W at_root f inner rest Inside inside within H X more (inr refl) (root_is r W))
 
   root_exact : (nodes : Nodes) (n m : ℕ) → AreFacetsOf r W nodes at_root (root_facets r W nodes n m)
   root_exact no_nodes n m = refl
@@ -164,7 +171,7 @@ module _ (r : Request) (W : World) where
         root_buckets r W n f inner (root_inside r W inner) more,
         more,
         ap (λ Q. facet_part (length Q == 0) f (root_buckets r W n f inner (root_inside r W inner) more) more) (root_is r W),
-        printed_exact n f inner rest more (is_exact f.kind) refl,
+        printed_exact n f inner rest (λ k facets. AreFacetsOf r W inner (into at_root f k) facets) (root_inside r W inner) (λ k K P a h. facets_exact r W inner 0 0 K (into at_root f k) P a h) more (is_exact f.kind) refl,
         root_exact rest (suc n) m,
       )
 

@@ -13,23 +13,23 @@ use Rattle.fc_spec.specs.requests.Statistics.{value_over, shown}
 use Rattle.fc_spec.specs.replies.Reply.{Facets, with_number, with_buckets}
 use Rattle.fc_spec.specs.replies.Printed.{statistic_part, facet_part}
 use Rattle.fc_spec.specs.replies.Exact.{exact_keys}
-use Rattle.fc_spec.specs.replies.Reading.{over_places}
-use Rattle.fc_spec.specs.replies.Distributed.{}
+use Rattle.fc_spec.specs.replies.Reading.{PathBucket, over_places}
 use Rattle.fc_spec.specs.replies.WithTops.{root_buckets, root_facets}
+use Rattle.fc_spec.specs.laws.RefinedPaths.{AreFacetsOf}
 use Rattle.fc_spec.specs.laws.TopsLaw.{prints_exactly, IsTopFacet, AreTopsOf, AreTopsExact}
 use Rattle.fc_spec.proofs.documents.Shards.{every_on_shards}
 use Rattle.fc_spec.proofs.replies.ByOffers.{root_inside, exact_root, offered_root}
 use Rattle.fc_spec.proofs.replies.Carried.{domain_is}
-use Rattle.fc_spec.proofs.replies.PathBuckets.{in_path}
-use Rattle.fc_spec.proofs.replies.ExactPaths.{inner_allowed, dist_domain, dist_shards, part_is, facets_on, facets_exact, root_is, on_all}
+use Rattle.fc_spec.proofs.replies.PathBuckets.{at_path, in_path}
+use Rattle.fc_spec.proofs.replies.ExactPaths.{inner_allowed, dist_domain, dist_shards, part_is, facets_exact, AreInside, root_is, on_all}
 use Rattle.fc_spec.proofs.replies.NoLimits.{unlimited_refines, keys_are}
 
 -- the number of a bucket, where it is printed
-printed_number : Bool → Option ℤ → Option ℤ
+pub printed_number : Bool → Option ℤ → Option ℤ
 printed_number true n = None
 printed_number false n = n
 
-number_printed : (empty : Bool) (name : Text) (n : Option ℤ) (more : Facets) → statistic_part empty name n more ≡ with_number name (printed_number empty n) more
+pub number_printed : (empty : Bool) (name : Text) (n : Option ℤ) (more : Facets) → statistic_part empty name n more ≡ with_number name (printed_number empty n) more
 unfolding printed_number
 number_printed true name n more = refl
 number_printed false name n more = refl
@@ -42,31 +42,34 @@ module _ (r : Request) (W : World) where
   X = root_domain r W
 
   -- a facet that is exact
-  exact_is_top : (n : ℕ) (f : Facet) (inner : Nodes) (more : Facets) → is_exact f.kind ≡ true → IsTopFacet r W f inner (root_buckets r W n f inner (root_inside r W inner) more) more
-  exact_is_top n f inner more e =
+  exact_is_top : (n : ℕ) (f : Facet) (inner : Nodes) (Inside : Key → Facets → Type 0) (inside : List ℕ → PathBucket → Facets) → AreInside r W at_root f inner Inside inside
+      → (more : Facets) → is_exact f.kind ≡ true → IsTopFacet r W f inner Inside (root_buckets r W n f inner inside more) more
+  exact_is_top n f inner Inside inside within more e =
       let P = λ (k : Key). bucket_places f.kind k (domain r W at_root f.change X) in
-      (λ k. facets_on r W inner 0 0 H (into at_root f k) (P k), exact_root r W n f inner (root_inside r W inner) more e, λ k. facets_exact r W inner 0 0 H (into at_root f k) (P k) (inr refl) (on_all r W f k))
+      (λ k. inside H (at_path (into at_root f k) (P k)), exact_root r W n f inner inside more e, λ k. within k H (P k) (inr refl) (on_all r W f k))
 
   -- one that has no limit, and is not exact
-  unlimited_is_top : (n : ℕ) (f : Facet) (inner : Nodes) (more : Facets) → is_exact f.kind ≡ false → has_no_limit f.kind ≡ true → IsTopFacet r W f inner (root_buckets r W n f inner (root_inside r W inner) more) more
-  unlimited_is_top n f inner more e h =
+  unlimited_is_top : (n : ℕ) (f : Facet) (inner : Nodes) (Inside : Key → Facets → Type 0) (inside : List ℕ → PathBucket → Facets) → AreInside r W at_root f inner Inside inside
+      → (more : Facets) → is_exact f.kind ≡ false → has_no_limit f.kind ≡ true → IsTopFacet r W f inner Inside (root_buckets r W n f inner inside more) more
+  unlimited_is_top n f inner Inside inside within more e h =
       let Y = in_path at_root f (dist_domain r W at_root f H X) in
       let K = λ (k : Key). dist_shards r W at_root f inner H X k in
       let P = λ (k : Key). bucket_places f.kind k Y.places in
       let refining = unlimited_refines f.kind h in
       let is = part_is r W at_root f inner H X X (inr refl) (root_is r W) refining in
-      let inside = λ (k : Key). facets_on r W inner 0 0 (K k) (into at_root f k) (P k) in
+      let in_bucket = λ (k : Key). inside (K k) (at_path (into at_root f k) (P k)) in
       let keys = keys_are r W f.kind inner H Y h (every_on_shards H (domain r W at_root f.change (on_shards H X))) ∙ ap (exact_keys f.kind (stats_of inner)) (domain_is r W at_root f.change H X X (inr refl) (root_is r W)) in (
-        inside,
-        offered_root r W n f inner (root_inside r W inner) more e ∙ (λ i. with_buckets f.name f.kind (λ k. length (is k i)) inside (keys i) more),
-        λ k. facets_exact r W inner 0 0 (K k) (into at_root f k) (P k) (inner_allowed (over_places r W) W H f inner no_nodes Y k refining (inr refl)) (is k),
+        in_bucket,
+        offered_root r W n f inner inside more e ∙ (λ i. with_buckets f.name f.kind (λ k. length (is k i)) in_bucket (keys i) more),
+        λ k. within k (K k) (P k) (inner_allowed (over_places r W) W H f inner no_nodes Y k refining (inr refl)) (is k),
       )
 
-  is_top : (n : ℕ) (f : Facet) (inner : Nodes) (more : Facets) → prints_exactly f.kind ≡ true → (b : Bool) → is_exact f.kind ≡ b → IsTopFacet r W f inner (root_buckets r W n f inner (root_inside r W inner) more) more
-  is_top n f inner more h true e = exact_is_top n f inner more e
-  is_top n f inner more h false e = elim (or_cases (is_exact f.kind) (has_no_limit f.kind) h) [
+  pub is_top : (n : ℕ) (f : Facet) (inner : Nodes) (Inside : Key → Facets → Type 0) (inside : List ℕ → PathBucket → Facets) → AreInside r W at_root f inner Inside inside
+      → (more : Facets) → prints_exactly f.kind ≡ true → (b : Bool) → is_exact f.kind ≡ b → IsTopFacet r W f inner Inside (root_buckets r W n f inner inside more) more
+  is_top n f inner Inside inside within more h true e = exact_is_top n f inner Inside inside within more e
+  is_top n f inner Inside inside within more h false e = elim (or_cases (is_exact f.kind) (has_no_limit f.kind) h) [
     | inl exact ↦ absurd (false≢true (sym e ∙ exact))
-    | inr unlimited ↦ unlimited_is_top n f inner more e unlimited
+    | inr unlimited ↦ unlimited_is_top n f inner Inside inside within more e unlimited
   ]
 
   are_tops : (nodes : Nodes) (n m : ℕ) → AreTopsOf r W nodes (root_facets r W nodes n m)
@@ -79,7 +82,7 @@ module _ (r : Request) (W : World) where
         root_buckets r W n f inner (root_inside r W inner) more,
         more,
         ap (λ Q. facet_part (length Q == 0) f (root_buckets r W n f inner (root_inside r W inner) more) more) (root_is r W),
-        λ h. is_top n f inner more h (is_exact f.kind) refl,
+        λ h. is_top n f inner (λ k facets. AreFacetsOf r W inner (into at_root f k) facets) (root_inside r W inner) (λ k K P a is. facets_exact r W inner 0 0 K (into at_root f k) P a is) more h (is_exact f.kind) refl,
         are_tops rest (suc n) m,
       )
 

@@ -17,12 +17,12 @@ use Rattle.fc_spec.specs.laws.RefinedPaths.{AreFacetsOf, IsBucketOf, val_in}
 abbrev pub prints_exactly : Kind → Bool
 prints_exactly kind = is_exact kind || has_no_limit kind
 
--- of an outermost facet: the keys that a single index prints, in their order, each with the count of its places, and with facets as those of the path there
-abbrev pub IsTopFacet : Request → World → Facet → Nodes → (printed more : Facets) → Type 0
-IsTopFacet r W f inner printed more =
+-- of an outermost facet: the keys that a single index prints, in their order, each with the count of its places, and with facets of which Inside holds
+abbrev pub IsTopFacet : Request → World → Facet → Nodes → (Inside : Key → Facets → Type 0) → (printed more : Facets) → Type 0
+IsTopFacet r W f inner Inside printed more =
     (inside : Key → Facets)
     × (printed ≡ with_buckets f.name f.kind (λ k. length (places_inside r W at_root f k (root_domain r W))) inside (exact_keys f.kind (stats_of inner) (domain r W at_root f.change (root_domain r W))) more)
-    × ((k : Key) → AreFacetsOf r W inner (into at_root f k) (inside k))
+    × ((k : Key) → Inside k (inside k))
 
 -- the facets of the root: each that prints exactly is such a facet
 abbrev pub AreTopsOf : Request → World → Nodes → Facets → Type 0
@@ -30,7 +30,7 @@ AreTopsOf r W no_nodes facets = facets ≡ no_facets
 AreTopsOf r W (statistic name s rest) facets = (n : Option ℤ) × (more : Facets) × (facets ≡ with_number name n more) × AreTopsOf r W rest more
 AreTopsOf r W (facet f inner rest) facets =
     (printed : Facets) × (more : Facets) × (facets ≡ facet_part (length (root_domain r W) == 0) f printed more)
-    × (IsTrue (prints_exactly f.kind) → IsTopFacet r W f inner printed more) × AreTopsOf r W rest more
+    × (IsTrue (prints_exactly f.kind) → IsTopFacet r W f inner (λ k inside. AreFacetsOf r W inner (into at_root f k) inside) printed more) × AreTopsOf r W rest more
 
 abbrev pub HasTopsOf : Request → World → Bucket → Type 0
 HasTopsOf r W (bucket val count facets) = AreTopsOf r W r.nodes facets

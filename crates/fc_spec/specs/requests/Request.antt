@@ -37,7 +37,7 @@ pub data Show : Type 0 where
   its_number : Show
   number_beside : Show
 
--- a terms facet. Guide: JSON Facet API, "Terms Facet". No limit: all; then both over-numbers are 0. Refine has three ways: not, by what was offered, and exactly; what is refined exactly is refined. show is its buckets in every request that is read: no definition of a reply looks at it yet
+-- a terms facet. Guide: JSON Facet API, "Terms Facet". No limit: all; then both over-numbers are 0. Refine has three ways: not, by what was offered, and exactly; what is refined exactly is refined. No shard and no coordinator looks at what it shows
 pub record Terms : Type 0 where
   pub field : ℕ
   pub offset : ℕ
