@@ -1,9 +1,12 @@
 // The faults of a request, without the facets that they are in.
 ghost use Rattle.std.specs.Prelude.{◌≡◌, codes};
 ghost use Rattle.fc_spec.specs.requests.RequestFault.{fault_name, fault_number};
+ghost use Rattle.fc_spec.specs.requests.RequestReading.{filter_fault};
+ghost use Rattle.fc_spec.specs.requests.RequestWalk.{query_fault};
 ghost use Rattle.fc_base.specs.declared.error.Refusal.TheVariants.{Fault};
 
 use fc_base::Refusal;
+use fc_query::{FilterFault, QueryFault};
 use thiserror::Error;
 
 /// What is wrong with a request.
@@ -117,5 +120,37 @@ impl From<QFault> for Refusal<QFault> {
 
     fn from(fault: QFault) -> Self {
         Refusal::Fault(fault)
+    }
+}
+
+// What a query text's fault is in a request.
+impl From<QueryFault> for QFault {
+    ghost use Rattle.fc_query.specs.QueryView.{query_fault_view};
+    ghost use Rattle.fc_facet.specs.FaultView.{fault_view};
+
+    ghost from_gives = { λ text fault. fault_view fault ≡ query_fault (query_fault_view text) };
+
+    fn from(text: QueryFault) -> Self {
+        match text {
+            QueryFault::Syntax => QFault::QuerySyntax,
+            QueryFault::MixedOperators => QFault::MixedOperators,
+            QueryFault::UnknownField => QFault::UnknownField,
+            QueryFault::BadValue => QFault::BadValue,
+        }
+    }
+}
+
+// What a filter's fault is in a request.
+impl From<FilterFault> for QFault {
+    ghost use Rattle.fc_query.specs.FilterView.{filter_fault_view};
+    ghost use Rattle.fc_facet.specs.FaultView.{fault_view};
+
+    ghost from_gives = { λ filter fault. fault_view fault ≡ filter_fault (filter_fault_view filter) };
+
+    fn from(filter: FilterFault) -> Self {
+        match filter {
+            FilterFault::Shape => QFault::BadParameter,
+            FilterFault::Query(text) => QFault::from(text),
+        }
     }
 }

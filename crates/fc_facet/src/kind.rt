@@ -87,8 +87,8 @@ impl Range {
     ghost use Rattle.fc_facet.specs.KindView.{range_view};
     ghost use Rattle.fc_facet.specs.RangeGaps.{HasFewGaps};
 
-    // How many gaps there are, and perhaps more than there may be.
-    pub(crate) fn gap_count(&self) -> u64
+    /// How many gaps there are, and perhaps more than there may be.
+    pub fn gap_count(&self) -> u64
         requires { pos 0 <ℤ self.now.gap }
         ensures count { result ≡ gap_count (range_view self.now) }
         ensures narrow { result * unsigned_abs self.now.gap < 2 ^ 64 + unsigned_abs self.now.gap }
@@ -119,8 +119,8 @@ impl Range {
         }
     }
 
-    // Whether the last high end is within 64 bits.
-    pub(crate) fn has_long_end(&self) -> bool
+    /// Whether the last high end is within 64 bits.
+    pub fn has_long_end(&self) -> bool
         requires { pos 0 <ℤ self.now.gap }
         ensures { result ≡ is_long (last_end (range_view self.now)) }
     {

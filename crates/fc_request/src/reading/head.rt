@@ -12,10 +12,10 @@ ghost use Rattle.fc_request.specs.HeadView.{facet_type_view, head_view, kind_hea
 
 use fc_base::json::{is_same, member};
 use fc_base::{Refusal, Schema, Stat};
-use fc_facet::reading::{
+use fc_facet::{AnyRange, DateRange, Domain, QFault, Range, Terms};
+use fc_parameters::{
     any_range_in, change_in, check_names, query_part, required, statistic_of, terms_in, text_in,
 };
-use fc_facet::{AnyRange, DateRange, Domain, QFault, Range, Terms};
 use fc_query::Query;
 use serde_json::{Map, Value};
 use std::alloc::Global;

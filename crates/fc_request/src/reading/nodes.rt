@@ -21,8 +21,8 @@ use super::sort::{allows_exact, sort_in};
 use crate::{Node, RequestFault};
 use fc_base::json::member;
 use fc_base::{Name, Refusal, Schema, Stat, WantMemory};
-use fc_facet::reading::no_change;
 use fc_facet::{Domain, Kind, QFault, Terms};
+use fc_parameters::no_change;
 use serde_json::{Map, Value};
 use std::alloc::Global;
 

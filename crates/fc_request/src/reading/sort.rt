@@ -17,8 +17,8 @@ ghost use Rattle.fc_request.specs.SortView.{named_view};
 use crate::Node;
 use fc_base::Refusal;
 use fc_base::json::sole_member;
-use fc_facet::reading::is_word;
 use fc_facet::{QFault, Sort, SortKey};
+use fc_parameters::is_word;
 use serde_json::Value;
 
 // What is sorted by, by its name, and whether descending, where that is said.

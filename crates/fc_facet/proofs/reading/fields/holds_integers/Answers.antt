@@ -1,8 +1,0 @@
-use Rattle.std.proofs.Common.{sym, ◌∙◌, ap, not}
-use Rattle.fc_spec.specs.documents.Schema.{holds_texts}
-use Rattle.fc_base.specs.View.{field_type_view}
-use Rattle.fc_facet.proofs.FieldTypes.{type_passes}
-use Rattle.fc_facet.proofs.reading.fields.holds_integers.Goals as goal
-
-pub returns : goal.returns
-returns c = ap not c.is_of_texts.ensures ∙ sym (type_passes c.args.schema.now (λ kind. not (holds_texts kind)) c.args.field.0 (field_type_view c.field_type.result) c.field_type.ensures)

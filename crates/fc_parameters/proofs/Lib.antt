@@ -1,0 +1,5 @@
+mod DateEdges
+mod FieldTypes
+mod RangeNumbers
+mod RangeWords
+mod ReadSoFar

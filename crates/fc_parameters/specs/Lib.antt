@@ -1,0 +1,3 @@
+pub mod DateEdges
+pub mod RangeParts
+pub mod RefiningView
