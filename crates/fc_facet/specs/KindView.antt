@@ -1,7 +1,6 @@
 -- What facets of each kind and domain changes stand for in the definitions.
 use Rattle.std.specs.Prelude.{map}
 use Rattle.fc_spec.specs.requests.Request as definition
-use Rattle.fc_spec.specs.requests.Request.{its_buckets}
 use Rattle.fc_query.specs.QueryView.{query_view}
 use Rattle.fc_facet.specs.declared.domain.Domain.{Domain}
 use Rattle.fc_facet.specs.declared.domain.BlockStep.{BlockStep}
@@ -9,6 +8,8 @@ use Rattle.fc_facet.specs.declared.domain.BlockStep.TheVariants as step
 use Rattle.fc_facet.specs.declared.kind.SortKey.{SortKey}
 use Rattle.fc_facet.specs.declared.kind.SortKey.TheVariants as key
 use Rattle.fc_facet.specs.declared.kind.Sort.{Sort}
+use Rattle.fc_facet.specs.declared.kind.Show.{Show}
+use Rattle.fc_facet.specs.declared.kind.Show.TheVariants as show
 use Rattle.fc_facet.specs.declared.kind.Terms.{Terms}
 use Rattle.fc_facet.specs.declared.kind.Range.{Range}
 use Rattle.fc_facet.specs.declared.kind.DateRange.{DateRange}
@@ -31,6 +32,11 @@ sort_key_view (key.Stat n) = definition.by_statistic n
 abbrev pub sort_view : Sort → definition.Sort
 sort_view s = record { by = sort_key_view s.by; descending = s.descending }
 
+abbrev pub show_view : Show → definition.Show
+show_view show.Buckets = definition.its_buckets
+show_view show.Number = definition.its_number
+show_view show.Beside = definition.number_beside
+
 abbrev pub terms_view : Terms → definition.Terms
 terms_view t = record {
   field = t.field.0;
@@ -44,7 +50,7 @@ terms_view t = record {
   exact = t.exact;
   overrequest = t.overrequest;
   overrefine = t.overrefine;
-  show = its_buckets;
+  show = show_view t.show;
 }
 
 abbrev pub range_view : Range → definition.Range

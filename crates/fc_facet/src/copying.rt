@@ -61,6 +61,7 @@ impl Terms {
             exact: self.exact,
             overrequest: self.overrequest,
             overrefine: self.overrefine,
+            show: self.show,
         })
     }
 }

@@ -43,6 +43,17 @@ pub struct Terms {
     pub overrequest: u32,
     /// How many values are chosen beyond offset and limit, at most 1,000,000.
     pub overrefine: u32,
+    /// What is printed of it. No shard and no coordinator looks at it.
+    pub show: Show,
+}
+
+/// What is printed of a terms facet: its buckets; the number of them alone; the number of them beside the buckets of the
+/// facet before it.
+#[derive(Clone, Copy, Debug, PartialEq, Eq)]
+pub enum Show {
+    Buckets,
+    Number,
+    Beside,
 }
 
 /// The order of buckets; those that are equal by it stand in index order.

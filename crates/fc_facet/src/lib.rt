@@ -8,4 +8,4 @@ mod kind;
 
 pub use domain::{BlockStep, Domain};
 pub use fault::QFault;
-pub use kind::{AnyRange, DateRange, Kind, Range, Sort, SortKey, Terms};
+pub use kind::{AnyRange, DateRange, Kind, Range, Show, Sort, SortKey, Terms};

@@ -18,6 +18,6 @@ pub use dates::any_range_in;
 pub use domain::{change_in, no_change};
 pub use filters::{filters_in, zero_in};
 pub use query::{main_query, query_part};
-pub use statistic::statistic_of;
-pub use terms::terms_in;
+pub use statistic::{statistic_of, unique_called};
+pub use terms::{optional_truth, terms_in};
 pub use words::{check_names, is_word, required, text_in};

@@ -91,18 +91,35 @@ fn takes_texts(of: StatKind) -> bool
     }
 }
 
+// A name, `(`, a row of letters, digits and `_`, and `)`: the name and the row.
+fn called(text: &str) -> Option<(&[u8], &[u8])>
+    ensures { option_map (λ call. (call.0.now, call.1.now)) result ≡ reading.called text.now }
+{
+    let (name, rest) = cut_at_opening(text)?;
+    let (row, end) = cut_at_closing(rest)?;
+    let row = stripped(row.as_bytes());
+    if !are_spaces(end.as_bytes()) || !is_row(row) {
+        return None;
+    }
+    Some((stripped(name.as_bytes()), row))
+}
+
+/// The name of the field whose different values are counted, where the text is a `unique`.
+/// (Guide: JSON Facet API, "Stat Facet Functions")
+pub fn unique_called(text: &str) -> Option<&[u8]>
+    ensures { option_map (λ name. name.now) result ≡ reading.unique_called text.now }
+{
+    let (name, row) = called(text)?;
+    if is_word(name, "unique") { Some(row) } else { None }
+}
+
 /// A name, `(`, a field's name and `)`, with spaces allowed between all parts and at both ends.
 /// (Guide: JSON Facet API, "Stat Facet Functions")
 pub fn statistic_of(schema: &Schema, text: &str) -> Result<Stat, Refusal<QFault>>
     ensures { Answers stat_view fault_view result (reading.statistic_of schema.now text.now) }
 {
-    let (name, rest) = cut_at_opening(text).ok_or(QFault::BadStatistic)?;
-    let (row, end) = cut_at_closing(rest).ok_or(QFault::BadStatistic)?;
-    let row = stripped(row.as_bytes());
-    if !are_spaces(end.as_bytes()) || !is_row(row) {
-        return Err(Refusal::Fault(QFault::BadStatistic));
-    }
-    let of = statistic_named(stripped(name.as_bytes())).ok_or(QFault::BadStatistic)?;
+    let (name, row) = called(text).ok_or(QFault::BadStatistic)?;
+    let of = statistic_named(name).ok_or(QFault::BadStatistic)?;
     let field = schema.find(row).ok_or(QFault::UnknownField)?;
     if !takes_texts(of) && !holds_integers(schema, field) {
         return Err(Refusal::Fault(QFault::WrongFieldType));

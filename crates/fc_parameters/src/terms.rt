@@ -13,7 +13,7 @@ use crate::refining::refining_in;
 use crate::words::{required, text_in, truth_in, whole_in};
 use fc_base::json::member;
 use fc_base::{FieldId, Name, Refusal, Schema};
-use fc_facet::{QFault, Sort, SortKey, Terms};
+use fc_facet::{QFault, Show, Sort, SortKey, Terms};
 use serde_json::{Map, Value};
 use std::alloc::Global;
 
@@ -73,8 +73,8 @@ fn over_number(limit: Option<u32>, number: i64) -> u32
     }
 }
 
-// `false` where the member is absent.
-pub(crate) fn optional_truth(
+/// `true` or `false`; `false` where the member is absent.
+pub fn optional_truth(
     members: &Map<String, Value>,
     name: &str,
 ) -> Result<bool, Refusal<QFault>>
@@ -157,5 +157,6 @@ pub fn terms_in(
         exact: refining.is_exactly(),
         overrequest: over_number(limit, overrequest),
         overrefine: over_number(limit, overrefine),
+        show: Show::Buckets,
     })
 }
