@@ -117,8 +117,9 @@ pub fn without_limits()
     ensures single_index { IsSingleWithoutLimits }
 {}
 
-/// The numbers of values and of buckets that the folded reply prints are those over the places of each bucket, on refined
-/// paths over all shards; its top buckets are those of a single index. Without limits it is the folded reply of a single index.
+/// Where numbers are asked for as they are spread, those that the folded reply prints are counted over the places of each
+/// bucket, on refined paths over all shards, and its top buckets are those of a single index. Without limits it is the
+/// folded reply of a single index.
 pub fn folds_into_numbers()
     ensures numbers { FoldsIntoNumbers }
     ensures paths { AreNumberedPathsExact }

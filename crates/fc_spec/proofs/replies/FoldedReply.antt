@@ -32,7 +32,7 @@ past e a b h (number name n more) = ap (λ t. number name n t) (past e a b h mor
 past e a b h (one name x more) = ap (λ here. one name (folded_bucket (inner_of here) x) (folded_facets e (rest_of here) more)) h
 past e a b h (many name row more) =
     ap (λ here. row_shown (show_first here) (number_for (show_first (rest_of here)) more) name row (folded_row (inner_of here) row) (folded_facets e (rest_of here) more)) h
-past e a b h (counted name n row more) = refl
+past e a b h (counted name n row more) = ap (λ ns. counted name n (folded_row (inner_of ns) row) (folded_facets e (rest_of ns) more)) h
 
 -- a statistic stays
 statistic_stays : (e b : Bool) (nodes : Nodes) (name : Text) (v : Option ℤ) (more more' : Facets) → folded_facets e nodes more ≡ more' → folded_facets e nodes (statistic_part b name v more) ≡ statistic_part b name v more'

@@ -20,7 +20,7 @@ numbered_part r W path its_buckets next f buckets more =
 numbered_part r W path its_number next f buckets more = statistic_part (length (path_places r W path) == 0) f.name (Some (pos (unique_of f.kind (path_places r W path)))) more
 numbered_part r W path number_beside next f buckets more = more
 
--- the facets printed for these nodes in the bucket of a path: each statistic and each number is that of the path's places, each facet has buckets of longer paths
+-- the facets printed for these nodes in the bucket of a path: each statistic and each number is that of the path's places, each facet that shows its buckets has those of longer paths
 abbrev pub AreNumberedFacetsOf : Request → World → Nodes → Path → Facets → Type 0
 AreNumberedFacetsOf r W no_nodes path facets = facets ≡ no_facets
 AreNumberedFacetsOf r W (statistic name s rest) path facets =
@@ -29,7 +29,7 @@ AreNumberedFacetsOf r W (facet f inner rest) path facets =
     (printed : Facets) × (more : Facets) × (facets ≡ numbered_part r W path (show_of f.kind) (show_first rest) f printed more)
     × IsFacetOf r W path f f.kind (λ k inside. AreNumberedFacetsOf r W inner (into path f k) inside) printed more × AreNumberedFacetsOf r W rest path more
 
--- the facets of the root: each that prints exactly has the buckets of a single index, with its numbers
+-- the facets of the root: each that prints exactly and shows its buckets has those of a single index, with its number where it is asked for
 abbrev pub AreNumberedTopsOf : Request → World → Nodes → Facets → Type 0
 AreNumberedTopsOf r W no_nodes facets = facets ≡ no_facets
 AreNumberedTopsOf r W (statistic name s rest) facets = (n : Option ℤ) × (more : Facets) × (facets ≡ with_number name n more) × AreNumberedTopsOf r W rest more

@@ -1,4 +1,4 @@
--- The folded reply: what is printed of the reply to a request in which numbers of buckets are asked for by facets of their own.
+-- The folded reply: what is printed of the reply to a request in which the numbers of values and of buckets are asked for by facets of their own. Guide: JSON Facet API, "Stat Facet Functions" (`unique`), "Terms Facet" (`numBuckets`).
 use Rattle.std.specs.Prelude.{ℕ, suc, pos, Bool, ◌&&◌, ◌==◌, if◌then◌else◌, Option, None, Some}
 use Rattle.fc_spec.specs.documents.Val.{Text}
 use Rattle.fc_spec.specs.words.Lists.{is_empty}
@@ -57,7 +57,9 @@ abbrev mutual
   folded_facets empty nodes (many name row more) =
       let here = from_printed empty nodes in
       row_shown (show_first here) (number_for (show_first (rest_of here)) more) name row (folded_row (inner_of here) row) (folded_facets empty (rest_of here) more)
-  folded_facets empty nodes (counted name n row more) = counted name n row more
+  folded_facets empty nodes (counted name n row more) =
+      let here = from_printed empty nodes in
+      counted name n (folded_row (inner_of here) row) (folded_facets empty (rest_of here) more)
 
   pub folded_row : Nodes → Row → Row
   folded_row nodes no_parts = no_parts

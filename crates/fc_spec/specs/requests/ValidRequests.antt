@@ -138,7 +138,7 @@ pub record IsValidRequest (s : Schema) (r : Request) : Type 0 where
   pub names : AreOrderedNodes r.nodes
   pub spread : IsSpread r
 
--- the same but for names, which may repeat, and for what shows numbers: a search can be made of it
+-- the same but for names, which may repeat, and for what shows numbers: shards and the coordinator can answer it
 pub record IsSearchable (s : Schema) (r : Request) : Type 0 where
   pub query : IsValidQuery s r.query
   pub filters : All (IsValidFilter s) r.filters
