@@ -34,3 +34,4 @@ pub mod TwoExclusions
 pub mod FilterAround
 pub mod StepInside
 pub mod ShownNumbers
+pub mod NumbersInBuckets

@@ -1,11 +1,11 @@
 -- How `unique` and `numBuckets` are read. Texts of JSON stand with ' in place of ".
 use Rattle.std.specs.Prelude.{◌≡◌, [], ◌∷◌, ◌++◌, Some, Ok, codes, refl}
 use Rattle.fc_spec.specs.requests.Request.{terms, no_nodes, facet}
-use Rattle.fc_spec.specs.requests.RequestFault.{unknown_key, unknown_field, bad_parameter, bad_statistic, unknown_sort}
+use Rattle.fc_spec.specs.requests.RequestFault.{unknown_key, unknown_field, bad_parameter, bad_statistic, unknown_sort, wrong_field_type, too_large}
 use Rattle.fc_spec.specs.requests.Spread.{number_facet}
 use Rattle.fc_rows.proofs.Words.{terms_on, named, asking}
-use Rattle.fc_rows.proofs.requests.RequestWords.{request_in, Fails, XFails, TermsFails, RangeFails, walked}
-use Rattle.fc_rows.proofs.requests.RequestSizes.{statistics, HasSize}
+use Rattle.fc_rows.proofs.requests.RequestWords.{request_in, Fails, FailsAt, XFails, TermsFails, RangeFails, walked}
+use Rattle.fc_rows.proofs.requests.RequestSizes.{statistics, asking as in_facets, HasSize}
 use Rattle.fc_rows.proofs.replies.ShortCount.{first_alone}
 use Rattle.fc_rows.proofs.replies.ShownNumbers.{asking_numbers}
 
@@ -28,19 +28,26 @@ pub number_faults :
 unfolding walked
 number_faults = (refl, refl, refl, refl, refl, refl)
 
--- a truth value of a terms facet alone, read behind `method` and in front of `domain`
+-- a truth value of a terms facet alone, read behind `prefix` and in front of `domain`
 pub beside_faults :
     TermsFails ",'numBuckets':1" bad_parameter
     × TermsFails ",'numBuckets':'true'" bad_parameter
     × TermsFails ",'numBuckets':null" bad_parameter
     × RangeFails ",'numBuckets':true" unknown_key
     × XFails "{'type':'query','q':'*:*','numBuckets':true}" unknown_key
+    × XFails "{'type':'terms','field':'zat','numBuckets':1}" unknown_field
+    × XFails "{'type':'terms','field':'n','prefix':'a','numBuckets':1}" wrong_field_type
     × TermsFails ",'numBuckets':1,'prefix':'a','domain':{'filter':'zat:a'}" bad_parameter
     × TermsFails ",'numBuckets':true,'domain':{'filter':'zat:a'}" unknown_field
 unfolding walked
-beside_faults = (refl, refl, refl, refl, refl, refl, refl)
+beside_faults = (refl, refl, refl, refl, refl, refl, refl, refl, refl)
 
--- what stands beside a facet is no node of the walk: sixty-four are read, and the request has one more
-pub not_counted : HasSize (statistics 63 ++ codes "'z':{'type':'terms','field':'cat','numBuckets':true}") 65 1
+-- what stands beside a facet is no node of the walk: sixty-four are read, and the request has one more; a `unique` is one
+pub not_counted :
+    HasSize (codes "'0':{'type':'terms','field':'cat','numBuckets':true}," ++ statistics 62 ++ codes "'z':'missing(id)'") 65 1
+    × FailsAt (in_facets (codes "'0':{'type':'terms','field':'cat','numBuckets':true}," ++ statistics 63 ++ codes "'z':'missing(id)'")) ("z" ∷ []) too_large
+    × HasSize (statistics 63 ++ codes "'z':{'type':'terms','field':'cat','numBuckets':true}") 65 1
+    × HasSize (statistics 63 ++ codes "'z':'unique(n)'") 64 1
+    × FailsAt (in_facets (statistics 64 ++ codes "'z':'unique(n)'")) ("z" ∷ []) too_large
 unfolding walked
-not_counted = refl
+not_counted = (refl, refl, refl, refl, refl)
