@@ -110,7 +110,11 @@ pub fn unique_called(text: &str) -> Option<&[u8]>
     ensures { option_map (λ name. name.now) result ≡ reading.unique_called text.now }
 {
     let (name, row) = called(text)?;
-    if is_word(name, "unique") { Some(row) } else { None }
+    if is_word(name, "unique") {
+        Some(row)
+    } else {
+        None
+    }
 }
 
 /// A name, `(`, a field's name and `)`, with spaces allowed between all parts and at both ends.

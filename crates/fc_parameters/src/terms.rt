@@ -74,10 +74,7 @@ fn over_number(limit: Option<u32>, number: i64) -> u32
 }
 
 /// `true` or `false`; `false` where the member is absent.
-pub fn optional_truth(
-    members: &Map<String, Value>,
-    name: &str,
-) -> Result<bool, Refusal<QFault>>
+pub fn optional_truth(members: &Map<String, Value>, name: &str) -> Result<bool, Refusal<QFault>>
     ensures { Answers (λ truth. truth) fault_view result
         (walk.said_or walk.truth_in false (get_member name.now (members_view members.now.entries))) }
 {
