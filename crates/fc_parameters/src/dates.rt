@@ -16,8 +16,7 @@ ghost use Rattle.fc_parameters.specs.DateEdges.{goes_on};
 
 use crate::fields::{field_in, holds_dates};
 use crate::range::{INCLUDE, OTHER, asks_beside, asks_for, asks_for_lower, range_in, words_in};
-use crate::terms::optional_truth;
-use crate::words::{required, text_in};
+use crate::words::{optional_truth, required, text_in};
 use fc_base::{FieldId, Name, Refusal, Schema};
 use fc_dates::{DateText, Gap, add_gap, canonical, read_gap};
 use fc_facet::{AnyRange, DateRange, QFault};

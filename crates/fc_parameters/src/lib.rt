@@ -19,5 +19,5 @@ pub use domain::{change_in, no_change};
 pub use filters::{filters_in, zero_in};
 pub use query::{main_query, query_part};
 pub use statistic::{statistic_of, unique_called};
-pub use terms::{optional_truth, terms_in};
-pub use words::{check_names, is_word, required, text_in};
+pub use terms::terms_in;
+pub use words::{check_names, is_word, optional_truth, required, text_in};

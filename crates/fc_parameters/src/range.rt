@@ -13,8 +13,7 @@ ghost use Rattle.fc_facet.specs.KindView.{range_view};
 ghost use Rattle.fc_parameters.specs.RangeParts.{words_behind, GoesOn};
 
 use crate::fields::{field_in, holds_integers};
-use crate::terms::optional_truth;
-use crate::words::{integer_in, required, texts_in};
+use crate::words::{integer_in, optional_truth, required, texts_in};
 use fc_base::json::{is_same, member};
 use fc_base::{FieldId, Refusal, Schema};
 use fc_facet::{QFault, Range};

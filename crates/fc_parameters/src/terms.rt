@@ -1,5 +1,5 @@
 // The parameters of a terms facet.
-ghost use Rattle.std.specs.Prelude.{◌≡◌, ◌<◌, ◌≤ℤ◌, [], None, codes, false, pos, length, unsigned_abs, IfOk};
+ghost use Rattle.std.specs.Prelude.{◌≡◌, ◌<◌, ◌≤ℤ◌, [], None, codes, pos, length, unsigned_abs, IfOk};
 ghost use Rattle.serde_json.specs.Find.{get_member};
 ghost use Rattle.serde_json.specs.View.{view, members_view};
 ghost use Rattle.fc_spec.specs.requests.FacetReading as reading;
@@ -10,7 +10,7 @@ ghost use Rattle.fc_facet.specs.KindView.{terms_view};
 
 use crate::fields::{field_in, holds_texts};
 use crate::refining::refining_in;
-use crate::words::{required, text_in, truth_in, whole_in};
+use crate::words::{optional_truth, required, text_in, whole_in};
 use fc_base::json::member;
 use fc_base::{FieldId, Name, Refusal, Schema};
 use fc_facet::{QFault, Show, Sort, SortKey, Terms};
@@ -70,17 +70,6 @@ fn over_number(limit: Option<u32>, number: i64) -> u32
         None => 0,
         Some(_) if number >= 0 => number as u32,
         Some(limit) => limit / 10 + 4,
-    }
-}
-
-/// `true` or `false`; `false` where the member is absent.
-pub fn optional_truth(members: &Map<String, Value>, name: &str) -> Result<bool, Refusal<QFault>>
-    ensures { Answers (λ truth. truth) fault_view result
-        (walk.said_or walk.truth_in false (get_member name.now (members_view members.now.entries))) }
-{
-    match member(members, name) {
-        Some(json) => truth_in(json),
-        None => Ok(false),
     }
 }
 

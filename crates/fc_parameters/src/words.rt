@@ -1,5 +1,5 @@
 // Words for the readers: members, and values that are numbers, truth values, texts or objects.
-ghost use Rattle.std.specs.Prelude.{◌≡◌, map, ok_or};
+ghost use Rattle.std.specs.Prelude.{◌≡◌, false, map, ok_or};
 ghost use Rattle.serde_json.specs.Find.{as_object, get_member};
 ghost use Rattle.serde_json.specs.View.{view, items_view, members_view};
 ghost use Rattle.fc_spec.specs.documents.Val.{same_text};
@@ -68,6 +68,17 @@ pub(crate) fn truth_in(json: &Value) -> Result<bool, Refusal<QFault>>
     match json.as_bool() {
         Some(truth) => Ok(truth),
         None => Err(Refusal::Fault(QFault::BadParameter)),
+    }
+}
+
+/// `true` or `false`; `false` where the member is absent.
+pub fn optional_truth(members: &Map<String, Value>, name: &str) -> Result<bool, Refusal<QFault>>
+    ensures { Answers (λ truth. truth) fault_view result
+        (walk.said_or walk.truth_in false (get_member name.now (members_view members.now.entries))) }
+{
+    match member(members, name) {
+        Some(json) => truth_in(json),
+        None => Ok(false),
     }
 }
 
