@@ -17,7 +17,7 @@ use Rattle.fc_column.proofs.TermOrder.{term_placed}
 use Rattle.fc_domain.proofs.TextRows.{texts_pass, to_end}
 use Rattle.fc_kind.specs.PlaceAt.{place_at}
 use Rattle.fc_kind.proofs.PlaceColumns.{row_at}
-use Rattle.fc_date_range.proofs.Tests.{is_below}
+use Rattle.fc_range.proofs.Tests.{is_below}
 use Rattle.fc_date_range.specs.Spans.{IsSpanOf}
 
 module _ (g : DateRange) (key : Key) (column : List (List Text)) (from past : ℕ) (span : IsSpanOf column (holds_date g key) from past) where

@@ -1,10 +1,9 @@
 -- The gaps that hold some of the dates of a document, one date after another, by their ordinals.
-use Rattle.std.proofs.Common.{◌≡◌, ℕ, zero, suc, ◌<◌, ◌≤◌, All, Bool, true, false, ◌&&◌, ◌||◌, List, [], ◌∷◌, length, map, get_or, take, refl, sym, ap, ap₂, ◌∙◌, arith}
+use Rattle.std.proofs.Common.{◌≡◌, ℕ, ◌<◌, ◌≤◌, All, Bool, true, ◌&&◌, ◌||◌, List, [], ◌∷◌, length, map, get_or, take, refl, ap, ap₂, ◌∙◌}
 use Rattle.std.specs.List.{list_any}
 use Rattle.std.specs.List.Sorted.{IsStrictlyIncreasing}
 use Rattle.std.specs.Ordering.{is_lt}
-use Rattle.std.specs.Prelude.{nat_lt}
-use Rattle.std.proofs.lemmas.Bool.{false≢true, or_left, or_right}
+use Rattle.std.proofs.lemmas.Bool.{or_left, or_right}
 use Rattle.std.proofs.lemmas.List.Folds.{list_any_at}
 use Rattle.std.proofs.lemmas.List.Kept.{AllPairs-from_increasing}
 use Rattle.fc_spec.specs.documents.Columns.{column_of}
@@ -21,23 +20,10 @@ use Rattle.fc_facet.specs.RangeGaps.{HasFewEdges}
 use Rattle.fc_kind.specs.PlaceAt.{place_at}
 use Rattle.fc_kind.proofs.PlaceColumns.{row_at}
 use Rattle.fc_date_range.proofs.NearDates.{gaps_ascend}
-use Rattle.fc_date_range.proofs.Tests.{below_is, is_below}
-use Rattle.fc_date_range.specs.ReachedDates.{has_date}
-
--- some of the first members passes
-some_of_first : {X P : Type 0} (p : X → Bool) (xs : List X) (k : ℕ) (d : X) → ((m : ℕ) → m < k → p (get_or xs m d) ≡ true → P) → list_any p (take k xs) ≡ true → P
-some_of_first p [] zero d found e = absurd (false≢true e)
-some_of_first p [] (suc k) d found e = absurd (false≢true e)
-some_of_first p (x ∷ xs) zero d found e = absurd (false≢true e)
-some_of_first {X} {P} p (x ∷ xs) (suc k) d found e = go (p x) refl (some_of_first p xs k d (λ m l s. found (suc m) (omega arith) s))
-  where
-    go : (b : Bool) → p x ≡ b → (list_any p (take k xs) ≡ true → P) → P
-    go true h later = found 0 (omega arith) h
-    go false h later = later (sym (ap (λ b. b || list_any p (take k xs)) h) ∙ e)
-
-split : (a b : Bool) → (a && b) ≡ true → (a ≡ true) × (b ≡ true)
-split true b e = (refl, e)
-split false b e = absurd (false≢true e)
+use Rattle.fc_range.proofs.GapRows.{some_of_first}
+use Rattle.fc_range.proofs.GapSteps.{there_parts}
+use Rattle.fc_range.proofs.Tests.{below_is}
+use Rattle.fc_date_range.specs.GapDates.{has_date}
 
 -- the term of an ordinal
 abbrev pub term_at : List (List Text) → ℕ → Text
@@ -48,10 +34,6 @@ abbrev pub has_term : List (List Text) → DateRange → ℕ → ℕ → Bool
 has_term column g i ord = has_date g (term_at column ord) i
 
 module _ (g : DateRange) where
-  -- a gap that is there
-  pub held_parts : (t : Text) (i : ℕ) → has_date g t i ≡ true → (i < date_gap_count g) × (in_date_gap g i t ≡ true)
-  held_parts t i e = let parts = split (nat_lt i (date_gap_count g)) (in_date_gap g i t) e in (is_below i (date_gap_count g) parts.0, parts.1)
-
   -- of ordinals that increase, the gaps of a later one are none before those of an earlier one
   pub later_gaps : (column : List (List Text)) → HasFewEdges g → (row : List ℕ) (k : ℕ) → IsStrictlyIncreasing row → All (λ ord. ord < length (terms_of column)) row → k < length row
       → (i j : ℕ) → list_any (has_term column g j) (take k row) ≡ true → has_term column g i (get_or row k 0) ≡ true → j ≤ i
@@ -60,8 +42,8 @@ module _ (g : DateRange) where
       (λ m before e.
       let t = term_at column (get_or row k 0) in
       let s = term_at column (get_or row m 0) in
-      let first = held_parts t i later in
-      let second = held_parts s j e in
+      let first = there_parts (date_gap_count g) (λ n. in_date_gap g n t) i later in
+      let second = there_parts (date_gap_count g) (λ n. in_date_gap g n s) j e in
       gaps_ascend g few i j t s first.0 second.0 second.1 first.1
       (ap is_lt (terms_ascend column (get_or row m 0) (get_or row k 0) [] (AllPairs-from_increasing row rises m k 0 before here) (within k 0 here)))) earlier
 

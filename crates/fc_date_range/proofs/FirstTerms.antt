@@ -12,6 +12,7 @@ use Rattle.fc_column.proofs.SortedTerms.{place_of_term}
 use Rattle.fc_column.proofs.TermLists.{has_text-terms_of}
 use Rattle.fc_column.proofs.TermOrder.{terms_ascend}
 use Rattle.fc_domain.proofs.TextRows.{from_excluding, from_including}
+use Rattle.fc_range.proofs.Tests.{from_is}
 use Rattle.fc_date_range.proofs.HeldDates.{from_held, from_left, not_to_held, not_to_left}
 use Rattle.fc_date_range.proofs.Tests as tests
 use Rattle.fc_date_range.specs.HeldDates.{is_from, is_to}
@@ -80,7 +81,7 @@ module _ (column : List (List Text)) where
     | inl less ↦
         let within = f.within in
         let here : b < length (terms_of column) = omega arith in
-        let passes = weaker (get_or (terms_of column) b []) (sym (g.exact b here) ∙ tests.from_is b b (omega arith)) in
+        let passes = weaker (get_or (terms_of column) b []) (sym (g.exact b here) ∙ from_is b b (omega arith)) in
         tests.is_from a b (f.exact b here ∙ passes)
     | inr more ↦ more
   ]

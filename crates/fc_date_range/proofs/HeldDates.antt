@@ -6,10 +6,10 @@ use Rattle.std.proofs.lemmas.Map.Lookups.{exact_bytes}
 use Rattle.std.specs.Ordering.{is_eq, is_le, is_lt, ordering_reverse}
 use Rattle.std.specs.declared.cmp.Ordering.{Ordering}
 use Rattle.std.specs.declared.cmp.Ordering.TheVariants.{Less, Equal, Greater}
+use Rattle.std.proofs.Math.Bool.{and-false, and-true, or-false}
 use Rattle.fc_spec.specs.documents.Val.{Text, same_text, text_cmp}
 use Rattle.fc_spec.specs.requests.DateGaps.{date_lies_in, is_before}
 use Rattle.fc_domain.proofs.TextOrder.{le-not_lt, le_lt, lt-not_le, lt_le}
-use Rattle.fc_date_range.proofs.Tests.{and_false, and_true, or_false}
 use Rattle.fc_date_range.specs.HeldDates.{is_from, is_to}
 
 -- ---- at an end that is held, and at one that is not
@@ -30,13 +30,13 @@ pub from_held : (low t : Text) → is_from low true t ≡ is_le (text_cmp low t)
 from_held low t = ap (λ b. is_before low t || b) (same_turned t low) ∙ le_parts (text_cmp low t)
 
 pub from_left : (low t : Text) → is_from low false t ≡ is_lt (text_cmp low t)
-from_left low t = or_false (is_before low t)
+from_left low t = or-false (is_before low t)
 
 pub not_to_held : (high t : Text) → not (is_to high true t) ≡ is_lt (text_cmp high t)
 not_to_held high t = ap not (le_parts (text_cmp t high)) ∙ sym (lt-not_le high t)
 
 pub not_to_left : (high t : Text) → not (is_to high false t) ≡ is_le (text_cmp high t)
-not_to_left high t = ap not (or_false (is_before t high)) ∙ sym (le-not_lt high t)
+not_to_left high t = ap not (or-false (is_before t high)) ∙ sym (le-not_lt high t)
 
 -- ---- an end that is further on
 le_if_from : (low : Text) (with_low : Bool) (t : Text) → is_from low with_low t ≡ true → is_le (text_cmp low t) ≡ true
@@ -45,7 +45,7 @@ le_if_from low false t e = sym (le_parts (text_cmp low t)) ∙ or_left (is_lt (t
 
 le_if_to : (high : Text) (with_high : Bool) (t : Text) → is_to high with_high t ≡ true → is_le (text_cmp t high) ≡ true
 le_if_to high true t e = sym (le_parts (text_cmp t high)) ∙ e
-le_if_to high false t e = sym (le_parts (text_cmp t high)) ∙ or_left (is_lt (text_cmp t high)) (is_eq (text_cmp t high)) (sym (or_false (is_before t high)) ∙ e)
+le_if_to high false t e = sym (le_parts (text_cmp t high)) ∙ or_left (is_lt (text_cmp t high)) (is_eq (text_cmp t high)) (sym (or-false (is_before t high)) ∙ e)
 
 pub from_earlier : (a b : Text) (with_a with_b : Bool) (t : Text) → is_before a b ≡ true → is_from b with_b t ≡ true → is_from a with_a t ≡ true
 from_earlier a b with_a with_b t order e = or_left (is_before a t) (with_a && same_text t a) (lt_le a b t order (le_if_from b with_b t e))
@@ -67,14 +67,14 @@ module _ (low high t : Text) (order : is_before low high ≡ true) (with_low wit
 
   by_order : (o p : Ordering) → text_cmp low t ≡ o → text_cmp t high ≡ p → both o p
   by_order Less Less e f = refl
-  by_order Less Equal e f = λ i. and_false with_low i || (with_high && true)
-  by_order Less Greater e f = λ i. and_false with_low i || (with_high && false)
-  by_order Equal Less e f = ap (λ b. (with_low && true) || b) (and_false with_high) ∙ or_false (with_low && true) ∙ sym (and_true (with_low && true))
+  by_order Less Equal e f = λ i. and-false with_low i || (with_high && true)
+  by_order Less Greater e f = λ i. and-false with_low i || (with_high && false)
+  by_order Equal Less e f = ap (λ b. (with_low && true) || b) (and-false with_high) ∙ or-false (with_low && true) ∙ sym (and-true (with_low && true))
   by_order Equal Equal e f = absurd (false≢true (sym (ap is_lt f) ∙ ap (λ u. is_before u high) (sym (exact_bytes low t e)) ∙ order))
   by_order Equal Greater e f = absurd (false≢true (sym (ap is_lt f) ∙ ap (λ u. is_before u high) (sym (exact_bytes low t e)) ∙ order))
-  by_order Greater Less e f = (λ i. and_false with_low i || and_false with_high i) ∙ sym (λ i. and_false with_low i && true)
+  by_order Greater Less e f = (λ i. and-false with_low i || and-false with_high i) ∙ sym (λ i. and-false with_low i && true)
   by_order Greater Equal e f = absurd (false≢true (sym (ap is_lt e) ∙ ap (λ u. is_before low u) (exact_bytes t high f) ∙ order))
-  by_order Greater Greater e f = (λ i. and_false with_low i || and_false with_high i) ∙ sym (λ i. and_false with_low i && (with_high && false))
+  by_order Greater Greater e f = (λ i. and-false with_low i || and-false with_high i) ∙ sym (λ i. and-false with_low i && (with_high && false))
 
   pub lies_both : date_lies_in low with_low high with_high t ≡ (is_from low with_low t && is_to high with_high t)
   lies_both =
@@ -88,11 +88,11 @@ pub lies_at : (date t : Text) (with_low with_high : Bool) → date_lies_in date 
 lies_at date t with_low with_high = ap (λ b. (b || (with_low && same_text t date)) || (with_high && same_text t date)) (apart (text_cmp date t) refl) ∙ either with_low (same_text t date)
   where
     apart : (o : Ordering) → text_cmp date t ≡ o → (is_before date t && is_before t date) ≡ false
-    apart Less e = ap (λ b. is_before date t && b) (ap is_lt (nat_list_cmp_total.antisymm t date ∙ ap ordering_reverse e)) ∙ and_false (is_before date t)
+    apart Less e = ap (λ b. is_before date t && b) (ap is_lt (nat_list_cmp_total.antisymm t date ∙ ap ordering_reverse e)) ∙ and-false (is_before date t)
     apart Equal e = ap (λ o. is_lt o && is_before t date) e
     apart Greater e = ap (λ o. is_lt o && is_before t date) e
 
     either : (a s : Bool) → ((a && s) || (with_high && s)) ≡ ((a || with_high) && s)
     either true true = refl
-    either true false = and_false with_high
+    either true false = and-false with_high
     either false s = refl

@@ -5,15 +5,10 @@ pub mod Edges
 pub mod BucketSpans
 pub mod RisingSpans
 pub mod SpansSoFar
-pub mod CountedOnce
-pub mod Selected
 pub mod BucketRows
-pub mod GapBuckets
 pub mod GapRows
 pub mod BesideGaps
 pub mod Reached
 pub mod EndedSpans
 pub mod NearDates
-pub mod ReachedDates
-pub mod DateSteps
 pub mod DateRows

@@ -1,27 +1,16 @@
 -- Which gaps are near a date, and how gaps lie beside each other.
-use Rattle.std.proofs.Common.{◌≡◌, ◌⊎◌, inl, inr, ℕ, ◌+◌, ◌<◌, ◌≤◌, Bool, true, false, not, ◌&&◌, ◌||◌, length, refl, sym, ap, ◌∙◌, arith}
+use Rattle.std.proofs.Common.{◌≡◌, ◌⊎◌, inl, inr, ℕ, ◌+◌, ◌<◌, ◌≤◌, Bool, true, false, not, ◌&&◌, ◌||◌, length, sym, ap, ◌∙◌, arith}
 use Rattle.std.specs.Ordering.{is_le}
-use Rattle.std.proofs.lemmas.Bool.{cases_eq, cases_lt, false≢true}
+use Rattle.std.proofs.lemmas.Bool.{and_parts, cases_eq, cases_lt, false≢true}
 use Rattle.fc_spec.specs.documents.Val.{Text, same_text, text_cmp}
 use Rattle.fc_spec.specs.requests.DateGaps.{date_gap_count, date_lies_in, high_date, in_date_gap, is_before, low_date}
 use Rattle.fc_spec.specs.requests.Request.{DateRange}
 use Rattle.fc_spec.proofs.words.Texts.{equal}
 use Rattle.fc_domain.proofs.TextOrder.{le-not_lt, le_from_lt, le_itself, lt_itself, lt_le}
 use Rattle.fc_facet.specs.RangeGaps.{HasFewEdges}
+use Rattle.fc_range.proofs.NearGaps.{or_cases}
 use Rattle.fc_date_range.proofs.Edges.{edge_before, ends_in_order}
 use Rattle.fc_date_range.specs.HeldDates.{holds_high, holds_low}
-
-or_cases : {P : Type 0} (a b : Bool) → (a ≡ true → P) → (b ≡ true → P) → (a || b) ≡ true → P
-or_cases true b left right h = left refl
-or_cases false b left right h = right h
-
-first_holds : (a b : Bool) → (a && b) ≡ true → a ≡ true
-first_holds true b h = refl
-first_holds false b h = h
-
-second_holds : (a b : Bool) → (a && b) ≡ true → b ≡ true
-second_holds true b h = h
-second_holds false b h = absurd (false≢true h)
 
 -- what lies in is between the ends
 between_ends : (low high t : Text) (with_low with_high : Bool) → is_before low high ≡ true → date_lies_in low with_low high with_high t ≡ true → (is_le (text_cmp low t) ≡ true) × (is_le (text_cmp t high) ≡ true)
@@ -30,12 +19,12 @@ between_ends low high t with_low with_high order =
     let inside = is_before low t && is_before t high in
     or_cases {P = P} (inside || (with_low && same_text t low)) (with_high && same_text t high)
     (or_cases {P = P} inside (with_low && same_text t low)
-    (λ e. (le_from_lt low t (first_holds (is_before low t) (is_before t high) e), le_from_lt t high (second_holds (is_before low t) (is_before t high) e)))
+    (λ e. let parts = and_parts (is_before low t) (is_before t high) e in (le_from_lt low t parts.0, le_from_lt t high parts.1))
     (λ e.
-    let same : low ≡ t = sym (equal t low (second_holds with_low (same_text t low) e)) in
+    let same : low ≡ t = sym (equal t low (and_parts with_low (same_text t low) e).1) in
     (sym (ap (λ u. is_le (text_cmp low u)) same) ∙ le_itself low, sym (ap (λ u. is_le (text_cmp u high)) same) ∙ le_from_lt low high order)))
     (λ e.
-    let same : high ≡ t = sym (equal t high (second_holds with_high (same_text t high) e)) in
+    let same : high ≡ t = sym (equal t high (and_parts with_high (same_text t high) e).1) in
     (sym (ap (λ u. is_le (text_cmp low u)) same) ∙ le_from_lt low high order, sym (ap (λ u. is_le (text_cmp u high)) same) ∙ le_itself high))
 
 -- one that is before another is no later

@@ -1,22 +1,20 @@
 -- Gaps that are reached by one ordinal after another, which ascend.
 use Rattle.std.proofs.Common.{◌≡◌, ◌<◌, ◌≤◌, ℕ, List, length, Bool, true, false, ◌&&◌, ◌||◌, refl, sym, ap, ◌∙◌, arith, inl, inr}
 use Rattle.std.specs.Prelude.{nat_le, nat_lt}
-use Rattle.std.proofs.lemmas.Bool.{cases_lt, false≢true, or_left, or_right}
+use Rattle.std.proofs.lemmas.Bool.{and_parts, cases_lt, false≢true, or_left, or_right}
 use Rattle.std.proofs.lemmas.List.{get_or_past}
-use Rattle.fc_date_range.proofs.Tests.{and_false, before_is, below_is, from_is, is_below, is_from, past_is}
+use Rattle.std.proofs.Math.Bool.{and-false}
+use Rattle.fc_range.proofs.Tests.{before_is, below_is, from_is, is_below, past_is}
+use Rattle.fc_date_range.proofs.Tests.{is_from}
 use Rattle.fc_date_range.specs.GapSpans.{is_held, no_span, span_at}
 use Rattle.fc_date_range.specs.Reached.{AreReached, Reaches}
 use Rattle.fc_date_range.specs.declared.span.Span.{Span}
-
-split : (a b : Bool) → (a && b) ≡ true → (a ≡ true) × (b ≡ true)
-split true b e = (refl, e)
-split false b e = absurd (false≢true e)
 
 module _ (spans : List Span) where
   -- one that holds an ordinal begins no later, ends behind it, and is there
   pub held_parts : (ord i : ℕ) → is_held spans ord i ≡ true → ((span_at spans i).from ≤ ord) × (ord < (span_at spans i).past)
   held_parts ord i e =
-      let parts = split (nat_le (span_at spans i).from ord) (nat_lt ord (span_at spans i).past) e in
+      let parts = and_parts (nat_le (span_at spans i).from ord) (nat_lt ord (span_at spans i).past) e in
       (is_from (span_at spans i).from ord parts.0, is_below ord (span_at spans i).past parts.1)
 
   pub held_if : (ord i : ℕ) → (span_at spans i).from ≤ ord → ord < (span_at spans i).past → is_held spans ord i ≡ true
@@ -26,7 +24,7 @@ module _ (spans : List Span) where
   not_held_before ord i before = ap (λ b. b && nat_lt ord (span_at spans i).past) (before_is (span_at spans i).from ord before)
 
   not_held_past : (ord i : ℕ) → (span_at spans i).past ≤ ord → is_held spans ord i ≡ false
-  not_held_past ord i past = ap (λ b. nat_le (span_at spans i).from ord && b) (past_is ord (span_at spans i).past past) ∙ and_false (nat_le (span_at spans i).from ord)
+  not_held_past ord i past = ap (λ b. nat_le (span_at spans i).from ord && b) (past_is ord (span_at spans i).past past) ∙ and-false (nat_le (span_at spans i).from ord)
 
   pub none_there : (ord i : ℕ) → length spans ≤ i → is_held spans ord i ≡ false
   none_there ord i past =
@@ -48,15 +46,15 @@ module _ (spans : List Span) where
       | inl before ↦ ap (λ b. b && is_held spans ord i) (before_is old i before) ∙ sym (ap (λ b. b && nat_lt i new) (before_is start i (omega arith)))
       | inr from ↦ elim (cases_lt i ended) [
         | inl over ↦
-            ap (λ b. nat_le old i && b) (not_held_past ord i (past i over)) ∙ and_false (nat_le old i)
+            ap (λ b. nat_le old i && b) (not_held_past ord i (past i over)) ∙ and-false (nat_le old i)
             ∙ sym (ap (λ b. b && nat_lt i new) (before_is start i (omega arith)))
         | inr up ↦ elim (cases_lt i new) [
           | inl inside ↦
               let on = either i from up in
               (λ j. from_is old i from j && held_if ord i (begun i on inside) (left i up there) j) ∙ sym (λ j. from_is start i on j && below_is i new inside j)
           | inr out ↦
-              ap (λ b. nat_le old i && b) (not_held_before ord i (behind i out there)) ∙ and_false (nat_le old i)
-              ∙ sym (ap (λ b. nat_le start i && b) (past_is i new out) ∙ and_false (nat_le start i))
+              ap (λ b. nat_le old i && b) (not_held_before ord i (behind i out there)) ∙ and-false (nat_le old i)
+              ∙ sym (ap (λ b. nat_le start i && b) (past_is i new out) ∙ and-false (nat_le start i))
         ]
       ]
     ]
@@ -101,7 +99,7 @@ module _ (spans : List Span) where
       where
         go : (s : Bool) → seen i ≡ s → (h : Bool) → is_held spans ord i ≡ h → (seen i || (nat_le mid i && is_held spans ord i)) ≡ (seen i || is_held spans ord i)
         go true s h e = ap (λ c. c || (nat_le mid i && is_held spans ord i)) s ∙ sym (ap (λ c. c || is_held spans ord i) s)
-        go false s false e = ap (λ c. seen i || c) (ap (λ c. nat_le mid i && c) e ∙ and_false (nat_le mid i) ∙ sym e)
+        go false s false e = ap (λ c. seen i || c) (ap (λ c. nat_le mid i && c) e ∙ and-false (nat_le mid i) ∙ sym e)
         go false s true e = elim (cases_lt i mid) [
           | inl below ↦ absurd (false≢true (sym s ∙ a.settled i ord below (omega arith) e))
           | inr past ↦ ap (λ c. seen i || (c && is_held spans ord i)) (from_is mid i past)

@@ -3,4 +3,4 @@ pub mod Spans
 pub mod GapSpans
 pub mod GapKeys
 pub mod Reached
-pub mod ReachedDates
+pub mod GapDates

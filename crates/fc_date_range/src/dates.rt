@@ -27,10 +27,11 @@ mod holding;
 use counting::count_date;
 use fc_base::{Stat, WantMemory};
 use fc_column::TextColumn;
-use fc_count::{Keys, Numbering, add_cells, counted_cells};
+use fc_count::{Numbering, add_cells, counted_cells};
 use fc_docset::DocSet;
 use fc_facet::DateRange;
-use fc_partial::{Cells, Key, StatValue, Stats, Tally};
+use fc_partial::{Cells, StatValue, Tally};
+use fc_range::GapKeys;
 use fc_segment::Segment;
 use std::alloc::Global;
 
@@ -63,20 +64,6 @@ impl Numbering for GapDates<'_> {
     }
 }
 
-impl Keys for GapDates<'_> {
-    ghost use Rattle.std.specs.Prelude.{◌^◌, pos, ◌≤ℤ◌, ◌<ℤ◌};
-    ghost use Rattle.fc_date_range.specs.GapKeys.{gap_key};
-
-    ghost has_key = { λ _ number. (pos 0 ≤ℤ number) × (number <ℤ pos (2 ^ 32)) };
-
-    ghost key = { λ _ number. gap_key number };
-
-    fn add(&self, number: i64, stats: &Stats, into: &mut Tally) -> Result<(), WantMemory> {
-        into.add(Key::Gap(number as u32), stats)?;
-        Ok(())
-    }
-}
-
 /// Collects the buckets of the gaps, one document after another, each by its own dates.
 pub(crate) fn collect_by_dates(
     alloc: Global,
@@ -105,6 +92,6 @@ pub(crate) fn collect_by_dates(
     let gaps = GapDates { range, column };
     let bound = range.gaps() as usize;
     let cells = counted_cells(alloc, segment, docs, stats, bound, &gaps)?;
-    add_cells(alloc, &cells, bound, &gaps, into)?;
+    add_cells(alloc, &cells, bound, &GapKeys, into)?;
     Ok(())
 }

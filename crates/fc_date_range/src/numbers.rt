@@ -6,7 +6,8 @@ use crate::span::Span;
 use fc_base::WantMemory;
 use fc_column::TextColumn;
 use fc_count::{Keys, Numbering, Postings};
-use fc_partial::{Cells, Key, StatValue, Stats, Tally};
+use fc_partial::{Cells, StatValue, Stats, Tally};
+use fc_range::GapKeys;
 
 /// The gaps of a range facet over dates by their numbers: each counts the documents with a text in its span.
 #[derive(Clone, Copy)]
@@ -53,14 +54,13 @@ impl Postings for GapSpans<'_> {
 
 impl Keys for GapSpans<'_> {
     ghost use Rattle.std.specs.Prelude.{◌^◌, pos, ◌≤ℤ◌, ◌<ℤ◌};
-    ghost use Rattle.fc_date_range.specs.GapKeys.{gap_key};
+    ghost use Rattle.fc_range.specs.GapKeys.{gap_key};
 
     ghost has_key = { λ _ number. (pos 0 ≤ℤ number) × (number <ℤ pos (2 ^ 32)) };
 
     ghost key = { λ _ number. gap_key number };
 
     fn add(&self, number: i64, stats: &Stats, into: &mut Tally) -> Result<(), WantMemory> {
-        into.add(Key::Gap(number as u32), stats)?;
-        Ok(())
+        GapKeys.add(number, stats, into)
     }
 }

@@ -5,13 +5,11 @@ use Rattle.std.proofs.lemmas.Bool.{false_from_ne_true, false≢true}
 use Rattle.fc_spec.specs.documents.Document.{Block}
 use Rattle.fc_spec.specs.messages.KeyOrder.{same_key}
 use Rattle.fc_spec.specs.requests.Buckets.{Key, value, missing, gap, before, between, after, whole}
-use Rattle.fc_spec.specs.requests.Gaps.{gap_count}
-use Rattle.fc_spec.specs.requests.Request.{Range, range}
+use Rattle.fc_spec.specs.requests.Request.{Kind}
 use Rattle.fc_spec.proofs.messages.Keys.{same_key_exact}
-use Rattle.fc_count.specs.Added.{AreApart}
 use Rattle.fc_count.proofs.CountedBuckets.{IsCountedOrNone}
 use Rattle.fc_range.proofs.Tests.{below_is, is_below}
-use Rattle.fc_range.specs.GapKeys.{gap_key, is_gap_of}
+use Rattle.fc_range.specs.GapKeys.{gap_key, is_gap_below}
 
 number_of : Key → ℕ
 number_of (gap i) = i
@@ -22,18 +20,16 @@ pub other_gap : (i j : ℕ) → (i ≡ j → ⊥) → same_key (gap i) (gap j) �
 unfolding number_of
 other_gap i j other = false_from_ne_true (same_key (gap i) (gap j)) (λ e. other (ap number_of (same_key_exact (gap i) (gap j) e)))
 
-pub gaps_apart : (bound : ℕ) → AreApart gap_key bound
-gaps_apart bound i j first second other = other_gap i j other
+module _ (count bound : ℕ) (all : count ≡ bound) where
+  pub gap_there : (i : ℕ) → i < bound → nat_lt i count ≡ true
+  gap_there i here = below_is i count (omega (arith, all))
 
-pub gap_there : (g : Range) (bound i : ℕ) → gap_count g ≡ bound → i < bound → nat_lt i (gap_count g) ≡ true
-gap_there g bound i e here = below_is i (gap_count g) (omega (arith, e))
-
--- each key of a gap is that of a number
-pub gap_found : (g : Range) (blocks : List Block) (bound : ℕ) → gap_count g ≡ bound → (k : Key) → is_gap_of g k ≡ true → IsCountedOrNone blocks (range g) gap_key bound k
-gap_found g blocks bound e (gap i) h = inl (i, (let here = is_below i (gap_count g) h in omega (arith, e), refl))
-gap_found g blocks bound e (value v) h = absurd (false≢true h)
-gap_found g blocks bound e missing h = absurd (false≢true h)
-gap_found g blocks bound e before h = absurd (false≢true h)
-gap_found g blocks bound e between h = absurd (false≢true h)
-gap_found g blocks bound e after h = absurd (false≢true h)
-gap_found g blocks bound e whole h = absurd (false≢true h)
+  -- each key of a gap is that of a number
+  pub gap_found : (kind : Kind) (blocks : List Block) (k : Key) → is_gap_below count k ≡ true → IsCountedOrNone blocks kind gap_key bound k
+  gap_found kind blocks (gap i) h = inl (i, (let here = is_below i count h in omega (arith, all), refl))
+  gap_found kind blocks (value v) h = absurd (false≢true h)
+  gap_found kind blocks missing h = absurd (false≢true h)
+  gap_found kind blocks before h = absurd (false≢true h)
+  gap_found kind blocks between h = absurd (false≢true h)
+  gap_found kind blocks after h = absurd (false≢true h)
+  gap_found kind blocks whole h = absurd (false≢true h)

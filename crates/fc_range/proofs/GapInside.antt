@@ -6,13 +6,14 @@ use Rattle.std.proofs.lemmas.Bool.{cases_eq, false_from_ne_true, false≢true}
 use Rattle.std.proofs.lemmas.Int.{ints}
 use Rattle.std.proofs.lemmas.Nat.{div-add-mod'}
 use Rattle.std.proofs.Math.Nat.{mod-lt}
+use Rattle.std.proofs.Math.Bool.{and-false}
 use Rattle.fc_spec.specs.requests.Gaps.{gap_count, high_end, in_gap, is_last_gap, lies_in, low_end}
 use Rattle.fc_spec.specs.requests.Request.{Range}
 use Rattle.fc_facet.specs.RangeGaps.{HasFewGaps}
 use Rattle.fc_facet.proofs.RangeGaps.{product_is, some_step}
 use Rattle.fc_range.proofs.NearGaps.{near_gaps}
 use Rattle.fc_range.specs.Reached.{is_held}
-use Rattle.fc_range.proofs.Tests.{and_false, below_is}
+use Rattle.fc_range.proofs.Tests.{below_is}
 
 below : (a b : ℤ) → a <ℤ b → int_lt a b ≡ true
 below a b h = grind (arith, ints)
@@ -31,7 +32,7 @@ inside_is low high x with_low with_high h k =
 above_is : (low high x : ℤ) (with_low with_high : Bool) → low <ℤ x → high <ℤ x → lies_in low with_low high with_high x ≡ false
 above_is low high x with_low with_high h k =
     (λ j. ((int_lt low x && not_below x high k j) || (with_low && not_same low x h j)) || (with_high && not_same high x k j))
-    ∙ (λ j. (and_false (int_lt low x) j || and_false with_low j) || and_false with_high j)
+    ∙ (λ j. (and-false (int_lt low x) j || and-false with_low j) || and-false with_high j)
 
 further : (a x : ℤ) (n m : ℕ) → x ≡ a +ℤ pos n → m < n → (a +ℤ pos m) <ℤ x
 further a x n m is h = omega (arith, ints)
@@ -68,7 +69,7 @@ module _ (g : Range) (few : HasFewGaps g) where
     other : (i : ℕ) → i + 1 ≡ n / step → in_gap g i x ≡ false
     other i e =
         let early : is_last_gap g i ≡ false = ne_eqb (gap_count g) (i + 1) (λ same. omega (arith, same, e, there)) in
-        let high = whole_high i (ap (λ b. g.hardend && b) early ∙ and_false g.hardend) in
+        let high = whole_high i (ap (λ b. g.hardend && b) early ∙ and-false g.hardend) in
         let one : (i + 1) * step ≡ n / step * step = ap (λ k. k * step) e in
         above_is (low_end g i) (high_end g i) x _ _ (above_low i (grind arith))
         (subst (λ z. z <ℤ x) (sym high) (above_low (i + 1) (omega (arith, one))))
@@ -88,5 +89,5 @@ held_alone g x n there alone i = elim (cases_eq i n) [
   | inl e ↦ ap (λ b. b && in_gap g i x) (below_is i (gap_count g) (omega (arith, e, there))) ∙ alone i
   | inr other ↦
       let not = ne_eqb i n other in
-      ap (λ b. nat_lt i (gap_count g) && b) (alone i ∙ not) ∙ and_false (nat_lt i (gap_count g)) ∙ sym not
+      ap (λ b. nat_lt i (gap_count g) && b) (alone i ∙ not) ∙ and-false (nat_lt i (gap_count g)) ∙ sym not
 ]

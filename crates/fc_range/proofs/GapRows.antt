@@ -2,7 +2,6 @@
 use Rattle.std.proofs.Common.{◌≡◌, ℕ, zero, suc, ◌<◌, ◌≤◌, ℤ, pos, ◌<ℤ◌, Bool, true, false, ◌&&◌, ◌||◌, List, [], ◌∷◌, length, get_or, take, refl, sym, ap, ◌∙◌, arith}
 use Rattle.std.specs.List.{list_any}
 use Rattle.std.specs.Ordering.{int_cmp}
-use Rattle.std.specs.Prelude.{nat_lt}
 use Rattle.std.proofs.lemmas.Bool.{false≢true}
 use Rattle.std.proofs.lemmas.Int.{ints}
 use Rattle.std.specs.declared.cmp.Ordering.TheVariants.{Less}
@@ -13,12 +12,13 @@ use Rattle.fc_spec.specs.documents.IntegerTexts.{is_long}
 use Rattle.fc_spec.specs.requests.Gaps.{gap_count, in_gap}
 use Rattle.fc_spec.specs.requests.Request.{Range}
 use Rattle.fc_facet.specs.RangeGaps.{HasFewGaps}
+use Rattle.fc_range.proofs.GapSteps.{there_parts}
 use Rattle.fc_range.proofs.NearGaps.{gaps_ascend}
-use Rattle.fc_range.proofs.Tests.{below_is, is_below}
+use Rattle.fc_range.proofs.Tests.{below_is}
 use Rattle.fc_range.specs.Reached.{is_held}
 
 -- some of the first members passes
-some_of_first : {X P : Type 0} (p : X → Bool) (xs : List X) (k : ℕ) (d : X) → ((m : ℕ) → m < k → p (get_or xs m d) ≡ true → P) → list_any p (take k xs) ≡ true → P
+pub some_of_first : {X P : Type 0} (p : X → Bool) (xs : List X) (k : ℕ) (d : X) → ((m : ℕ) → m < k → p (get_or xs m d) ≡ true → P) → list_any p (take k xs) ≡ true → P
 some_of_first p [] zero d found e = absurd (false≢true e)
 some_of_first p [] (suc k) d found e = absurd (false≢true e)
 some_of_first p (x ∷ xs) zero d found e = absurd (false≢true e)
@@ -31,21 +31,13 @@ some_of_first {X} {P} p (x ∷ xs) (suc k) d found e = go (p x) refl (some_of_fi
 lesser : (a b : ℤ) → int_cmp a b ≡ Less → a <ℤ b
 lesser a b e = grind (arith, ints)
 
-split : (a b : Bool) → (a && b) ≡ true → (a ≡ true) × (b ≡ true)
-split true b e = (refl, e)
-split false b e = absurd (false≢true e)
-
 module _ (g : Range) where
-  -- one that is held, is in a gap that is there
-  pub held_parts : (x : ℤ) (i : ℕ) → is_held g x i ≡ true → (i < gap_count g) × (in_gap g i x ≡ true)
-  held_parts x i e = let parts = split (nat_lt i (gap_count g)) (in_gap g i x) e in (is_below i (gap_count g) parts.0, parts.1)
-
   -- of integers that ascend, the gaps of a later one are none before those of an earlier one
   pub later_gaps : HasFewGaps g → (row : List ℤ) (k : ℕ) → IsAscending int_cmp row → k < length row
       → (i j : ℕ) → list_any (λ x. is_held g x j) (take k row) ≡ true → is_held g (get_or row k (pos 0)) i ≡ true → j ≤ i
   later_gaps few row k ascend here i j earlier later =
       some_of_first {P = j ≤ i} (λ x. is_held g x j) row k (pos 0)
-      (λ m before e. gaps_ascend g few i j (get_or row k (pos 0)) (get_or row m (pos 0)) (held_parts (get_or row m (pos 0)) j e).1 (held_parts (get_or row k (pos 0)) i later).1
+      (λ m before e. gaps_ascend g few i j (get_or row k (pos 0)) (get_or row m (pos 0)) (there_parts (gap_count g) (λ n. in_gap g n (get_or row m (pos 0))) j e).1 (there_parts (gap_count g) (λ n. in_gap g n (get_or row k (pos 0))) i later).1
       (lesser (get_or row m (pos 0)) (get_or row k (pos 0)) (ascend m k (pos 0) before here))) earlier
 
   -- gaps that are there

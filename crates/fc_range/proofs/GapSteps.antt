@@ -1,11 +1,10 @@
 -- Gaps that are gone through by their numbers.
-use Rattle.std.proofs.Common.{◌≡◌, ℕ, ℤ, ◌+◌, ◌<◌, ◌≤◌, ◌==◌, Bool, true, false, ◌&&◌, ◌||◌, ◌⊎◌, inl, inr, refl, sym, ap, ◌∙◌, arith}
+use Rattle.std.proofs.Common.{◌≡◌, ℕ, ◌+◌, ◌<◌, ◌≤◌, ◌==◌, Bool, true, false, ◌&&◌, ◌||◌, ◌⊎◌, inl, inr, refl, sym, ap, ◌∙◌, arith}
 use Rattle.std.specs.Prelude.{nat_le, nat_lt}
-use Rattle.std.proofs.lemmas.Bool.{cases_eq, cases_lt, eq-eqb, ne_eqb}
-use Rattle.fc_spec.specs.requests.Gaps.{gap_count, in_gap}
-use Rattle.fc_spec.specs.requests.Request.{Range}
-use Rattle.fc_range.proofs.Tests.{and_false, before_is, below_is, below_more, from_is, or_false, or_true, past_is}
-use Rattle.fc_range.specs.Reached.{IsReached, is_held}
+use Rattle.std.proofs.lemmas.Bool.{and_parts, cases_eq, cases_lt, eq-eqb, ne_eqb}
+use Rattle.std.proofs.Math.Bool.{and-false, or-false, or-true}
+use Rattle.fc_range.proofs.Tests.{before_is, below_is, below_more, from_is, is_below, past_is}
+use Rattle.fc_range.specs.Reached.{IsReached}
 use Rattle.fc_range.proofs.Reached.{alike_reached}
 
 module _ (t : ℕ → Bool) (from : ℕ) where
@@ -16,11 +15,11 @@ module _ (t : ℕ → Bool) (from : ℕ) where
   pub none_passed : (n i : ℕ) → n ≤ from → passed n i ≡ false
   none_passed n i h = elim (cases_lt i from) [
     | inl before ↦ ap (λ b. b && (nat_lt i n && t i)) (before_is from i before)
-    | inr behind ↦ ap (λ b. nat_le from i && (b && t i)) (past_is i n (omega arith)) ∙ and_false (nat_le from i)
+    | inr behind ↦ ap (λ b. nat_le from i && (b && t i)) (past_is i n (omega arith)) ∙ and-false (nat_le from i)
   ]
 
   pub not_passed : (n i : ℕ) → n ≤ i → passed n i ≡ false
-  not_passed n i h = ap (λ b. nat_le from i && (b && t i)) (past_is i n h) ∙ and_false (nat_le from i)
+  not_passed n i h = ap (λ b. nat_le from i && (b && t i)) (past_is i n h) ∙ and-false (nat_le from i)
 
   is_passed : (n : ℕ) → from ≤ n → t n ≡ true → passed (n + 1) n ≡ true
   is_passed n h passes = (λ i. from_is from n h i && (below_is n (n + 1) (omega arith) i && passes i))
@@ -31,16 +30,16 @@ module _ (t : ℕ → Bool) (from : ℕ) where
   -- one that passes, and one that does not
   pub one_passed : (n : ℕ) → from ≤ n → t n ≡ true → (i : ℕ) → passed (n + 1) i ≡ (passed n i || i == n)
   one_passed n h passes i = elim (cases_eq i n) [
-    | inl e ↦ ap (passed (n + 1)) e ∙ is_passed n h passes ∙ sym (ap (λ b. passed n i || b) (eq-eqb i n e) ∙ or_true (passed n i))
-    | inr other ↦ other_passed n i other ∙ sym (ap (λ b. passed n i || b) (ne_eqb i n other) ∙ or_false (passed n i))
+    | inl e ↦ ap (passed (n + 1)) e ∙ is_passed n h passes ∙ sym (ap (λ b. passed n i || b) (eq-eqb i n e) ∙ or-true (passed n i))
+    | inr other ↦ other_passed n i other ∙ sym (ap (λ b. passed n i || b) (ne_eqb i n other) ∙ or-false (passed n i))
   ]
 
   pub same_passed : (n : ℕ) → t n ≡ false → (i : ℕ) → passed (n + 1) i ≡ passed n i
   same_passed n fails i = elim (cases_eq i n) [
     | inl e ↦
         let not : t i ≡ false = ap t e ∙ fails in
-        ap (λ b. nat_le from i && (nat_lt i (n + 1) && b)) not ∙ ap (λ b. nat_le from i && b) (and_false (nat_lt i (n + 1)))
-        ∙ sym (ap (λ b. nat_le from i && (nat_lt i n && b)) not ∙ ap (λ b. nat_le from i && b) (and_false (nat_lt i n)))
+        ap (λ b. nat_le from i && (nat_lt i (n + 1) && b)) not ∙ ap (λ b. nat_le from i && b) (and-false (nat_lt i (n + 1)))
+        ∙ sym (ap (λ b. nat_le from i && (nat_lt i n && b)) not ∙ ap (λ b. nat_le from i && b) (and-false (nat_lt i n)))
     | inr other ↦ other_passed n i other
   ]
 
@@ -74,35 +73,41 @@ module _ (t : ℕ → Bool) (from : ℕ) where
   pub reached_same : (old last n : ℕ) → t n ≡ false → IsReached (passed n) old last → IsReached (passed (n + 1)) old last
   reached_same old last n fails r = alike_reached (passed n) (passed (n + 1)) old last (λ i. sym (same_passed n fails i)) r
 
-module _ (g : Range) (x : ℤ) where
-  -- one that is there
-  pub held_if_passed : (i : ℕ) → i < gap_count g → in_gap g i x ≡ true → is_held g x i ≡ true
-  held_if_passed i there holds = λ j. below_is i (gap_count g) there j && holds j
+-- of so many gaps those that hold something
+module _ (count : ℕ) (holds : ℕ → Bool) where
+  abbrev pub is_there : ℕ → Bool
+  is_there i = nat_lt i count && holds i
 
-  pub not_held : (reached i : ℕ) → in_gap g i x ≡ false → (nat_le reached i && is_held g x i) ≡ false
-  not_held reached i fails = ap (λ b. nat_le reached i && (nat_lt i (gap_count g) && b)) fails ∙ ap (λ b. nat_le reached i && b) (and_false (nat_lt i (gap_count g))) ∙ and_false (nat_le reached i)
+  pub there_if : (i : ℕ) → i < count → holds i ≡ true → is_there i ≡ true
+  there_if i below held = λ j. below_is i count below j && held j
+
+  pub there_parts : (i : ℕ) → is_there i ≡ true → (i < count) × (holds i ≡ true)
+  there_parts i e = let parts = and_parts (nat_lt i count) (holds i) e in (is_below i count parts.0, parts.1)
+
+  pub not_there : (reached i : ℕ) → holds i ≡ false → (nat_le reached i && is_there i) ≡ false
+  not_there reached i fails = ap (λ b. nat_le reached i && (nat_lt i count && b)) fails ∙ ap (λ b. nat_le reached i && b) (and-false (nat_lt i count)) ∙ and-false (nat_le reached i)
 
   nearby : (n i : ℕ) → (i ≡ n) ⊎ (i + 1 ≡ n) → (n ≤ i + 1) × (i ≤ n)
   nearby n i (inl e) = (omega (arith, e), omega (arith, e))
   nearby n i (inr e) = (omega (arith, e), omega (arith, e))
 
   -- where only those of a number and of the one before it may hold it, no others need to be gone through
-  pub near_passed : (n reached from to : ℕ) → ((i : ℕ) → in_gap g i x ≡ true → (i ≡ n) ⊎ (i + 1 ≡ n)) → reached ≤ from → ((i : ℕ) → reached ≤ i → n ≤ i + 1 → from ≤ i)
-      → to ≤ gap_count g → ((i : ℕ) → i < gap_count g → i ≤ n → i < to) → (i : ℕ) → passed (λ k. in_gap g k x) from to i ≡ (nat_le reached i && is_held g x i)
-  near_passed n reached from to near first least last most i = go (in_gap g i x) refl
+  pub near_passed : (n reached from to : ℕ) → ((i : ℕ) → i < count → holds i ≡ true → (i ≡ n) ⊎ (i + 1 ≡ n)) → reached ≤ from → ((i : ℕ) → reached ≤ i → n ≤ i + 1 → from ≤ i)
+      → to ≤ count → ((i : ℕ) → i < count → i ≤ n → i < to) → (i : ℕ) → passed holds from to i ≡ (nat_le reached i && is_there i)
+  near_passed n reached from to near first least last most i = go (holds i) refl
     where
-      go : (b : Bool) → in_gap g i x ≡ b → passed (λ k. in_gap g k x) from to i ≡ (nat_le reached i && is_held g x i)
-      go false fails = ap (λ b. nat_le from i && (nat_lt i to && b)) fails ∙ ap (λ b. nat_le from i && b) (and_false (nat_lt i to)) ∙ and_false (nat_le from i) ∙ sym (not_held reached i fails)
-      go true holds = elim (cases_lt i reached) [
-        | inl before ↦ ap (λ b. b && (nat_lt i to && in_gap g i x)) (before_is from i (omega arith)) ∙ sym (ap (λ b. b && is_held g x i) (before_is reached i before))
-        | inr behind ↦ elim (cases_lt i (gap_count g)) [
+      go : (b : Bool) → holds i ≡ b → passed holds from to i ≡ (nat_le reached i && is_there i)
+      go false fails = ap (λ b. nat_le from i && (nat_lt i to && b)) fails ∙ ap (λ b. nat_le from i && b) (and-false (nat_lt i to)) ∙ and-false (nat_le from i) ∙ sym (not_there reached i fails)
+      go true held = elim (cases_lt i reached) [
+        | inl before ↦ ap (λ b. b && (nat_lt i to && holds i)) (before_is from i (omega arith)) ∙ sym (ap (λ b. b && is_there i) (before_is reached i before))
+        | inr behind ↦ elim (cases_lt i count) [
           | inl there ↦
-              let ends = nearby n i (near i holds) in
+              let ends = nearby n i (near i there held) in
               let low = from_is from i (least i behind ends.0) ∙ sym (from_is reached i behind) in
-              let high = below_is i to (most i there ends.1) ∙ sym (below_is i (gap_count g) there) in
-              λ j. low j && (high j && in_gap g i x)
+              let high = below_is i to (most i there ends.1) ∙ sym (below_is i count there) in
+              λ j. low j && (high j && holds i)
           | inr past ↦
-              ap (λ b. nat_le from i && (b && in_gap g i x)) (past_is i to (omega arith)) ∙ and_false (nat_le from i)
-              ∙ sym (ap (λ b. nat_le reached i && (b && in_gap g i x)) (past_is i (gap_count g) past) ∙ and_false (nat_le reached i))
+              ap (λ b. nat_le from i && (b && holds i)) (past_is i to (omega arith)) ∙ and-false (nat_le from i)
+              ∙ sym (ap (λ b. nat_le reached i && (b && holds i)) (past_is i count past) ∙ and-false (nat_le reached i))
         ]
       ]

@@ -1,7 +1,8 @@
 -- What is collected of the gaps below a number, one after another.
-use Rattle.std.proofs.Common.{◌≡◌, ◌+◌, ℕ, Bool, true, false, ◌||◌, List, inl, inr, refl, sym, ap, ◌∙◌, arith}
+use Rattle.std.proofs.Common.{◌≡◌, ◌+◌, ℕ, true, false, ◌||◌, List, inl, inr, refl, sym, ap, ◌∙◌, arith}
 use Rattle.std.specs.Prelude.{nat_lt}
 use Rattle.std.proofs.lemmas.Bool.{cases_eq, false≢true}
+use Rattle.std.proofs.Math.Bool.{or-false, or-true}
 use Rattle.fc_spec.specs.documents.World.{Place}
 use Rattle.fc_spec.specs.messages.KeyOrder.{same_key}
 use Rattle.fc_spec.specs.requests.Buckets.{Key, value, missing, gap, before, between, after, whole}
@@ -12,13 +13,8 @@ use Rattle.fc_partial.specs.Tallied.{Tallied}
 use Rattle.fc_kind.specs.Collecting.{CollectsAmong}
 use Rattle.fc_kind.proofs.CollectedParts.{among_none, among_same, both_parts}
 use Rattle.fc_range.proofs.GapBuckets.{other_gap}
-use Rattle.fc_range.proofs.Tests.{below_is, below_more, is_below, or_false, or_true, past_is}
-use Rattle.fc_range.specs.GapKeys.{is_gap_of}
-
--- the key is that of a gap below the number
-abbrev pub is_gap_below : ℕ → Key → Bool
-is_gap_below n (gap i) = nat_lt i n
-is_gap_below n k = false
+use Rattle.fc_range.proofs.Tests.{below_is, below_more, is_below, past_is}
+use Rattle.fc_range.specs.GapKeys.{is_gap_below, is_gap_of}
 
 none_below : (k : Key) → is_gap_below 0 k ≡ false
 none_below (gap i) = past_is i 0 (omega arith)
@@ -29,15 +25,6 @@ none_below between = refl
 none_below after = refl
 none_below whole = refl
 
-pub all_below : (g : Range) (k : Key) → is_gap_of g k ≡ is_gap_below (gap_count g) k
-all_below g (gap i) = refl
-all_below g (value v) = refl
-all_below g missing = refl
-all_below g before = refl
-all_below g between = refl
-all_below g after = refl
-all_below g whole = refl
-
 pub not_below : (n : ℕ) → is_gap_below n (gap n) ≡ false
 not_below n = past_is n n (omega arith)
 
@@ -45,8 +32,8 @@ one_more : (n : ℕ) (k : Key) → is_gap_below (n + 1) k ≡ (is_gap_below n k 
 one_more n (gap i) = elim (cases_eq i n) [
   | inl e ↦
       below_is i (n + 1) (omega (arith, e))
-      ∙ sym (ap (λ b. nat_lt i n || b) (ap (λ j. same_key (gap j) (gap n)) e ∙ same_key_itself (gap n)) ∙ or_true (nat_lt i n))
-  | inr other ↦ below_more i n other ∙ sym (ap (λ b. nat_lt i n || b) (other_gap i n other) ∙ or_false (nat_lt i n))
+      ∙ sym (ap (λ b. nat_lt i n || b) (ap (λ j. same_key (gap j) (gap n)) e ∙ same_key_itself (gap n)) ∙ or-true (nat_lt i n))
+  | inr other ↦ below_more i n other ∙ sym (ap (λ b. nat_lt i n || b) (other_gap i n other) ∙ or-false (nat_lt i n))
 ]
 one_more n (value v) = refl
 one_more n missing = refl
@@ -78,4 +65,4 @@ module _ (kind : Kind) (ss : List Stat) (Y : List Place) where
 
   -- of all gaps
   pub all_collected : (g : Range) (n : ℕ) (old new : Tallied) → gap_count g ≡ n → CollectsAmong (is_gap_below n) kind ss Y old new → CollectsAmong (is_gap_of g) kind ss Y old new
-  all_collected g n old new e below = among_same (is_gap_below n) (is_gap_of g) kind ss Y old new (λ k. all_below g k ∙ ap (λ m. is_gap_below m k) e) below
+  all_collected g n old new e below = among_same (is_gap_below n) (is_gap_of g) kind ss Y old new (λ k. ap (λ m. is_gap_below m k) e) below

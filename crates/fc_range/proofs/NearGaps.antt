@@ -2,7 +2,7 @@
 use Rattle.std.proofs.Common.{◌≡◌, ℕ, ◌+◌, ◌*◌, ◌/◌, ◌<◌, ◌≤◌, ℤ, pos, ◌+ℤ◌, ◌-ℤ◌, ◌<ℤ◌, ◌≤ℤ◌, ◌⊎◌, inl, inr, Bool, true, false, ◌&&◌, ◌||◌, refl, sym, ap, subst, arith}
 use Rattle.std.specs.Prelude.{unsigned_abs, int_lt, if◌then◌else◌, ◌==◌}
 use Rattle.std.specs.Ordering.{int_eq}
-use Rattle.std.proofs.lemmas.Bool.{cases_lt, eqb-true, false_from_ne_true, false≢true}
+use Rattle.std.proofs.lemmas.Bool.{and_parts, cases_lt, eqb-true, false_from_ne_true}
 use Rattle.std.proofs.lemmas.Bool.Decides.{Decides-int_eq}
 use Rattle.std.proofs.lemmas.Grind.{div_ceil_times}
 use Rattle.std.proofs.lemmas.Int.{ints}
@@ -15,17 +15,9 @@ use Rattle.fc_facet.proofs.RangeGaps.{below_width, product_is, some_step}
 above : (a b : ℤ) → int_lt a b ≡ true → a <ℤ b
 above a b h = grind (arith, ints)
 
-or_cases : {P : Type 0} (a b : Bool) → (a ≡ true → P) → (b ≡ true → P) → (a || b) ≡ true → P
+pub or_cases : {P : Type 0} (a b : Bool) → (a ≡ true → P) → (b ≡ true → P) → (a || b) ≡ true → P
 or_cases true b left right h = left refl
 or_cases false b left right h = right h
-
-first_holds : (a b : Bool) → (a && b) ≡ true → a ≡ true
-first_holds true b h = refl
-first_holds false b h = h
-
-second_holds : (a b : Bool) → (a && b) ≡ true → b ≡ true
-second_holds true b h = h
-second_holds false b h = absurd (false≢true h)
 
 -- what lies in is between the ends
 between_ends : (low high x : ℤ) (with_low with_high : Bool) → low ≤ℤ high → lies_in low with_low high with_high x ≡ true → (low ≤ℤ x) × (x ≤ℤ high)
@@ -35,11 +27,12 @@ between_ends low high x with_low with_high up =
     or_cases {P = P} (inside || (with_low && int_eq x low)) (with_high && int_eq x high)
     (or_cases {P = P} inside (with_low && int_eq x low)
     (λ e.
-    let first = above low x (first_holds (int_lt low x) (int_lt x high) e) in
-    let later = above x high (second_holds (int_lt low x) (int_lt x high) e) in
+    let parts = and_parts (int_lt low x) (int_lt x high) e in
+    let first = above low x parts.0 in
+    let later = above x high parts.1 in
     (omega (arith, ints), omega (arith, ints)))
-    (λ e. let same : x ≡ low = (Decides-int_eq x low).0 (second_holds with_low (int_eq x low) e) in (omega (arith, ints), omega (arith, ints))))
-    (λ e. let same : x ≡ high = (Decides-int_eq x high).0 (second_holds with_high (int_eq x high) e) in (omega (arith, ints), omega (arith, ints)))
+    (λ e. let same : x ≡ low = (Decides-int_eq x low).0 (and_parts with_low (int_eq x low) e).1 in (omega (arith, ints), omega (arith, ints))))
+    (λ e. let same : x ≡ high = (Decides-int_eq x high).0 (and_parts with_high (int_eq x high) e).1 in (omega (arith, ints), omega (arith, ints)))
 
 -- what is from one multiple of a step to the next has one of the two quotients
 quotient_near : (i n step : ℕ) → 0 < step → i * step ≤ n → n ≤ (i + 1) * step → (i ≡ n / step) ⊎ (i + 1 ≡ n / step)
@@ -109,7 +102,7 @@ module _ (g : Range) (few : HasFewGaps g) where
           → ((g.start +ℤ pos (i * step)) ≤ℤ x) × (x ≤ℤ (g.start +ℤ pos ((i + 1) * step)))
       go true last h =
           let low = low_end_is i in
-          let within = end_within i (second_holds g.hardend (is_last_gap g i) last) in
+          let within = end_within i (and_parts g.hardend (is_last_gap g i) last).1 in
           let up : low_end g i ≤ℤ g.end = subst (λ z. z ≤ℤ g.end) (sym low) within.0 in
           let ends = between_ends (low_end g i) g.end x low_with high_with up h in
           (subst (λ z. z ≤ℤ x) low ends.0, ints_chained x g.end _ ends.1 within.1)

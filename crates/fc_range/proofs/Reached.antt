@@ -1,8 +1,9 @@
--- Gaps that are reached by one integer after another, which ascend.
+-- Gaps that are reached by one value after another, which ascend.
 use Rattle.std.proofs.Common.{◌≡◌, ℕ, ◌-◌, ◌<◌, ◌≤◌, Bool, true, false, ◌&&◌, ◌||◌, inl, inr, refl, sym, ap, ◌∙◌, arith}
 use Rattle.std.specs.Prelude.{nat_le}
 use Rattle.std.proofs.lemmas.Bool.{cases_lt, false≢true}
-use Rattle.fc_range.proofs.Tests.{and_false, before_is, from_is, or_true}
+use Rattle.std.proofs.Math.Bool.{and-false, or-true}
+use Rattle.fc_range.proofs.Tests.{before_is, from_is}
 use Rattle.fc_range.specs.Reached.{IsReached}
 
 pub alike_reached : (t u : ℕ → Bool) (old new : ℕ) → ((i : ℕ) → t i ≡ u i) → IsReached t old new → IsReached u old new
@@ -16,7 +17,7 @@ alike_reached t u old new same r = record {
 pub none_reached : (t : ℕ → Bool) (old : ℕ) → ((i : ℕ) → t i ≡ false) → IsReached t old old
 none_reached t old none = record { rises = omega arith; behind = λ i h. none i; last = inl refl }
 
--- gaps that were reached before and those that an integer reaches, which are none of the earlier ones
+-- gaps that were reached before and those that a value reaches, which are none of the earlier ones
 module _ (seen held : ℕ → Bool) (mid new : ℕ) (a : IsReached seen 0 mid) (b : IsReached (λ i. nat_le mid i && held i) mid new) (order : (i j : ℕ) → seen j ≡ true → held i ≡ true → j ≤ i) where
   pub counted_apart : (i : ℕ) → seen i ≡ true → (nat_le mid i && held i) ≡ false
   counted_apart i e = elim (cases_lt i mid) [
@@ -24,7 +25,7 @@ module _ (seen held : ℕ → Bool) (mid new : ℕ) (a : IsReached seen 0 mid) (
     | inr past ↦ absurd (false≢true (sym (a.behind i past) ∙ e))
   ]
 
-  -- a gap below that holds the integer was reached before
+  -- a gap below that holds the value was reached before
   was_seen : (i : ℕ) → i < mid → held i ≡ true → seen i ≡ true
   was_seen i below h = elim a.last [
     | inl e ↦ absurd (omega (arith, e))
@@ -40,7 +41,7 @@ module _ (seen held : ℕ → Bool) (mid new : ℕ) (a : IsReached seen 0 mid) (
     where
       go : (s : Bool) → seen i ≡ s → (h : Bool) → held i ≡ h → (seen i || (nat_le mid i && held i)) ≡ (seen i || held i)
       go true s h e = ap (λ b. b || (nat_le mid i && held i)) s ∙ sym (ap (λ b. b || held i) s)
-      go false s false e = ap (λ b. seen i || b) (ap (λ b. nat_le mid i && b) e ∙ and_false (nat_le mid i) ∙ sym e)
+      go false s false e = ap (λ b. seen i || b) (ap (λ b. nat_le mid i && b) e ∙ and-false (nat_le mid i) ∙ sym e)
       go false s true e = elim (cases_lt i mid) [
         | inl below ↦ absurd (false≢true (sym s ∙ was_seen i below e))
         | inr past ↦ ap (λ b. seen i || (b && held i)) (from_is mid i past)
@@ -55,6 +56,6 @@ module _ (seen held : ℕ → Bool) (mid new : ℕ) (a : IsReached seen 0 mid) (
         | inl z ↦ inl (e ∙ z)
         | inr f ↦ inr (λ i k. ap (λ s. s || held i) (f i (sym e ∙ k)))
       ]
-      | inr f ↦ inr (λ i k. sym (either_counted i) ∙ ap (λ c. seen i || c) (f i k) ∙ or_true (seen i))
+      | inr f ↦ inr (λ i k. sym (either_counted i) ∙ ap (λ c. seen i || c) (f i k) ∙ or-true (seen i))
     ];
   }

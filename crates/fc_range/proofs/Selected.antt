@@ -1,13 +1,11 @@
 -- Positions that are put into a set where another set has them too.
-use Rattle.std.proofs.Common.{◌≡◌, ℕ, ◌<◌, ◌+◌, ◌==◌, ◌&&◌, ◌||◌, ◌⊎◌, inl, inr, ℤ, Bool, true, false, List, [], ◌∷◌, ◌++◌, length, map, get_or, slice_set, count_by, refl, sym, ap, subst, ◌∙◌, arith, eq-eqb, ne_eqb, zero-add, length-append}
+use Rattle.std.proofs.Common.{◌≡◌, ℕ, ◌<◌, ◌+◌, ◌==◌, ◌&&◌, ◌||◌, ◌⊎◌, inl, inr, Bool, true, false, List, [], ◌∷◌, ◌++◌, length, map, get_or, slice_set, sym, ap, subst, ◌∙◌, arith, eq-eqb, ne_eqb, zero-add, length-append}
 use Rattle.std.proofs.lemmas.Bool.{and_from, and_left, cases_eq}
 use Rattle.std.proofs.lemmas.List.{get_or-append-add, get_or-map, get_or-set_other, get_or-set_same, get_or_default, length-map, length-set, same_lists}
 use Rattle.std.proofs.lemmas.List.Folds.{list_any-append}
+use Rattle.std.proofs.Math.Bool.{and_comm, or-false, or-true}
 use Rattle.fc_spec.specs.documents.Sets.{zip_with}
 use Rattle.fc_lists.specs.Among.{is_among}
-use Rattle.fc_lane.specs.Between.{is_between}
-use Rattle.fc_column.specs.Longs.{has_between}
-use Rattle.fc_column.proofs.InOrder.{among_if_any}
 use Rattle.fc_lists.proofs.OfNumbers.{is_among-positions, positions_lie}
 use Rattle.fc_docset.specs.Positions.{contains, positions}
 use Rattle.fc_lane.proofs.BitLists.{get_or-zip_with}
@@ -29,29 +27,12 @@ both_picked docs passing into even size same =
     ∙ sym (get_or-zip_with ◌&&◌ docs passing k even there)
     ∙ get_or_default (zip_with ◌&&◌ docs passing) k false d (omega (arith, joined)))
 
--- where these are the positions with an integer from the least to the greatest
-pub all_picked : (docs : List Bool) (positions : List ℕ) (into : List Bool) (rows : List (List ℤ)) (least greatest : ℤ) → length docs ≡ length rows
-    → ((at : ℕ) → count_by (λ p. p == at) positions ≡ count_by (is_between least greatest) (get_or rows at [])) → HasPicked docs positions into
-    → into ≡ zip_with ◌&&◌ docs (map (has_between least greatest) rows)
-all_picked docs positions into rows least greatest size same picked =
-    both_picked docs (map (has_between least greatest) rows) into (size ∙ sym (length-map rows (has_between least greatest))) picked.size (λ k there.
-    let here : k < length rows = omega (arith, size) in
-    picked.each k
-    ∙ ap (λ b. contains docs k && b) (among_if_any (is_between least greatest) k positions (get_or rows k []) (same k) ∙ sym (get_or-map (has_between least greatest) rows k [] false here)))
-
-and_turn : (a b : Bool) → (a && b) ≡ (b && a)
-and_turn true true = refl
-and_turn true false = refl
-and_turn false true = refl
-and_turn false false = refl
-
-or_last : (a : Bool) → (a || true) ≡ true
-or_last true = refl
-or_last false = refl
-
-or_none : (a : Bool) → (a || false) ≡ a
-or_none true = refl
-or_none false = refl
+-- where these are the positions whose row passes
+pub all_picked : {X : Type 0} (passes : List X → Bool) (docs : List Bool) (positions : List ℕ) (into : List Bool) (rows : List (List X)) → length docs ≡ length rows
+    → ((at : ℕ) → is_among at positions ≡ passes (get_or rows at [])) → HasPicked docs positions into → into ≡ zip_with ◌&&◌ docs (map passes rows)
+all_picked passes docs positions into rows size same picked =
+    both_picked docs (map passes rows) into (size ∙ sym (length-map rows passes)) picked.size (λ k there.
+    picked.each k ∙ ap (λ b. contains docs k && b) (same k ∙ sym (get_or-map passes rows k [] false (omega (arith, size)))))
 
 among_set : (docs : List Bool) (k : ℕ) → is_among k (positions docs) ≡ contains docs k
 among_set docs k = ap (λ n. is_among n (positions docs)) (sym (zero-add k)) ∙ is_among-positions 0 docs k
@@ -60,7 +41,7 @@ among_set docs k = ap (λ n. is_among n (positions docs)) (sym (zero-add k)) ∙
 pub all_kept : (docs passing into : List Bool) → length docs ≡ length passing → HasPicked passing (positions docs) into → into ≡ zip_with ◌&&◌ docs passing
 all_kept docs passing into even picked =
     both_picked docs passing into even (picked.size ∙ sym even)
-    (λ k there. picked.each k ∙ ap (λ b. contains passing k && b) (among_set docs k) ∙ and_turn (contains passing k) (contains docs k))
+    (λ k there. picked.each k ∙ ap (λ b. contains passing k && b) (among_set docs k) ∙ and_comm (contains passing k) (contains docs k))
 
 -- a position of the set is below its length
 pub position_below : (docs : List Bool) (done : List ℕ) (at : ℕ) (rest : List ℕ) → done ++ at ∷ rest ≡ positions docs → at < length docs
@@ -77,10 +58,10 @@ module _ (passing : List Bool) (done : List ℕ) (into : List Bool) (at : ℕ) (
   among_more k = list_any-append (λ number. k == number) done (at ∷ [])
 
   among_other : (k : ℕ) → (k ≡ at → ⊥) → is_among k done ≡ is_among k (done ++ at ∷ [])
-  among_other k other = sym (among_more k ∙ ap (λ b. is_among k done || (b || false)) (ne_eqb k at other) ∙ or_none (is_among k done))
+  among_other k other = sym (among_more k ∙ ap (λ b. is_among k done || (b || false)) (ne_eqb k at other) ∙ or-false (is_among k done))
 
   among_it : (k : ℕ) → k ≡ at → is_among k (done ++ at ∷ []) ≡ true
-  among_it k same = among_more k ∙ ap (λ b. is_among k done || (b || false)) (eq-eqb k at same) ∙ or_last (is_among k done)
+  among_it k same = among_more k ∙ ap (λ b. is_among k done || (b || false)) (eq-eqb k at same) ∙ or-true (is_among k done)
 
   -- that passes
   pub one_kept : at < length passing → contains passing at ≡ true → HasPicked passing (done ++ at ∷ []) (slice_set into at true)

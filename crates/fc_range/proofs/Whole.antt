@@ -1,5 +1,6 @@
 -- The one bucket of a query facet.
-use Rattle.std.proofs.Common.{◌≡◌, List, [], ◌∷◌, map, Bool, true, false, ◌&&◌, Some, refl, ap, sym, subst, ◌∙◌}
+use Rattle.std.proofs.Common.{◌≡◌, List, [], ◌∷◌, map, Bool, true, ◌&&◌, Some, refl, ap, sym, subst, ◌∙◌}
+use Rattle.std.proofs.Math.Bool.{and_comm}
 use Rattle.fc_spec.specs.documents.Document.{Block}
 use Rattle.fc_spec.specs.documents.Sets.{zip_with}
 use Rattle.fc_spec.specs.documents.Totals.{documents_in}
@@ -20,18 +21,12 @@ use Rattle.fc_kind.specs.Names.{name_of}
 use Rattle.fc_kind.specs.Collecting.{Collects, GrowsBy}
 use Rattle.fc_kind.proofs.CollectedParts.{among_same, one_bucket}
 
-and_turned : (a b : Bool) → (a && b) ≡ (b && a)
-and_turned true true = refl
-and_turned true false = refl
-and_turned false true = refl
-and_turned false false = refl
-
 -- sets that are joined in the other order
 zip_with-turned : (a b : List Bool) → zip_with ◌&&◌ a b ≡ zip_with ◌&&◌ b a
 zip_with-turned [] [] = refl
 zip_with-turned [] (y ∷ b) = refl
 zip_with-turned (x ∷ a) [] = refl
-zip_with-turned (x ∷ a) (y ∷ b) = λ i. and_turned x y i ∷ zip_with-turned a b i
+zip_with-turned (x ∷ a) (y ∷ b) = λ i. and_comm x y i ∷ zip_with-turned a b i
 
 -- those that match, of a set
 pub whole_set : (q : Query) (k : Key) (blocks : List Block) (set : List Bool) → is_whole k ≡ true → zip_with ◌&&◌ (map (matches q) (documents_in blocks)) set ≡ bucket_set (query q) k blocks set

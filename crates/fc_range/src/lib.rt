@@ -14,5 +14,6 @@ mod selecting;
 mod spans;
 
 pub use ends::{GapEnds, bounds};
+pub use keys::GapKeys;
 pub use query::QueryKind;
 pub use range::RangeKind;

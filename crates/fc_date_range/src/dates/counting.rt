@@ -8,7 +8,8 @@ ghost use Rattle.fc_partial.specs.Adding.{AddUp};
 ghost use Rattle.fc_partial.specs.Celled.{cell_at, of_one};
 ghost use Rattle.fc_partial.specs.View.{stat_value_view};
 ghost use Rattle.fc_count.specs.Counted.{HaveCounted};
-ghost use Rattle.fc_date_range.specs.ReachedDates.{IsReached, has_date};
+ghost use Rattle.fc_range.specs.Reached.{IsReached};
+ghost use Rattle.fc_date_range.specs.GapDates.{has_date};
 
 use super::holding::{edges_before, is_in_gap};
 use fc_base::Name;

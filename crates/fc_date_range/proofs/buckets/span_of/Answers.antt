@@ -6,7 +6,7 @@ use Rattle.fc_facet.specs.KindView.{date_range_view}
 use Rattle.fc_partial.specs.View.{key_view}
 use Rattle.fc_partial.specs.declared.key.Key.{Key}
 use Rattle.fc_date_range.proofs.BucketSpans.{gap_span}
-use Rattle.fc_date_range.proofs.Tests.{is_below}
+use Rattle.fc_range.proofs.Tests.{is_below}
 use Rattle.fc_date_range.specs.Spans.{IsSpanOf}
 use Rattle.fc_date_range.proofs.buckets.span_of.Goals as goal
 

@@ -12,8 +12,9 @@ use Rattle.fc_partial.specs.Tallying.{entry_at}
 use Rattle.fc_count.specs.Counted.{AreCounted}
 use Rattle.fc_count.proofs.CountedBuckets.{cell_of_bucket, counted_collects}
 use Rattle.fc_date_range.proofs.DateRows.{date_rows}
-use Rattle.fc_date_range.proofs.GapBuckets.{gap_found, gap_there}
-use Rattle.fc_date_range.specs.GapKeys.{gap_key, is_gap_of}
+use Rattle.fc_range.proofs.GapBuckets.{gap_found, gap_there}
+use Rattle.fc_range.specs.GapKeys.{gap_key}
+use Rattle.fc_date_range.specs.GapKeys.{is_gap_of}
 use Rattle.fc_date_range.proofs.dates.collect_by_dates.Goals as goal
 
 pub add_cells-requires-clause-add_up : goal.add_cells-requires-clause-add_up
@@ -29,7 +30,7 @@ add_cells-requires-clause-add_up c =
     let cells = c.in_ok-cells.cells in
     let counted : AreCounted blocks holds bound ss (positions docs) cells = subst (λ (l : List kind.Stat). AreCounted blocks holds bound l (positions docs) cells) (sym c.requires.stats) c.in_ok-cells.ensures in
     let cell = cell_of_bucket (kind.date_range g) (is_gap_of g) blocks docs c.requires.length holds bound ss cells counted gap_key (date_rows g column blocks c.requires.column bound) in
-    λ i here some. subst (λ (s : Stats). ForSome (entry_at c.args.into.now.entries (gap i)) (λ there. AddUp there s)) (sym (cell i here)) (c.requires.add_up (gap i) (gap_there g bound i count here))
+    λ i here some. subst (λ (s : Stats). ForSome (entry_at c.args.into.now.entries (gap i)) (λ there. AddUp there s)) (sym (cell i here)) (c.requires.add_up (gap i) (gap_there (date_gap_count g) bound count i here))
 
 pub returns : goal.returns
 returns c =
@@ -44,4 +45,4 @@ returns c =
     let cells = c.in_ok-cells.cells in
     let counted : AreCounted blocks holds bound ss (positions docs) cells = subst (λ (l : List kind.Stat). AreCounted blocks holds bound l (positions docs) cells) (sym c.requires.stats) c.in_ok-cells.ensures in
     counted_collects (kind.date_range g) (is_gap_of g) blocks docs c.requires.length holds bound ss cells counted gap_key (date_rows g column blocks c.requires.column bound)
-    (λ i here. gap_there g bound i count here) (gap_found g blocks bound count) c.args.into.now c.add_cells.new.into refl c.in_ok-add_cells.ensures
+    (gap_there (date_gap_count g) bound count) (gap_found (date_gap_count g) bound count (kind.date_range g) blocks) c.args.into.now c.add_cells.new.into refl c.in_ok-add_cells.ensures

@@ -10,9 +10,10 @@ use Rattle.fc_partial.specs.Adding.{AddUp}
 use Rattle.fc_partial.specs.Tallying.{entry_at}
 use Rattle.fc_count.specs.Counted.{AreCounted}
 use Rattle.fc_count.proofs.CountedBuckets.{cell_of_bucket, counted_collects}
-use Rattle.fc_date_range.proofs.GapBuckets.{gap_found, gap_there}
+use Rattle.fc_range.proofs.GapBuckets.{gap_found, gap_there}
 use Rattle.fc_date_range.proofs.GapRows.{gap_rows}
-use Rattle.fc_date_range.specs.GapKeys.{gap_key, is_gap_of}
+use Rattle.fc_range.specs.GapKeys.{gap_key}
+use Rattle.fc_date_range.specs.GapKeys.{is_gap_of}
 use Rattle.fc_date_range.specs.GapSpans.{has_in_span}
 use Rattle.fc_date_range.proofs.gaps.collect_by_documents.Goals as goal
 
@@ -30,7 +31,7 @@ add_cells-requires-clause-add_up c =
     let cells = c.in_ok-cells.cells in
     let counted : AreCounted blocks holds bound ss (positions docs) cells = subst (λ (l : List kind.Stat). AreCounted blocks holds bound l (positions docs) cells) (sym c.requires.stats) c.in_ok-cells.ensures in
     let cell = cell_of_bucket (kind.date_range g) (is_gap_of g) blocks docs c.requires.length holds bound ss cells counted gap_key (gap_rows g c.requires.few column spans c.requires.spans blocks c.requires.column bound refl) in
-    λ i here some. subst (λ (s : Stats). ForSome (entry_at c.args.into.now.entries (gap i)) (λ there. AddUp there s)) (sym (cell i here)) (c.requires.add_up (gap i) (gap_there g bound i count here))
+    λ i here some. subst (λ (s : Stats). ForSome (entry_at c.args.into.now.entries (gap i)) (λ there. AddUp there s)) (sym (cell i here)) (c.requires.add_up (gap i) (gap_there (date_gap_count g) bound count i here))
 
 pub returns : goal.returns
 returns c =
@@ -46,4 +47,4 @@ returns c =
     let cells = c.in_ok-cells.cells in
     let counted : AreCounted blocks holds bound ss (positions docs) cells = subst (λ (l : List kind.Stat). AreCounted blocks holds bound l (positions docs) cells) (sym c.requires.stats) c.in_ok-cells.ensures in
     counted_collects (kind.date_range g) (is_gap_of g) blocks docs c.requires.length holds bound ss cells counted gap_key (gap_rows g c.requires.few column spans c.requires.spans blocks c.requires.column bound refl)
-    (λ i here. gap_there g bound i count here) (gap_found g blocks bound count) c.args.into.now c.add_cells.new.into refl c.in_ok-add_cells.ensures
+    (gap_there (date_gap_count g) bound count) (gap_found (date_gap_count g) bound count (kind.date_range g) blocks) c.args.into.now c.add_cells.new.into refl c.in_ok-add_cells.ensures

@@ -11,9 +11,10 @@ use Rattle.fc_partial.specs.Tallying.{entry_at}
 use Rattle.fc_count.specs.Held.{held_stats}
 use Rattle.fc_count.proofs.CountedBuckets.{cell_of_bucket, counted_collects}
 use Rattle.fc_count.proofs.HeldPositions.{held_counted}
-use Rattle.fc_date_range.proofs.GapBuckets.{gap_found, gap_there}
+use Rattle.fc_range.proofs.GapBuckets.{gap_found, gap_there}
 use Rattle.fc_date_range.proofs.GapRows.{gap_rows}
-use Rattle.fc_date_range.specs.GapKeys.{gap_key, is_gap_of}
+use Rattle.fc_range.specs.GapKeys.{gap_key}
+use Rattle.fc_date_range.specs.GapKeys.{is_gap_of}
 use Rattle.fc_date_range.specs.GapSpans.{has_in_span}
 use Rattle.fc_date_range.proofs.gaps.collect_by_postings.Goals as goal
 
@@ -31,7 +32,7 @@ add_postings-requires-clause-add_up c =
     let cells = held_stats blocks holds bound ss (positions docs) in
     let cell = cell_of_bucket (kind.date_range g) (is_gap_of g) blocks docs c.requires.length holds bound ss (record { stats = ss; cells = cells }) (held_counted blocks holds bound ss (positions docs)) gap_key
     (gap_rows g c.requires.few column spans c.requires.spans blocks c.requires.column bound refl) in
-    λ i here some. subst (λ (s : Stats). ForSome (entry_at c.args.into.now.entries (gap i)) (λ there. AddUp there s)) (sym (cell i here)) (c.requires.add_up (gap i) (gap_there g bound i count here))
+    λ i here some. subst (λ (s : Stats). ForSome (entry_at c.args.into.now.entries (gap i)) (λ there. AddUp there s)) (sym (cell i here)) (c.requires.add_up (gap i) (gap_there (date_gap_count g) bound count i here))
 
 pub returns : goal.returns
 returns c =
@@ -47,4 +48,4 @@ returns c =
     let cells = held_stats blocks holds bound ss (positions docs) in
     counted_collects (kind.date_range g) (is_gap_of g) blocks docs c.requires.length holds bound ss (record { stats = ss; cells = cells }) (held_counted blocks holds bound ss (positions docs)) gap_key
     (gap_rows g c.requires.few column spans c.requires.spans blocks c.requires.column bound refl)
-    (λ i here. gap_there g bound i count here) (gap_found g blocks bound count) c.args.into.now c.add_postings.new.into refl c.in_ok-add_postings.ensures
+    (gap_there (date_gap_count g) bound count) (gap_found (date_gap_count g) bound count (kind.date_range g) blocks) c.args.into.now c.add_postings.new.into refl c.in_ok-add_postings.ensures

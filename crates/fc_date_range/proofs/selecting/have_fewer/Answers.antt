@@ -1,5 +1,5 @@
 use Rattle.std.proofs.Common.{◌∙◌, ◌∷◌, ◌<◌, [], subst, append_assoc}
-use Rattle.fc_date_range.proofs.Selected.{position_below}
+use Rattle.fc_range.proofs.Selected.{position_below}
 use Rattle.fc_date_range.proofs.selecting.have_fewer.Goals as goal
 
 pub ordinals_of-requires : goal.ordinals_of-requires

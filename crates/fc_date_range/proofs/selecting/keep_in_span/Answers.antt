@@ -3,7 +3,7 @@ use Rattle.std.proofs.lemmas.List.{get_or-map, length-map}
 use Rattle.fc_spec.specs.documents.Val.{Text}
 use Rattle.fc_column.specs.Terms.{has_from_to, ordinals_in}
 use Rattle.fc_docset.specs.Positions.{contains, positions}
-use Rattle.fc_date_range.proofs.Selected.{HasPicked, all_kept, none_kept, one_kept, position_below}
+use Rattle.fc_range.proofs.Selected.{HasPicked, all_kept, none_kept, one_kept, position_below}
 use Rattle.fc_date_range.proofs.selecting.keep_in_span.Goals as goal
 
 pub ordinals_of-requires : goal.ordinals_of-requires

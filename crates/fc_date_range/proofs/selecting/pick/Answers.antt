@@ -1,6 +1,6 @@
 use Rattle.std.proofs.Common.{subst, arith}
 use Rattle.std.proofs.lemmas.List.{take_all}
-use Rattle.fc_date_range.proofs.Selected.{HasPicked}
+use Rattle.fc_range.proofs.Selected.{HasPicked}
 use Rattle.fc_date_range.proofs.selecting.pick.Goals as goal
 
 pub returns-clause-set : goal.returns-clause-set

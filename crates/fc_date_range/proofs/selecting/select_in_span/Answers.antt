@@ -1,7 +1,7 @@
 use Rattle.std.proofs.Common.{◌∙◌, List, sym}
 use Rattle.fc_spec.specs.documents.Val.{Text}
 use Rattle.fc_column.specs.Terms.{has_from_to, ordinals_in}
-use Rattle.fc_date_range.proofs.Selected.{all_picked}
+use Rattle.fc_range.proofs.Selected.{all_picked}
 use Rattle.fc_date_range.proofs.selecting.select_in_span.Goals as goal
 
 pub returns-else-have_fewer-clause-set : goal.returns-else-have_fewer-clause-set

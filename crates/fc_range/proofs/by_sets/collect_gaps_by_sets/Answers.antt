@@ -8,8 +8,9 @@ use Rattle.fc_spec.specs.requests.Request as kind
 use Rattle.fc_facet.specs.KindView.{range_view}
 use Rattle.fc_kind.specs.Collecting.{CollectsAmong}
 use Rattle.fc_range.proofs.BesideGaps.{still_add_up}
-use Rattle.fc_range.proofs.GapsBelow.{all_collected, is_gap_below, more_collected, none_collected, not_below}
+use Rattle.fc_range.proofs.GapsBelow.{all_collected, more_collected, none_collected, not_below}
 use Rattle.fc_range.proofs.Tests.{below_is}
+use Rattle.fc_range.specs.GapKeys.{is_gap_below}
 use Rattle.fc_range.proofs.by_sets.collect_gaps_by_sets.Goals as goal
 
 pub loop-number-init : goal.loop-number-init

@@ -4,7 +4,7 @@ use Rattle.fc_spec.specs.documents.Totals.{document_total}
 use Rattle.fc_spec.specs.requests.Request as kind
 use Rattle.fc_facet.specs.KindView.{range_view}
 use Rattle.fc_kind.specs.Collecting.{CollectsAmong}
-use Rattle.fc_range.proofs.GapsBelow.{is_gap_below}
+use Rattle.fc_range.specs.GapKeys.{is_gap_below}
 use Rattle.fc_range.proofs.by_sets.collect_gaps_by_sets.Given as goal
 
 abbrev pub invariant-loop-number : goal.invariant-loop-number

@@ -1,7 +1,7 @@
 use Rattle.std.proofs.Common.{◌≡◌, ◌∙◌, ◌&&◌, ◌==◌, ℕ, ℤ, false, map, ap, sym, subst, w64, eq-eqb, refl, rules}
 use Rattle.std.specs.Prelude.{nat_le}
 use Rattle.std.proofs.lemmas.Int.{to_z-of_z}
-use Rattle.fc_spec.specs.requests.Gaps.{in_gap}
+use Rattle.fc_spec.specs.requests.Gaps.{gap_count, in_gap}
 use Rattle.fc_facet.specs.KindView.{range_view}
 use Rattle.fc_range.proofs.NearGaps.{none_below}
 use Rattle.fc_partial.specs.View.{stat_value_view}
@@ -9,7 +9,7 @@ use Rattle.fc_count.specs.Counted.{HaveCounted}
 use Rattle.fc_count.proofs.CountedSteps.{counted_none, counted_same}
 use Rattle.fc_range.specs.Reached.{IsReached, is_held}
 use Rattle.fc_range.proofs.GapInside.{held_alone}
-use Rattle.fc_range.proofs.GapSteps.{not_held}
+use Rattle.fc_range.proofs.GapSteps.{not_there}
 use Rattle.fc_range.proofs.Reached.{alike_reached, none_reached}
 use Rattle.fc_range.proofs.counting.count_integer.Goals as goal
 
@@ -18,12 +18,12 @@ returns-then-x-range-clause-counted c =
     let g = range_view c.args.range.now in
     let values = map stat_value_view c.args.values.now in
     counted_same (λ i. false) (λ i. nat_le c.args.reached i && is_held g c.args.x i) values c.args.cells.now c.args.cells.now
-    (λ i l. not_held g c.args.x c.args.reached i (none_below g c.requires.few i c.args.x (search rules))) (counted_none values c.args.cells.now)
+    (λ i l. not_there (gap_count g) (λ k. in_gap g k c.args.x) c.args.reached i (none_below g c.requires.few i c.args.x (search rules))) (counted_none values c.args.cells.now)
 
 pub returns-then-x-range-clause-reached : goal.returns-then-x-range-clause-reached
 returns-then-x-range-clause-reached c =
     let g = range_view c.args.range.now in
-    none_reached (λ i. nat_le c.args.reached i && is_held g c.args.x i) c.args.reached (λ i. not_held g c.args.x c.args.reached i (none_below g c.requires.few i c.args.x (search rules)))
+    none_reached (λ i. nat_le c.args.reached i && is_held g c.args.x i) c.args.reached (λ i. not_there (gap_count g) (λ k. in_gap g k c.args.x) c.args.reached i (none_below g c.requires.few i c.args.x (search rules)))
 
 pub count_alone-requires-clause-fits : goal.count_alone-requires-clause-fits
 count_alone-requires-clause-fits c = λ behind.

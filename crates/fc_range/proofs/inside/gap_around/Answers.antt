@@ -1,11 +1,11 @@
 use Rattle.std.proofs.Common.{◌≡◌, ◌∙◌, ◌+◌, ◌<◌, ◌/◌, ◌%◌, ◌==◌, ◌&&◌, false, pos, ◌+ℤ◌, ◌-ℤ◌, ap, sym, subst, w64, FitsSigned, unsigned_abs, rules}
 use Rattle.std.proofs.lemmas.Bool.{ne_eqb}
 use Rattle.std.proofs.lemmas.Int.{to_z-of_z}
+use Rattle.std.proofs.Math.Bool.{and-false}
 use Rattle.fc_spec.specs.requests.Gaps.{gap_count, in_gap, is_last_gap}
 use Rattle.fc_facet.specs.KindView.{range_view}
 use Rattle.fc_range.proofs.NearGaps.{distance}
 use Rattle.fc_range.proofs.GapInside.{gap_alone}
-use Rattle.fc_range.proofs.Tests.{and_false}
 use Rattle.fc_range.proofs.inside.gap_around.Goals as goal
 use Rattle.fc_range.proofs.inside.gap_around.Goals.{else-range-via-then-range+else-number-from-2, else-range-via-else-range}
 
@@ -25,7 +25,7 @@ returns-clause-alone c =
     let whole : (g.hardend && is_last_gap g q) ≡ false = elim c.else-range.branch [
       | else-range-via-then-range+else-number-from-2 w ↦
           let more : q + 1 ≡ c.args.gaps → ⊥ = search rules in
-          ap (λ b. g.hardend && b) (ne_eqb (gap_count g) (q + 1) (λ e. more (sym (c.requires.gaps ∙ e)))) ∙ and_false g.hardend
+          ap (λ b. g.hardend && b) (ne_eqb (gap_count g) (q + 1) (λ e. more (sym (c.requires.gaps ∙ e)))) ∙ and-false g.hardend
       | else-range-via-else-range w ↦ ap (λ b. b && is_last_gap g q) w.if-range.false
     ] in
     λ i. subst (λ w. in_gap g i x ≡ (i == n / w)) (sym size)

@@ -35,7 +35,7 @@ add_cells-requires-clause-add_up c =
     let column : map (map long) rows ≡ column_of g.field (documents_in blocks) = ap column_values (sym c.in-Long.is) ∙ c.column.ensures.values in
     let counted : AreCounted blocks holds bound ss (positions docs) cells = subst (λ (l : List kind.Stat). AreCounted blocks holds bound l (positions docs) cells) (sym c.requires.stats) c.in_ok-cells.ensures in
     let cell = cell_of_bucket k (is_gap_of g) blocks docs c.requires.length holds bound ss cells counted gap_key (λ i at here there. row_in_bucket g (gap i) blocks rows at column there) in
-    λ i here some. subst (λ (s : Stats). ForSome (entry_at c.args.into.now.entries (gap i)) (λ there. AddUp there s)) (sym (cell i here)) (c.requires.add_up (gap i) (gap_there g bound i count here))
+    λ i here some. subst (λ (s : Stats). ForSome (entry_at c.args.into.now.entries (gap i)) (λ there. AddUp there s)) (sym (cell i here)) (c.requires.add_up (gap i) (gap_there (gap_count g) bound count i here))
 
 pub returns : goal.returns
 returns c =
@@ -52,4 +52,4 @@ returns c =
     let column : map (map long) rows ≡ column_of g.field (documents_in blocks) = ap column_values (sym c.in-Long.is) ∙ c.column.ensures.values in
     let counted : AreCounted blocks holds bound ss (positions docs) cells = subst (λ (l : List kind.Stat). AreCounted blocks holds bound l (positions docs) cells) (sym c.requires.stats) c.in_ok-cells.ensures in
     counted_collects k (is_gap_of g) blocks docs c.requires.length holds bound ss cells counted gap_key (λ i at here there. row_in_bucket g (gap i) blocks rows at column there)
-    (λ i here. gap_there g bound i count here) (gap_found g blocks bound count) c.args.into.now c.add_cells.new.into refl c.in_ok-add_cells.ensures
+    (gap_there (gap_count g) bound count) (gap_found (gap_count g) bound count k blocks) c.args.into.now c.add_cells.new.into refl c.in_ok-add_cells.ensures

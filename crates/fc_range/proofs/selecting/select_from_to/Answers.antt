@@ -3,6 +3,7 @@ use Rattle.std.proofs.lemmas.Int.{to_z-of_z}
 use Rattle.fc_spec.specs.documents.Sets.{zip_with}
 use Rattle.fc_lane.specs.Between.{is_between}
 use Rattle.fc_column.specs.Longs.{has_between}
+use Rattle.fc_column.proofs.InOrder.{among_if_any}
 use Rattle.fc_domain.proofs.LongRows.{rows_from_to}
 use Rattle.fc_range.proofs.Selected.{all_picked}
 use Rattle.fc_range.proofs.selecting.select_from_to.Goals as goal
@@ -25,7 +26,8 @@ returns-else-have_fewer-clause-set c = λ test passes.
     let least = to_z-of_z w64 c.args.least c.ranges.least in
     let greatest = to_z-of_z w64 c.args.greatest c.ranges.greatest in
     let size = c.pick.ensures.kept ∙ c.requires.same_length ∙ sym c.requires.length in
-    all_picked docs positions c.pick.new.into rows c.args.least c.args.greatest c.requires.length
-    (λ at. c.positions_between-found.ensures.positions at ∙ (λ i. count_by (is_between (least i) (greatest i)) (slice_index_or rows at [])))
+    all_picked (has_between c.args.least c.args.greatest) docs positions c.pick.new.into rows c.requires.length
+    (λ at. among_if_any (is_between c.args.least c.args.greatest) at positions (slice_index_or rows at [])
+    (c.positions_between-found.ensures.positions at ∙ (λ i. count_by (is_between (least i) (greatest i)) (slice_index_or rows at []))))
     (record { size = size; each = c.pick.ensures.set })
     ∙ ap (zip_with ◌&&◌ docs) (rows_from_to c.args.least c.args.greatest test passes rows c.positions_between-found.ensures.long)

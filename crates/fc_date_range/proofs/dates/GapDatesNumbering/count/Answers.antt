@@ -11,10 +11,12 @@ use Rattle.fc_partial.specs.Celled.{of_one}
 use Rattle.fc_partial.specs.View.{stat_value_view}
 use Rattle.fc_count.specs.Counted.{HaveCounted}
 use Rattle.fc_count.proofs.CountedSteps.{counted_before, counted_none, counted_same}
-use Rattle.fc_date_range.proofs.CountedOnce.{both_counted}
-use Rattle.fc_date_range.proofs.DateRows.{any_held, has_term, held_parts, later_gaps, term_at}
-use Rattle.fc_date_range.proofs.ReachedDates.{alike_reached, counted_apart, either_counted, none_reached, reached_more}
-use Rattle.fc_date_range.specs.ReachedDates.{IsReached, has_date}
+use Rattle.fc_range.proofs.CountedOnce.{both_counted}
+use Rattle.fc_date_range.proofs.DateRows.{any_held, has_term, later_gaps, term_at}
+use Rattle.fc_range.proofs.GapSteps.{there_parts}
+use Rattle.fc_range.proofs.Reached.{alike_reached, counted_apart, either_counted, none_reached, reached_more}
+use Rattle.fc_range.specs.Reached.{IsReached}
+use Rattle.fc_date_range.specs.GapDates.{has_date}
 use Rattle.fc_date_range.proofs.dates.GapDatesNumbering.count.Goals as goal
 
 pub count_date-reached-requires-clause-fits : goal.count_date-reached-requires-clause-fits
@@ -27,7 +29,7 @@ count_date-reached-requires-clause-fits c = λ i behind held.
     let inside : k < length row = c.loop-ord-test.true in
     let x = get_or row k 0 in
     let has : has_term column g i x ≡ true = ap (λ t. has_date g t i) (sym c.term.ensures) ∙ held in
-    let parts = held_parts g (term_at column x) i has in
+    let parts = there_parts (date_gap_count g) (λ n. in_date_gap g n (term_at column x)) i has in
     let there : i < date_gap_count g = parts.0 in
     let here : i < length c.args.cells.now.cells = let all = c.requires.bound in omega (arith, there, all) in
     let holds : list_any (has_term column g i) row ≡ true = list_any_at (has_term column g i) row k 0 inside has in

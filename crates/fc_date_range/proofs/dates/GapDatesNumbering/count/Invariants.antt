@@ -3,7 +3,7 @@ use Rattle.std.specs.List.{list_any}
 use Rattle.fc_facet.specs.KindView.{date_range_view}
 use Rattle.fc_partial.specs.View.{stat_value_view}
 use Rattle.fc_count.specs.Counted.{HaveCounted}
-use Rattle.fc_date_range.specs.ReachedDates.{IsReached}
+use Rattle.fc_range.specs.Reached.{IsReached}
 use Rattle.fc_date_range.proofs.DateRows.{has_term}
 use Rattle.fc_date_range.proofs.dates.GapDatesNumbering.count.Given as goal
 

@@ -5,8 +5,8 @@ use Rattle.fc_partial.specs.Adding.{AddUp}
 use Rattle.fc_partial.specs.Celled.{counted, of_one}
 use Rattle.fc_partial.specs.View.{stat_value_view}
 use Rattle.fc_count.proofs.CountedSteps.{counted_before, counted_more, counted_none, counted_same}
-use Rattle.fc_date_range.proofs.DateSteps.{all_passed, none_passed, not_passed, one_passed, passed, reached_one, reached_same, same_passed}
-use Rattle.fc_date_range.proofs.ReachedDates.{alike_reached, none_reached}
+use Rattle.fc_range.proofs.GapSteps.{all_passed, none_passed, not_passed, one_passed, passed, reached_one, reached_same, same_passed}
+use Rattle.fc_range.proofs.Reached.{alike_reached, none_reached}
 use Rattle.fc_date_range.proofs.dates.counting.count_gaps.Goals as goal
 use Rattle.fc_date_range.proofs.dates.counting.count_gaps.Goals.{then-is_in_gap, else-is_in_gap}
 

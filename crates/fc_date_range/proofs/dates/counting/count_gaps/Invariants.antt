@@ -4,7 +4,7 @@ use Rattle.fc_spec.specs.requests.DateGaps.{in_date_gap}
 use Rattle.fc_facet.specs.KindView.{date_range_view}
 use Rattle.fc_partial.specs.View.{stat_value_view}
 use Rattle.fc_count.specs.Counted.{HaveCounted}
-use Rattle.fc_date_range.specs.ReachedDates.{IsReached}
+use Rattle.fc_range.specs.Reached.{IsReached}
 use Rattle.fc_date_range.proofs.dates.counting.count_gaps.Given as goal
 
 abbrev pub invariant-loop-number : goal.invariant-loop-number

@@ -9,7 +9,7 @@ use Rattle.fc_partial.specs.Adding.{AddUp}
 use Rattle.fc_partial.specs.Celled.{of_one}
 use Rattle.fc_partial.specs.View.{stat_value_view}
 use Rattle.fc_count.proofs.CountedSteps.{counted_before, counted_none, counted_same}
-use Rattle.fc_date_range.proofs.CountedOnce.{both_counted}
+use Rattle.fc_range.proofs.CountedOnce.{both_counted}
 use Rattle.fc_date_range.proofs.Reached.{alike_reached, counted_apart, either_counted, held_there, none_reached, reached_more}
 use Rattle.fc_date_range.specs.GapSpans.{has_in_span, is_held, span_at}
 use Rattle.fc_date_range.specs.Reached.{AreReached}

@@ -4,7 +4,7 @@ use Rattle.std.specs.Prelude.{nat_le}
 use Rattle.std.proofs.lemmas.Int.{to_z-of_z}
 use Rattle.std.proofs.lemmas.List.{take_all}
 use Rattle.std.proofs.lemmas.List.Folds.{list_any_at, list_any_more}
-use Rattle.fc_spec.specs.requests.Gaps.{in_gap}
+use Rattle.fc_spec.specs.requests.Gaps.{gap_count, in_gap}
 use Rattle.fc_facet.specs.KindView.{range_view}
 use Rattle.fc_partial.specs.Adding.{AddUp}
 use Rattle.fc_partial.specs.Celled.{of_one}
@@ -13,7 +13,8 @@ use Rattle.fc_count.specs.Counted.{HaveCounted}
 use Rattle.fc_count.proofs.CountedSteps.{counted_before, counted_none, counted_same}
 use Rattle.fc_range.specs.Reached.{IsReached, is_held}
 use Rattle.fc_range.proofs.CountedOnce.{both_counted}
-use Rattle.fc_range.proofs.GapRows.{any_held, fits_if_long, held_parts, later_gaps}
+use Rattle.fc_range.proofs.GapRows.{any_held, fits_if_long, later_gaps}
+use Rattle.fc_range.proofs.GapSteps.{there_parts}
 use Rattle.fc_range.proofs.Reached.{alike_reached, counted_apart, either_counted, none_reached, reached_more}
 use Rattle.fc_range.proofs.counting.GapNumbersNumbering.count.Goals as goal
 
@@ -26,7 +27,7 @@ count_integer-reached-requires-clause-fits c = λ i behind held.
     let inside : k < length row = c.loop-x-test.true in
     let x = get_or row k (pos 0) in
     let same = to_z-of_z w64 x (fits_if_long x (c.values_of-x-items.ensures.long k (pos 0) inside)) in
-    let parts = held_parts g x i (ap (λ z. is_held g z i) (sym same) ∙ held) in
+    let parts = there_parts (gap_count g) (λ n. in_gap g n x) i (ap (λ z. is_held g z i) (sym same) ∙ held) in
     let here : i < length c.args.cells.now.cells = let all = c.requires.bound in let there = parts.0 in omega (arith, there, all) in
     let holds : list_any (in_gap g i) row ≡ true = list_any_at (in_gap g i) row k (pos 0) inside parts.1 in
     subst (λ s. AddUp s (of_one values)) (sym (counted_before (λ j. list_any (λ z. is_held g z j) (take k row)) values c.args.cells.now c.loop-x.cells i c.loop-x.invariant.counted (c.loop-x.invariant.reached.behind i behind) here))
