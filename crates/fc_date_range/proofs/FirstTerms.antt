@@ -75,6 +75,10 @@ module _ (column : List (List Text)) where
           ap (λ n. nat_le n ord) is ∙ from_below date ord here ∙ sym (not_to_left date t) ∙ ap (λ b. not (is_to date b t)) (sym e);
     }
 
+  -- where the same terms pass, it is the same one
+  pub first_alike : (p q : Text → Bool) (first : ℕ) → ((t : Text) → p t ≡ q t) → IsFirst column p first → IsFirst column q first
+  first_alike p q first same f = record { within = f.within; exact = λ ord here. f.exact ord here ∙ same (get_or (terms_of column) ord []) }
+
   -- where fewer terms pass, the first one is no earlier
   pub first_rises : (p q : Text → Bool) (a b : ℕ) → IsFirst column p a → IsFirst column q b → ((t : Text) → q t ≡ true → p t ≡ true) → a ≤ b
   first_rises p q a b f g weaker = elim (cases_lt b a) [

@@ -6,7 +6,7 @@ use Rattle.std.proofs.lemmas.Map.Lookups.{exact_bytes}
 use Rattle.std.specs.Ordering.{is_eq, is_le, is_lt, ordering_reverse}
 use Rattle.std.specs.declared.cmp.Ordering.{Ordering}
 use Rattle.std.specs.declared.cmp.Ordering.TheVariants.{Less, Equal, Greater}
-use Rattle.std.proofs.Math.Bool.{and-false, and-true, or-false}
+use Rattle.std.proofs.Math.Bool.{and-false, and-true, beq, or-false}
 use Rattle.fc_spec.specs.documents.Val.{Text, same_text, text_cmp}
 use Rattle.fc_spec.specs.requests.DateGaps.{date_lies_in, is_before}
 use Rattle.fc_domain.proofs.TextOrder.{le-not_lt, le_lt, lt-not_le, lt_le}
@@ -37,6 +37,17 @@ not_to_held high t = ap not (le_parts (text_cmp t high)) ∙ sym (lt-not_le high
 
 pub not_to_left : (high t : Text) → not (is_to high false t) ≡ is_le (text_cmp high t)
 not_to_left high t = ap not (or-false (is_before t high)) ∙ sym (le-not_lt high t)
+
+-- ---- an edge that two spans share: behind what it ends begins what holds it, where the one holds it and the other does not
+pub turned_at : (date : Text) (with_high : Bool) (t : Text) → not (is_to date with_high t) ≡ is_from date (not with_high) t
+turned_at date true t = not_to_held date t ∙ sym (from_left date t)
+turned_at date false t = not_to_left date t ∙ sym (from_held date t)
+
+pub other_truth : (a b : Bool) → beq a b ≡ false → a ≡ not b
+other_truth true true e = absurd (false≢true (sym e))
+other_truth true false e = refl
+other_truth false true e = refl
+other_truth false false e = absurd (false≢true (sym e))
 
 -- ---- an end that is further on
 le_if_from : (low : Text) (with_low : Bool) (t : Text) → is_from low with_low t ≡ true → is_le (text_cmp low t) ≡ true

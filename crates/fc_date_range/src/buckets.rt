@@ -16,8 +16,8 @@ use fc_column::TextColumn;
 use fc_facet::DateRange;
 use fc_partial::Key;
 
-// The range's start.
-fn start_of(range: &DateRange) -> &Name
+/// The range's start.
+pub(crate) fn start_of(range: &DateRange) -> &Name
     requires { HasFewEdges (date_range_view range.now) }
     ensures { result.now ≡ definition.low_date (date_range_view range.now) 0 }
 {

@@ -11,8 +11,6 @@ use fc_facet::DateRange;
 // Where all gaps together list at most so many positions for each document of the set, reading these costs less than reading the
 // texts of each document.
 const POSITIONS_PER_DOCUMENT: u64 = 4;
-// How often the column is searched for each gap, once for either end.
-const SEARCHES_PER_GAP: u64 = 2;
 
 // How many positions the gaps list together, where no position has several texts.
 fn listed(column: &TextColumn, spans: &[Span]) -> usize {
@@ -32,9 +30,9 @@ pub(crate) fn is_cheap_by_postings(column: &TextColumn, spans: &[Span], docs: &D
 }
 
 /// Whether to find the gaps of each document by its dates, and not the span of each gap in the column: so where there are fewer
-/// documents than searches of the edges, of which each gap takes two.
+/// documents than gaps, for each of which an edge would be searched.
 pub(crate) fn is_cheap_by_dates(range: &DateRange, docs: &DocSet) -> bool
     requires { HasFewEdges (date_range_view range.now) }
 {
-    SEARCHES_PER_GAP * u64::from(range.gaps()) > u64::from(docs.count())
+    range.gaps() > docs.count()
 }

@@ -36,6 +36,24 @@ pub(crate) fn first_behind(column: &TextColumn, high: &Name, with_high: bool) ->
     }
 }
 
+/// The first ordinal behind a date, or of that date where it is held, where the span that ends with the date ends before `past`.
+/// The date is searched only where both hold it, or neither does.
+pub(crate) fn first_at(
+    column: &TextColumn,
+    date: &Name,
+    past: u32,
+    with_high: bool,
+    with_low: bool,
+) -> u32
+    requires { IsFirst column.now (λ t. not (is_to date.now with_high t)) past }
+    ensures { IsFirst column.now (is_from date.now with_low) result }
+{
+    if with_low == with_high {
+        return first_from(column, date, with_low);
+    }
+    past
+}
+
 /// The dates between two others, and those of these that are held. Each end is searched once.
 pub(crate) fn between(
     column: &TextColumn,

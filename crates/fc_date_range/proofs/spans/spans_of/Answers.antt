@@ -13,10 +13,11 @@ loop-number-preserved c =
     let g = date_range_view c.args.range.now in
     let n = c.loop-number.number in
     let spans = c.loop-number.spans.items in
-    let is : c.push.new.self.items ≡ spans ++ c.of_gap.result ∷ [] = c.in_ok-push.ensures.items in
+    let is : c.push.new.self.items ≡ spans ++ c.span_from-span.result ∷ [] = c.in_ok-push.ensures.items in
     record {
-      all = let size = c.loop-number.invariant.all in let more = length-append spans (c.of_gap.result ∷ []) in rw is (omega (arith, size, more));
-      each = subst (λ (l : List Span). (i : ℕ) → i < n + 1 → IsGapSpan column g i (span_at l i)) (sym is) (one_more column g spans n c.of_gap.result c.loop-number.invariant.all c.loop-number.invariant.each c.of_gap.ensures);
+      all = let size = c.loop-number.invariant.all in let more = length-append spans (c.span_from-span.result ∷ []) in rw is (omega (arith, size, more));
+      each = subst (λ (l : List Span). (i : ℕ) → i < n + 1 → IsGapSpan column g i (span_at l i)) (sym is) (one_more column g spans n c.span_from-span.result c.loop-number.invariant.all c.loop-number.invariant.each c.span_from-span.ensures);
+      from = c.next_from-from.ensures;
     }
 
 pub returns-clause-rise : goal.returns-clause-rise
