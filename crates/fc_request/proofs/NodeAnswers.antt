@@ -1,12 +1,11 @@
 -- What is answered for a node, from what its steps answered.
-use Rattle.std.proofs.Common.{◌≡◌, ℕ, ◌+◌, ◌-◌, ◌∙◌, ap, sym, subst, List, [], ◌∷◌, ◌++◌, Bool, false, map, Option, Result, Ok, Err, MatchResult}
-use Rattle.std.proofs.lemmas.List.{map-append}
+use Rattle.std.proofs.Common.{◌≡◌, ℕ, ◌+◌, ◌-◌, ◌∙◌, ap, sym, subst, List, ◌++◌, Bool, false, map, Option, Result, Ok, Err, MatchResult}
 use Rattle.serde_json.specs.Data.{Data, Members, member}
 use Rattle.fc_spec.specs.documents.Val.{Text}
 use Rattle.fc_spec.specs.documents.Schema.{Schema}
 use Rattle.fc_spec.specs.requests.Request.{Stat, DomainChange, Kind, Nodes}
 use Rattle.fc_spec.specs.requests.RequestFault.{QFault, RequestFault}
-use Rattle.fc_spec.specs.requests.RequestReading.{Node, of_statistic, of_facet, Walked, members_read, own, facet_read, nodes_within}
+use Rattle.fc_spec.specs.requests.RequestReading.{Node, of_statistic, of_facet, Walked, asks_number, members_read, own, facet_read, nodes_within}
 use Rattle.fc_spec.specs.words.Walks.{◌>>=◌}
 use Rattle.fc_base.specs.Answers.{Answers}
 use Rattle.fc_base.specs.declared.error.Refusal.{Refusal}
@@ -15,6 +14,7 @@ use Rattle.fc_request.specs.declared.fault.RequestFault as code_fault
 use Rattle.fc_request.specs.declared.node.Node as code_node
 use Rattle.fc_request.specs.FaultView.{request_fault_view}
 use Rattle.fc_request.specs.NodeView.{Part, node_view}
+use Rattle.fc_request.specs.Beside.{with_numbers}
 use Rattle.fc_request.specs.Heads.{KindHead, Head, statistic_head, facet_head, node_head, kind_behind, facet_behind, walked, inner_nodes, under, resumed, node_within}
 use Rattle.fc_request.proofs.NodeWalk.{of_node, behind, behind-next}
 
@@ -74,9 +74,11 @@ facet_within inner_view left n m s outermost unmoved name d change kind members 
     (of_node left n s outermost unmoved name d ∙ ap (λ r. r >>= resumed outermost (under (nodes_within (left - 1) s false) unmoved) (n + 1)) h)
     inner with_them
 
--- one more node behind those that were read
-pub one_more : (f : ℕ → Text → Data → Result (Walked Node) RequestFault) (nodes : List code_node.Node) (node : code_node.Node) (n m : ℕ) (name : Text) (d : Data) (ms : Members) → f n name d ≡ Ok (walked (node_view node).1 m) → (node_view node).0 ≡ name → behind (map node_view nodes) (members_read f n (member name d ms)) ≡ behind (map node_view (nodes ++ node ∷ [])) (members_read f m ms)
-one_more f nodes node n m name d ms e named =
-    behind-next f (map node_view nodes) n m name d (node_view node).1 ms e
-    ∙ ap (λ t. behind (map node_view nodes ++ (t, (node_view node).1) ∷ []) (members_read f m ms)) (sym named)
-    ∙ ap (λ ps. behind ps (members_read f m ms)) (sym (map-append node_view nodes (node ∷ [])))
+-- one more node behind those that were read, with what stands behind it
+pub one_more : (f : ℕ → Text → Data → Result (Walked Node) RequestFault) (before after : List code_node.Node) (node : code_node.Node) (n m : ℕ) (name : Text) (d : Data) (ms : Members) → f n name d ≡ Ok (walked (node_view node).1 m) → (node_view node).0 ≡ name
+    → map node_view after ≡ map node_view before ++ with_numbers (asks_number d) (node_view node)
+    → behind (map node_view before) (members_read f n (member name d ms)) ≡ behind (map node_view after) (members_read f m ms)
+one_more f before after node n m name d ms e named pushed =
+    behind-next f (map node_view before) n m name d (node_view node).1 ms e
+    ∙ ap (λ t. behind (map node_view before ++ with_numbers (asks_number d) (t, (node_view node).1)) (members_read f m ms)) (sym named)
+    ∙ ap (λ ps. behind ps (members_read f m ms)) (sym pushed)

@@ -1,23 +1,24 @@
 -- The walk of a node is its head and what is read behind it; nodes are read one behind another.
-use Rattle.std.proofs.Common.{◌≡◌, ℕ, zero, suc, ◌+◌, ◌-◌, ap, sym, refl, arith, List, [], ◌∷◌, ◌++◌, Bool, true, false, not, Option, None, Some, Result, Ok, Err, ok_or}
+use Rattle.std.proofs.Common.{◌≡◌, ℕ, zero, suc, ◌+◌, ◌-◌, ◌∙◌, ap, sym, refl, arith, List, [], ◌∷◌, ◌++◌, Bool, true, false, not, Option, None, Some, Result, Ok, Err, ok_or}
 use Rattle.std.specs.Prelude.{codes, nat_lt}
 use Rattle.std.proofs.lemmas.Bool.{lt-ltb}
 use Rattle.serde_json.specs.Data.{Data, null, boolean, number, string, array, object, Members, member}
 use Rattle.serde_json.specs.Find.{as_object, get_member}
 use Rattle.fc_spec.specs.documents.Val.{Text}
-use Rattle.fc_spec.specs.documents.Schema.{Schema}
-use Rattle.fc_spec.specs.requests.Request.{DomainChange, Sort, Terms, Kind, terms, Nodes, no_nodes}
-use Rattle.fc_spec.specs.requests.RequestFault.{QFault, not_an_object, bad_parameter, reserved_name, too_large, RequestFault}
-use Rattle.fc_spec.specs.requests.RequestWalk.{inside, check_names, required, said_or, text_in}
-use Rattle.fc_spec.specs.requests.StatisticReading.{statistic_of}
+use Rattle.fc_spec.specs.documents.Schema.{Schema, field_named}
+use Rattle.fc_spec.specs.requests.Request.{DomainChange, Sort, Show, its_buckets, its_number, number_beside, Terms, Kind, terms, range, query, date_range, Nodes, no_nodes}
+use Rattle.fc_spec.specs.requests.RequestFault.{QFault, unknown_field, not_an_object, bad_parameter, reserved_name, too_large, RequestFault}
+use Rattle.fc_spec.specs.requests.RequestWalk.{truth_in, inside, check_names, required, optional, said_or, text_in}
+use Rattle.fc_spec.specs.requests.StatisticReading.{unique_called, statistic_of}
 use Rattle.fc_spec.specs.requests.DomainReading.{change_in}
 use Rattle.fc_spec.specs.requests.SortReading.{sort_in, allows_exact}
 use Rattle.fc_spec.specs.requests.FacetReading.{terms_parts, query_part}
 use Rattle.fc_spec.specs.requests.DateRangeReading.{range_part}
-use Rattle.fc_spec.specs.requests.RequestReading.{Node, Walked, Reader, members_read, with_node, is_reserved, inner_read, own, facet_read, terms_read, statistic_read, FacetType, terms_type, range_type, query_type, func_type, parameters, type_of, typed_read, command_read, nodes_within}
+use Rattle.fc_spec.specs.requests.RequestReading.{Node, of_statistic, of_facet, Walked, Reader, asks_number, with_node, number_behind, with_its_number, members_read, is_reserved, inner_read, own, facet_read, terms_read, measure_read, statistic_read, FacetType, terms_type, range_type, query_type, func_type, parameters, type_of, typed_read, command_read, nodes_within}
 use Rattle.fc_spec.specs.words.Walks.{◌>>=◌, unless}
 use Rattle.fc_request.specs.NodeView.{Part, linked}
-use Rattle.fc_request.specs.Heads.{whole, unsorted, Head, facet_head, some_object, facet_of, statistic_before, typed_head, object_head, command_head, node_head, walked, inner_nodes, under, resumed, node_within}
+use Rattle.fc_request.specs.Beside.{shown_beside, numbers_behind, with_numbers}
+use Rattle.fc_request.specs.Heads.{whole, unsorted, Head, facet_head, some_object, facet_of, measure_before, measure_head, typed_head, object_head, command_head, node_head, walked, inner_nodes, under, resumed, node_within}
 
 -- ---- steps
 
@@ -54,11 +55,12 @@ of_kind s outermost unmoved deeper n ms k =
 of_terms : (s : Schema) (outermost unmoved : Bool) (deeper : Bool → Reader) (n : ℕ) (ms : Members) → terms_read s outermost unmoved deeper n ms ≡ (own (typed_head terms_type s unmoved ms) >>= resumed outermost (under deeper unmoved) n)
 of_terms s outermost unmoved deeper n ms =
     step (resumed outermost (under deeper unmoved) n) (terms_parts s ms) _ _ (λ t.
+    step (resumed outermost (under deeper unmoved) n) (optional (codes "numBuckets") truth_in false ms) _ _ (λ asked.
     step (resumed outermost (under deeper unmoved) n) (change_in s unmoved ms) _ _ (λ change.
     inner_step outermost (under deeper unmoved change) (under deeper unmoved) n (get_member (codes "facet") ms)
     (λ inner. own (sort_in inner.read ms) >>= (λ sort. own (unless (allows_exact outermost t.exact sort) bad_parameter) >>= (λ done. Ok (facet_read change (terms (record t { sort = sort })) inner))))
     (λ i. facet_head change (unsorted t (get_member (codes "sort") ms)) i)
-    (λ i. same_steps (inner_nodes (under deeper unmoved change) n i) _ _ (λ w. sorted change t w (sort_in w.read ms)))))
+    (λ i. same_steps (inner_nodes (under deeper unmoved change) n i) _ _ (λ w. sorted change t w (sort_in w.read ms))))))
   where
     allowed : (change : DomainChange) (t : Terms) (w : Walked Nodes) (sort : Sort) (b : Bool)
         → (own (unless b bad_parameter >>= (λ done. Ok (terms (record t { sort = sort })))) >>= (λ k. Ok (facet_read change k w))) ≡ (own (unless b bad_parameter) >>= (λ done. Ok (facet_read change (terms (record t { sort = sort })) w)))
@@ -71,15 +73,19 @@ of_terms s outermost unmoved deeper n ms =
     sorted change t w (Ok sort) = allowed change t w sort (allows_exact outermost t.exact sort)
     sorted change t w (Err e) = refl
 
-of_statistic_text : (s : Schema) (outermost : Bool) (deeper : DomainChange → Reader) (n : ℕ) (t : Text) → statistic_read s n t ≡ (own (statistic_before s t) >>= resumed outermost deeper n)
-of_statistic_text s outermost deeper n t = step (resumed outermost deeper n) (statistic_of s t) _ _ (λ st. refl)
+of_measure : (s : Schema) (outermost : Bool) (deeper : DomainChange → Reader) (n : ℕ) (t : Text) (unique : Option Text) → measure_read s n t unique ≡ (own (measure_before s t unique) >>= resumed outermost deeper n)
+of_measure s outermost deeper n t (Some name) = step (resumed outermost deeper n) (ok_or (field_named s name) unknown_field) _ _ (λ field. refl)
+of_measure s outermost deeper n t None = step (resumed outermost deeper n) (statistic_of s t) _ _ (λ st. refl)
+
+of_text : (s : Schema) (outermost : Bool) (deeper : DomainChange → Reader) (n : ℕ) (t : Text) → statistic_read s n t ≡ (own (measure_head s t) >>= resumed outermost deeper n)
+of_text s outermost deeper n t = of_measure s outermost deeper n t (unique_called t)
 
 of_type : (kind : FacetType) (s : Schema) (outermost unmoved : Bool) (deeper : Bool → Reader) (n : ℕ) (ms : Members) → typed_read kind s outermost unmoved deeper n ms ≡ (own (typed_head kind s unmoved ms) >>= resumed outermost (under deeper unmoved) n)
 of_type terms_type s outermost unmoved deeper n ms = of_terms s outermost unmoved deeper n ms
 of_type range_type s outermost unmoved deeper n ms = step (resumed outermost (under deeper unmoved) n) (range_part s ms) _ _ (λ k. of_kind s outermost unmoved deeper n ms k)
 of_type query_type s outermost unmoved deeper n ms = step (resumed outermost (under deeper unmoved) n) (query_part s ms) _ _ (λ q. of_kind s outermost unmoved deeper n ms q)
 of_type func_type s outermost unmoved deeper n ms =
-    step (resumed outermost (under deeper unmoved) n) (required (codes "func") text_in ms) _ _ (λ t. of_statistic_text s outermost (under deeper unmoved) n t)
+    step (resumed outermost (under deeper unmoved) n) (required (codes "func") text_in ms) _ _ (λ t. of_text s outermost (under deeper unmoved) n t)
 
 -- ---- a node
 
@@ -92,7 +98,7 @@ of_members s outermost unmoved deeper n ms =
     step (resumed outermost (under deeper unmoved) n) (check_names (parameters kind) ms) _ _ (λ known. of_type kind s outermost unmoved deeper n ms))
 
 of_command : (s : Schema) (outermost unmoved : Bool) (deeper : Bool → Reader) (n : ℕ) (d : Data) → command_read s outermost unmoved deeper n d ≡ (own (command_head s unmoved d) >>= resumed outermost (under deeper unmoved) n)
-of_command s outermost unmoved deeper n (string t) = of_statistic_text s outermost (under deeper unmoved) n t
+of_command s outermost unmoved deeper n (string t) = of_text s outermost (under deeper unmoved) n t
 of_command s outermost unmoved deeper n (object ms) = of_members s outermost unmoved deeper n ms
 of_command s outermost unmoved deeper n null = refl
 of_command s outermost unmoved deeper n (boolean b) = refl
@@ -124,9 +130,27 @@ pub linked_before-linked : (ps : List Part) → linked_before ps no_nodes ≡ li
 linked_before-linked [] = refl
 linked_before-linked (p ∷ ps) = ap (with_node p.0 p.1) (linked_before-linked ps)
 
-linked_before-push : (ps : List Part) (p : Part) (rest : Nodes) → linked_before (ps ++ p ∷ []) rest ≡ linked_before ps (with_node p.0 p.1 rest)
-linked_before-push [] p rest = refl
-linked_before-push (q ∷ ps) p rest = ap (with_node q.0 q.1) (linked_before-push ps p rest)
+linked_before-append : (ps qs : List Part) (rest : Nodes) → linked_before (ps ++ qs) rest ≡ linked_before ps (linked_before qs rest)
+linked_before-append [] qs rest = refl
+linked_before-append (p ∷ ps) qs rest = ap (with_node p.0 p.1) (linked_before-append ps qs rest)
+
+-- what stands behind a node, and then others
+shown : (show : Show) (name : Text) (change : DomainChange) (t : Terms) (rest : Nodes) → linked_before (shown_beside show name change t) rest ≡ number_behind show (record { name = name; change = change; kind = terms t }) t rest
+shown its_buckets name change t rest = refl
+shown its_number name change t rest = refl
+shown number_beside name change t rest = refl
+
+with_number : (asked : Bool) (name : Text) (x : Node) (rest : Nodes) → linked_before (numbers_behind asked name x) rest ≡ with_its_number asked name x rest
+with_number true name (of_facet change (terms t) inner) rest = shown t.show name change t rest
+with_number true name (of_facet change (range g) inner) rest = refl
+with_number true name (of_facet change (query q) inner) rest = refl
+with_number true name (of_facet change (date_range g) inner) rest = refl
+with_number true name (of_statistic s) rest = refl
+with_number false name x rest = refl
+
+-- a node with what stands behind it, and then others
+linked_before-push : (asked : Bool) (ps : List Part) (name : Text) (x : Node) (rest : Nodes) → linked_before (ps ++ with_numbers asked (name, x)) rest ≡ linked_before ps (with_node name x (with_its_number asked name x rest))
+linked_before-push asked ps name x rest = linked_before-append ps (with_numbers asked (name, x)) rest ∙ ap (λ nodes. linked_before ps (with_node name x nodes)) (with_number asked name x rest)
 
 -- these nodes, and then those that are read
 abbrev pub behind : List Part → Result (Walked Nodes) RequestFault → Result (Walked Nodes) RequestFault
@@ -134,11 +158,11 @@ behind ps r = do
   w ← r
   Ok (walked (linked_before ps w.read) w.nodes)
 
-pub behind-next : (f : ℕ → Text → Data → Result (Walked Node) RequestFault) (ps : List Part) (n m : ℕ) (name : Text) (d : Data) (x : Node) (ms : Members) → f n name d ≡ Ok (walked x m) → behind ps (members_read f n (member name d ms)) ≡ behind (ps ++ (name, x) ∷ []) (members_read f m ms)
+pub behind-next : (f : ℕ → Text → Data → Result (Walked Node) RequestFault) (ps : List Part) (n m : ℕ) (name : Text) (d : Data) (x : Node) (ms : Members) → f n name d ≡ Ok (walked x m) → behind ps (members_read f n (member name d ms)) ≡ behind (ps ++ with_numbers (asks_number d) (name, x)) (members_read f m ms)
 behind-next f ps n m name d x ms e = rw e (rest (members_read f m ms))
   where
-    rest : (r : Result (Walked Nodes) RequestFault) → behind ps (r >>= (λ rest. Ok (walked (with_node name x rest.read) rest.nodes))) ≡ behind (ps ++ (name, x) ∷ []) r
-    rest (Ok w) = ap (λ nodes. Ok (walked nodes w.nodes)) (sym (linked_before-push ps (name, x) w.read))
+    rest : (r : Result (Walked Nodes) RequestFault) → behind ps (r >>= (λ rest. Ok (walked (with_node name x (with_its_number (asks_number d) name x rest.read)) rest.nodes))) ≡ behind (ps ++ with_numbers (asks_number d) (name, x)) r
+    rest (Ok w) = ap (λ nodes. Ok (walked nodes w.nodes)) (sym (linked_before-push (asks_number d) ps name x w.read))
     rest (Err fault) = refl
 
 pub behind-fault : (f : ℕ → Text → Data → Result (Walked Node) RequestFault) (ps : List Part) (n : ℕ) (name : Text) (d : Data) (fault : RequestFault) (ms : Members) → f n name d ≡ Err fault → behind ps (members_read f n (member name d ms)) ≡ Err (inside name fault)

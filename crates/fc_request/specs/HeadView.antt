@@ -16,6 +16,7 @@ use Rattle.fc_request.specs.Heads as said
 
 abbrev pub kind_head_view : KindHead → said.KindHead
 kind_head_view (kind.Terms t json) = said.unsorted (terms_view t) (option_map (λ json. view json.now) json)
+kind_head_view (kind.Number t) = said.whole (definition.terms (terms_view t))
 kind_head_view (kind.Range g) = said.whole (definition.range (range_view g))
 kind_head_view (kind.DateRange g) = said.whole (definition.date_range (date_range_view g))
 kind_head_view (kind.Query q) = said.whole (definition.query (query_view q))

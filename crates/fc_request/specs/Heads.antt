@@ -3,12 +3,13 @@ use Rattle.std.specs.Prelude.{ℕ, zero, suc, List, [], ◌∷◌, codes, Bool, 
 use Rattle.serde_json.specs.Data.{Data, string, Members}
 use Rattle.serde_json.specs.Find.{as_object, get_member}
 use Rattle.fc_spec.specs.documents.Val.{Text}
-use Rattle.fc_spec.specs.documents.Schema.{Schema}
+use Rattle.fc_spec.specs.documents.Schema.{Schema, field_named}
 use Rattle.fc_spec.specs.queries.Query.{Query, all}
 use Rattle.fc_spec.specs.requests.Request.{Filter, Stat, DomainChange, Terms, Kind, terms, Nodes, no_nodes, Request}
-use Rattle.fc_spec.specs.requests.RequestFault.{QFault, not_an_object, bad_command, bad_parameter, reserved_name, too_large, RequestFault}
-use Rattle.fc_spec.specs.requests.RequestWalk.{check_names, required, optional, said_or, text_in}
-use Rattle.fc_spec.specs.requests.StatisticReading.{statistic_of}
+use Rattle.fc_spec.specs.requests.RequestFault.{QFault, unknown_field, not_an_object, bad_command, bad_parameter, reserved_name, too_large, RequestFault}
+use Rattle.fc_spec.specs.requests.RequestWalk.{truth_in, check_names, required, optional, said_or, text_in}
+use Rattle.fc_spec.specs.requests.Spread.{unchanged, number_terms}
+use Rattle.fc_spec.specs.requests.StatisticReading.{unique_called, statistic_of}
 use Rattle.fc_spec.specs.requests.DomainReading.{change_in, text_query}
 use Rattle.fc_spec.specs.requests.SortReading.{sort_of, default_sort, allows_exact}
 use Rattle.fc_spec.specs.requests.FacetReading.{terms_parts, query_part}
@@ -44,19 +45,34 @@ facet_of s unmoved kind ms = do
   inner ← inner_members ms
   Ok (facet_head change kind inner)
 
+-- a `unique` of the field of this name
+abbrev pub number_head : Schema → Text → Result Head QFault
+number_head s name = do
+  field ← ok_or (field_named s name) unknown_field
+  Ok (facet_head unchanged (whole (terms (number_terms field))) None)
+
 abbrev pub statistic_before : Schema → Text → Result Head QFault
 statistic_before s t = do
   st ← statistic_of s t
   Ok (statistic_head st)
 
+-- a `unique`, or else a statistic
+abbrev pub measure_before : Schema → Text → (unique : Option Text) → Result Head QFault
+measure_before s t (Some name) = number_head s name
+measure_before s t None = statistic_before s t
+
+abbrev pub measure_head : Schema → Text → Result Head QFault
+measure_head s t = measure_before s t (unique_called t)
+
 abbrev pub func_head : Schema → Members → Result Head QFault
 func_head s ms = do
   t ← required (codes "func") text_in ms
-  statistic_before s t
+  measure_head s t
 
 abbrev pub typed_head : FacetType → Schema → (unmoved : Bool) → Members → Result Head QFault
 typed_head terms_type s unmoved ms = do
   t ← terms_parts s ms
+  _ ← optional (codes "numBuckets") truth_in false ms
   facet_of s unmoved (unsorted t (get_member (codes "sort") ms)) ms
 typed_head range_type s unmoved ms = do
   k ← range_part s ms
@@ -73,7 +89,7 @@ object_head s unmoved ms = do
   typed_head kind s unmoved ms
 
 abbrev pub command_head : Schema → (unmoved : Bool) → Data → Result Head QFault
-command_head s unmoved (string t) = statistic_before s t
+command_head s unmoved (string t) = measure_head s t
 command_head s unmoved d = do
   ms ← ok_or (as_object d) bad_command
   object_head s unmoved ms

@@ -1,5 +1,6 @@
 pub mod FaultView
 pub mod NodeView
+pub mod Beside
 pub mod Nested
 pub mod FacetNode
 pub mod RequestView

@@ -13,7 +13,7 @@ mod request;
 pub use copying::copy_nodes;
 pub use excluding::holds_exclusion;
 pub use fault::RequestFault;
-pub use fc_facet::{BlockStep, DateRange, Domain, Kind, QFault, Range, Sort, SortKey, Terms};
+pub use fc_facet::{BlockStep, DateRange, Domain, Kind, QFault, Range, Show, Sort, SortKey, Terms};
 pub use node::Node;
 pub use ranged::RangeBuckets;
 pub use ranges::{buckets_of_range, low_of_range};

@@ -13,7 +13,8 @@ pub struct Node {
     pub name: Name,
     pub domain: Domain,
     pub kind: Kind,
-    /// In the byte order of their names, which differ.
+    /// In the byte order of their names, which differ; but what shows the number of a facet's buckets stands behind that
+    /// facet, under its name.
     pub nodes: Vec<Node>,
 }
 

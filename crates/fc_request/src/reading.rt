@@ -2,5 +2,6 @@
 mod head;
 mod nodes;
 mod sort;
+mod spread;
 
 pub(crate) use nodes::{node, nodes_in, own};

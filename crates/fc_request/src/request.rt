@@ -40,7 +40,8 @@ impl Request {
     /// Reads an object of `query`, `filter`, `limit` and `facet`, each of which may be absent. The first fault counts,
     /// with the names of the facets from the outermost to the one at fault: members that are not known before those that
     /// are; then the query, the filters in their order, the limit, and the facets in the byte order of their names, each
-    /// with all that is nested in it. (Guide: JSON Request API; JSON Facet API)
+    /// with all that is nested in it. A `unique`, and the number that `numBuckets` asks for, are nodes of their own, which show
+    /// it; such a node behind a facet is not counted where nodes are at most 64. (Guide: JSON Request API; JSON Facet API)
     pub fn read(
         alloc: Global,
         schema: &Schema,

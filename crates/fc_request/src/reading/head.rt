@@ -10,11 +10,13 @@ ghost use Rattle.fc_spec.specs.requests.RequestReading as walk;
 ghost use Rattle.fc_request.specs.Heads as heads;
 ghost use Rattle.fc_request.specs.HeadView.{facet_type_view, head_view, kind_head_view};
 
+use super::spread::number_terms;
 use fc_base::json::{is_same, member};
 use fc_base::{Refusal, Schema, Stat};
 use fc_facet::{AnyRange, DateRange, Domain, QFault, Range, Terms};
 use fc_parameters::{
-    any_range_in, change_in, check_names, query_part, required, statistic_of, terms_in, text_in,
+    any_range_in, change_in, check_names, no_change, optional_truth, query_part, required,
+    statistic_of, terms_in, text_in, unique_called,
 };
 use fc_query::Query;
 use serde_json::{Map, Value};
@@ -24,6 +26,8 @@ use std::alloc::Global;
 #[derive(Drop)]
 pub(crate) enum KindHead<'v> {
     Terms(Terms, Option<&'v Value>),
+    /// The number of a field's values.
+    Number(Terms),
     Range(Range),
     Query(Query),
     DateRange(DateRange),
@@ -89,7 +93,27 @@ fn statistic_head<'v>(schema: &Schema, text: &str) -> Result<Head<'v>, Refusal<Q
     Ok(Head::Statistic(statistic_of(schema, text)?))
 }
 
+// A `unique` of the field of this name.
+fn number_head<'v>(alloc: Global, schema: &Schema, name: &[u8]) -> Result<Head<'v>, Refusal<QFault>>
+    ensures { Answers head_view fault_view result (heads.number_head schema.now name.now) }
+{
+    let field = schema.find(name).ok_or(QFault::UnknownField)?;
+    let kind = KindHead::Number(number_terms(field));
+    Ok(Head::Facet(no_change(alloc), kind, None))
+}
+
+// A `unique`, or else a statistic.
+fn measure_head<'v>(alloc: Global, schema: &Schema, text: &str) -> Result<Head<'v>, Refusal<QFault>>
+    ensures { Answers head_view fault_view result (heads.measure_head schema.now text.now) }
+{
+    match unique_called(text) {
+        Some(name) => number_head(alloc, schema, name),
+        None => statistic_head(schema, text),
+    }
+}
+
 fn func_head<'v>(
+    alloc: Global,
     schema: &Schema,
     members: &'v Map<String, Value>,
 ) -> Result<Head<'v>, Refusal<QFault>>
@@ -97,7 +121,7 @@ fn func_head<'v>(
 {
     let json = required(members, "func")?;
     let text = text_in(json)?;
-    statistic_head(schema, text)
+    measure_head(alloc, schema, text)
 }
 
 fn type_named(name: &str) -> Option<FacetType>
@@ -146,6 +170,7 @@ fn check_parameters(kind: FacetType, members: &Map<String, Value>) -> Result<(),
                 "overrequest",
                 "overrefine",
                 "method",
+                "numBuckets",
                 "domain",
                 "facet",
                 "sort",
@@ -185,6 +210,7 @@ fn typed_head<'v>(
     match kind {
         FacetType::Terms => {
             let terms = terms_in(alloc, schema, members)?;
+            let _asked = optional_truth(members, "numBuckets")?;
             let kind = KindHead::Terms(terms, member(members, "sort"));
             facet_of(alloc, schema, unmoved, kind, members)
         }
@@ -196,7 +222,7 @@ fn typed_head<'v>(
             let query = query_part(alloc, schema, members)?;
             facet_of(alloc, schema, unmoved, KindHead::Query(query), members)
         }
-        FacetType::Func => func_head(schema, members),
+        FacetType::Func => func_head(alloc, schema, members),
     }
 }
 
@@ -214,7 +240,7 @@ fn object_head<'v>(
     typed_head(alloc, schema, unmoved, kind, members)
 }
 
-// A command: a text is a statistic, an object names its type.
+// A command: a text is a `unique` or a statistic, an object names its type.
 fn command_head<'v>(
     alloc: Global,
     schema: &Schema,
@@ -225,7 +251,7 @@ fn command_head<'v>(
         (heads.command_head schema.now unmoved (view json.now)) }
 {
     match json {
-        Value::String(text) => statistic_head(schema, text.as_str()),
+        Value::String(text) => measure_head(alloc, schema, text.as_str()),
         Value::Object(members) => object_head(alloc, schema, unmoved, members),
         _ => Err(Refusal::Fault(QFault::BadCommand)),
     }

@@ -1,5 +1,5 @@
 // Nodes, one behind another, each with those nested in it.
-ghost use Rattle.std.specs.Prelude.{◌+◌, ◌≤◌, length, ◌≡◌, ◌<◌, ◌&&◌, [], false, IfOk, MatchResult, OnOk, option_map};
+ghost use Rattle.std.specs.Prelude.{◌+◌, ◌*◌, ◌≤◌, length, ◌≡◌, ◌<◌, ◌&&◌, [], false, IfOk, MatchResult, OnOk, option_map};
 ghost use Rattle.std.specs.Result.{ForOk};
 ghost use Rattle.serde_json.specs.View.{view, members_view};
 ghost use Rattle.fc_spec.specs.requests.Request as definition;
@@ -18,6 +18,7 @@ ghost use Rattle.fc_request.specs.NodeView.{node_of, node_view, nodes_view};
 
 use super::head::{Head, KindHead, node_head};
 use super::sort::{allows_exact, sort_in};
+use super::spread::{asks_number, push_with_number};
 use crate::{Node, RequestFault};
 use fc_base::json::member;
 use fc_base::{Name, Refusal, Schema, Stat, WantMemory};
@@ -71,7 +72,7 @@ fn sorted(
     nodes: &[Node],
     sort: Option<&Value>,
 ) -> Result<Terms, Refusal<QFault>>
-    requires { length nodes.now ≤ 64 }
+    requires { length nodes.now ≤ 128 }
     ensures { Answers (λ terms. definition.terms (terms_view terms)) fault_view result
         (heads.kind_behind outermost (heads.unsorted (terms_view terms) (option_map (λ json. view json.now) sort.entry)) (nodes_view nodes.now)) }
 {
@@ -92,7 +93,7 @@ fn facet_node(
     kind: KindHead<'_>,
     nodes: Vec<Node>,
 ) -> Result<Node, Refusal<QFault>>
-    requires { length nodes.items ≤ 64 }
+    requires { length nodes.items ≤ 128 }
     ensures { Answers node_view fault_view result
         (heads.facet_behind outermost name.now (domain_view domain) (kind_head_view kind.entry) (nodes_view nodes.items)) }
 {
@@ -101,6 +102,7 @@ fn facet_node(
             let terms = sorted(outermost, terms, &nodes, sort)?;
             Ok(node(alloc, name, domain, Kind::Terms(terms), nodes)?)
         }
+        KindHead::Number(terms) => Ok(node(alloc, name, domain, Kind::Terms(terms), nodes)?),
         KindHead::Range(range) => Ok(node(alloc, name, domain, Kind::Range(range), nodes)?),
         KindHead::Query(query) => Ok(node(alloc, name, domain, Kind::Query(query), nodes)?),
         KindHead::DateRange(range) => {
@@ -153,7 +155,7 @@ fn facet_in(
     kind: KindHead<'_>,
     nodes: Vec<Node>,
 ) -> Result<Node, Refusal<RequestFault>>
-    requires { length nodes.items ≤ 64 }
+    requires { length nodes.items ≤ 128 }
     ensures { Answers node_view request_fault_view result
         (walk.own (heads.facet_behind outermost name.now (domain_view domain) (kind_head_view kind.entry) (nodes_view nodes.items))) }
 {
@@ -173,7 +175,7 @@ fn facet_with(
     kind: KindHead<'_>,
     nodes: Result<Vec<Node>, Refusal<RequestFault>>,
 ) -> Result<Node, Refusal<RequestFault>>
-    requires { ForOk nodes (λ nodes. length nodes.items ≤ 64) }
+    requires { ForOk nodes (λ nodes. length nodes.items ≤ 128) }
     ensures { MatchResult nodes
         (λ nodes. Answers node_view request_fault_view result
         (walk.own (heads.facet_behind outermost name.now (domain_view domain) (kind_head_view kind.entry) (nodes_view nodes.items))))
@@ -241,7 +243,7 @@ fn inner_nodes(
     ensures answer { Answers (λ nodes. heads.walked (nodes_view nodes.items) seen.new) request_fault_view result
         (heads.inner_nodes (walk.nodes_within left schema.now false unmoved) seen.old
         (option_map (λ ms. members_view ms.now.entries) members.entry)) }
-    ensures counted { IfOk result (λ nodes. length nodes.items + seen.old ≤ seen.new) }
+    ensures counted { IfOk result (λ nodes. length nodes.items + 2 * seen.old ≤ 2 * seen.new) }
     ensures rises { seen.old ≤ seen.new }
     ensures few { seen.new ≤ 64 }
 {
@@ -266,7 +268,7 @@ pub(crate) fn read_nodes(
     requires { seen.old ≤ 64 }
     ensures answer { Answers (λ nodes. heads.walked (nodes_view nodes.items) seen.new) request_fault_view result
         (walk.nodes_within left schema.now outermost unmoved seen.old (members_view members.now.entries)) }
-    ensures counted { IfOk result (λ nodes. length nodes.items + seen.old ≤ seen.new) }
+    ensures counted { IfOk result (λ nodes. length nodes.items + 2 * seen.old ≤ 2 * seen.new) }
     ensures rises { seen.old ≤ seen.new }
     ensures few { seen.new ≤ 64 }
 {
@@ -274,7 +276,7 @@ pub(crate) fn read_nodes(
     for (name, json) in members {
         let name = name.as_str();
         match read_node(alloc, schema, left, seen, outermost, unmoved, name, json) {
-            Ok(node) => nodes.push(node)?,
+            Ok(node) => push_with_number(alloc, &mut nodes, node, asks_number(json))?,
             Err(Refusal::Memory) => return Err(Refusal::Memory),
             Err(Refusal::Fault(fault)) => {
                 return Err(Refusal::Fault(inside(alloc, name, fault)?));

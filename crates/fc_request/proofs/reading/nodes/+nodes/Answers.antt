@@ -1,4 +1,4 @@
-use Rattle.std.proofs.Common.{arith, ◌∙◌, ap, sym, map, Vec, Global, Ok}
+use Rattle.std.proofs.Common.{arith, ◌++◌, ◌∙◌, ap, sym, map, Vec, Global, Ok}
 use Rattle.std.specs.Prelude.{string_bytes}
 use Rattle.serde_json.specs.View.{view, members_view}
 use Rattle.fc_spec.specs.requests.RequestReading.{members_read}
@@ -7,6 +7,7 @@ use Rattle.fc_request.specs.HeadView.{head_view, kind_head_view}
 use Rattle.fc_request.specs.Heads.{node_within, walked}
 use Rattle.fc_facet.specs.KindView.{domain_view}
 use Rattle.fc_request.specs.NodeView.{node_view, nodes_view}
+use Rattle.fc_request.specs.Beside.{with_numbers}
 use Rattle.fc_request.proofs.NodeAnswers.{refused_node, statistic_within, facet_within, one_more}
 use Rattle.fc_request.proofs.NodeWalk.{behind, linked_before-linked}
 use Rattle.fc_request.proofs.reading.nodes.+nodes.Goals as goal
@@ -34,13 +35,13 @@ read_nodes-loop-name-preserved t c = record {
   read =
       let f = node_within c.args.left c.args.schema.now c.args.outermost c.args.unmoved in
       let text = c.as_str-name.ensures.value in
-      ap (λ nodes. behind (map node_view nodes) (members_read f c.read_node.new.seen (members_view c.next.new.self))) c.in_ok-push-in-Ok.ensures.items
-      ∙ sym (one_more f c.loop-name.nodes.items c.in-Ok.node c.loop-name.seen c.read_node.new.seen (string_bytes c.in-Some.name.now) (view c.in-Some.json.now) (members_view c.next.new.self)
+      sym (one_more f c.loop-name.nodes.items c.push_with_number.new.nodes.items c.in-Ok.node c.loop-name.seen c.read_node.new.seen (string_bytes c.in-Some.name.now) (view c.in-Some.json.now) (members_view c.next.new.self)
       (ap (λ name. f c.loop-name.seen name (view c.in-Some.json.now)) (sym text) ∙ c.in-Ok.ensures.answer)
-      (c.in-Ok.ensures.name ∙ text))
+      (c.in-Ok.ensures.name ∙ text)
+      (c.in_ok-push_with_number-in-Ok.ensures.read ∙ ap (λ asked. map node_view c.loop-name.nodes.items ++ with_numbers asked (node_view c.in-Ok.node)) c.asks_number.ensures))
       ∙ ap (λ es. behind (map node_view c.loop-name.nodes.items) (members_read f c.loop-name.seen (members_view es))) (sym c.in-Some.ensures.steps)
       ∙ c.loop-name.invariant.read;
-  counted = omega (arith, c.in_ok-push-in-Ok.ensures.len, c.in-Ok.ensures.counted);
+  counted = omega (arith, c.in_ok-push_with_number-in-Ok.ensures.few, c.in-Ok.ensures.counted);
   rises = omega arith;
   few = omega arith;
 }

@@ -19,7 +19,7 @@ abbrev pub invariant-read_nodes-loop-name : goal.invariant-read_nodes-loop-name
 invariant-read_nodes-loop-name l = record {
   read : behind (map node_view l.nodes.items) (members_read (node_within l.left l.schema l.outermost l.unmoved) l.seen (members_view l.name-iterator))
       ≡ nodes_within l.left l.schema l.outermost l.unmoved l.initial.seen (members_view l.members.entries);
-  counted : length l.nodes.items + l.initial.seen ≤ l.seen;
+  counted : length l.nodes.items + 2 * l.initial.seen ≤ 2 * l.seen;
   rises : l.initial.seen ≤ l.seen;
   few : l.seen ≤ 64;
 }
