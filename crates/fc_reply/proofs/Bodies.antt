@@ -1,5 +1,5 @@
 -- What facets put at their names.
-use Rattle.std.proofs.Common.{◌≡◌, ℕ, List, ◌∷◌, Some, refl, sym, ap, ◌∙◌, subst}
+use Rattle.std.proofs.Common.{◌≡◌, ℕ, List, ◌∷◌, Option, None, Some, refl, sym, ap, ◌∙◌, subst}
 use Rattle.std.specs.List.{slice_get}
 use Rattle.serde_json.specs.Data.{Data, Members, put}
 use Rattle.fc_spec.specs.documents.Val.{Text}
@@ -9,37 +9,45 @@ use Rattle.fc_reply.specs.declared.reply.ReplyBody.{ReplyBody, out-ReplyBody}
 use Rattle.fc_reply.specs.declared.reply.ReplyBody.TheFolds.{fold_out-ReplyBody, fold_out-ReplyFacet, map-ReplyBody}
 use Rattle.fc_reply.specs.declared.reply.ReplyBody.TheOpen.{ReplyBody-F, Number, Many, One}
 use Rattle.fc_reply.specs.declared.reply.ReplyBucket.{ReplyBucket, out-ReplyBucket}
-use Rattle.fc_reply.specs.declared.reply.ReplyBuckets.{ReplyBuckets}
+use Rattle.fc_reply.specs.declared.reply.ReplyBuckets.{ReplyBuckets, out-ReplyBuckets}
 use Rattle.fc_reply.specs.declared.reply.ReplyFacet.{ReplyFacet, out-ReplyFacet}
 use Rattle.fc_reply.specs.declared.slots.Slot.TheVariants.{Facet}
-use Rattle.fc_reply.specs.ReplyView.{PutBody, PutFacet, body_step, bucket_step, buckets_step, facet_step, bucket_view, facet_view, body_view, buckets_view, facets_view}
+use Rattle.fc_reply.specs.ReplyView.{PutBody, PutFacet, body_step, bucket_step, buckets_step, facet_step, bucket_view, facet_view, body_view, buckets_view, facets_view, row_body}
 use Rattle.fc_reply.specs.Slots.{body_data, facet_data, slot_data}
+use Rattle.fc_reply.proofs.ReplyViews.{row_of_fields, view_of_buckets}
 
 abbrev Open : Type 0
 Open = ReplyBody-F ReplyBody ReplyBucket ReplyBuckets ReplyFacet
 
 abbrev seen : Open → PutBody
-seen x = body_step (map-ReplyBody ReplyBody ReplyBucket ReplyBuckets ReplyFacet PutBody definition.Bucket definition.Row PutFacet body_view bucket_view buckets_view facet_view x)
+seen x = body_step (map-ReplyBody ReplyBody ReplyBucket ReplyBuckets ReplyFacet PutBody definition.Bucket PutBody PutFacet body_view bucket_view buckets_view facet_view x)
 
 -- a facet with this body puts this at its name, before the facets after it
 abbrev IsBody : Data → PutBody → Type 0
 IsBody d body = (name : Text) (more : definition.Facets) (ms : Members) → put_facets (body name more) ms ≡ put_facets more (put name d ms)
 
+row_puts : (n : Option ℕ) (row : definition.Row) → IsBody (body_data (row_body n row)) (row_body n row)
+row_puts None row = λ name more ms. refl
+row_puts (Some n) row = λ name more ms. refl
+
+buckets_put : (bs : ReplyBuckets) → IsBody (body_data (buckets_view bs)) (buckets_view bs)
+buckets_put bs = subst (λ (body : PutBody). IsBody (body_data body) body) (sym (view_of_buckets bs)) (row_puts (out-ReplyBuckets bs).number (row_of_fields (out-ReplyBuckets bs)))
+
 seen_puts : (x : Open) → IsBody (body_data (seen x)) (seen x)
 seen_puts (Number n) = λ name more ms. refl
-seen_puts (Many row) = λ name more ms. refl
+seen_puts (Many bs) = buckets_put bs
 seen_puts (One b) = λ name more ms. refl
 
 body_puts : (r : ReplyBody) → IsBody (body_data (body_view r)) (body_view r)
 body_puts r =
     subst (λ (b : PutBody). IsBody (body_data b) b)
-    (sym (fold_out-ReplyBody PutBody definition.Bucket definition.Row PutFacet body_step bucket_step buckets_step facet_step r)) (seen_puts (out-ReplyBody r))
+    (sym (fold_out-ReplyBody PutBody definition.Bucket PutBody PutFacet body_step bucket_step buckets_step facet_step r)) (seen_puts (out-ReplyBody r))
 
 -- a facet puts its data at its name, before the facets after it
 pub facet_puts : (f : ReplyFacet) (more : definition.Facets) (ms : Members)
     → put_facets (facet_view f more) ms ≡ put_facets more (put (out-ReplyFacet f).name (body_data (body_view (out-ReplyFacet f).body)) ms)
 facet_puts f more ms =
-    ap (λ (g : PutFacet). put_facets (g more) ms) (fold_out-ReplyFacet PutBody definition.Bucket definition.Row PutFacet body_step bucket_step buckets_step facet_step f)
+    ap (λ (g : PutFacet). put_facets (g more) ms) (fold_out-ReplyFacet PutBody definition.Bucket PutBody PutFacet body_step bucket_step buckets_step facet_step f)
     ∙ body_puts (out-ReplyFacet f).body (out-ReplyFacet f).name more ms
 
 -- the same by the slot of its place

@@ -1,6 +1,7 @@
 -- What reply trees stand for in the definitions.
-use Rattle.std.specs.Prelude.{List, [], ◌∷◌, Option, None, Some, map, option_map}
+use Rattle.std.specs.Prelude.{ℕ, List, [], ◌∷◌, Option, None, Some, map, option_map}
 use Rattle.fc_spec.specs.replies.Reply as definition
+use Rattle.fc_spec.specs.replies.Folded.{with_count}
 use Rattle.fc_spec.specs.documents.Val.{Text}
 use Rattle.fc_base.specs.View.{val_view}
 use Rattle.fc_reply.specs.declared.reply.Reply.{Reply}
@@ -33,33 +34,40 @@ abbrev pub part_over : definition.Spot → Option definition.Bucket → definiti
 part_over spot None more = more
 part_over spot (Some b) more = definition.part spot b more
 
-abbrev pub bucket_step : ReplyBucket-F PutBody definition.Bucket definition.Row PutFacet → definition.Bucket
+-- a row of buckets, with their number beside it, where it is there
+abbrev pub row_body : Option ℕ → definition.Row → PutBody
+row_body n row name more = with_count n (definition.many name row more)
+
+abbrev pub bucket_step : ReplyBucket-F PutBody definition.Bucket PutBody PutFacet → definition.Bucket
 bucket_step b = definition.bucket (option_map val_view b.val) b.count (facets_over b.facets.items definition.no_facets)
 
-abbrev pub facet_step : ReplyFacet-F PutBody definition.Bucket definition.Row PutFacet → PutFacet
+abbrev pub facet_step : ReplyFacet-F PutBody definition.Bucket PutBody PutFacet → PutFacet
 facet_step f = f.body f.name
 
-abbrev pub body_step : ReplyBody-F PutBody definition.Bucket definition.Row PutFacet → PutBody
+abbrev pub body_step : ReplyBody-F PutBody definition.Bucket PutBody PutFacet → PutBody
 body_step (Number n) name more = definition.number name n more
-body_step (Many row) name more = definition.many name row more
+body_step (Many put) name more = put name more
 body_step (One b) name more = definition.one name b more
 
-abbrev pub buckets_step : ReplyBuckets-F PutBody definition.Bucket definition.Row PutFacet → definition.Row
-buckets_step bs =
+abbrev pub row_step : ReplyBuckets-F PutBody definition.Bucket PutBody PutFacet → definition.Row
+row_step bs =
     parts_over definition.listed bs.list.items (part_over definition.as_missing bs.missing
     (part_over definition.as_before bs.before (part_over definition.as_between bs.between (part_over definition.as_after bs.after definition.no_parts))))
 
+abbrev pub buckets_step : ReplyBuckets-F PutBody definition.Bucket PutBody PutFacet → PutBody
+buckets_step bs = row_body bs.number (row_step bs)
+
 abbrev pub bucket_view : ReplyBucket → definition.Bucket
-bucket_view = fold-ReplyBucket PutBody definition.Bucket definition.Row PutFacet body_step bucket_step buckets_step facet_step
+bucket_view = fold-ReplyBucket PutBody definition.Bucket PutBody PutFacet body_step bucket_step buckets_step facet_step
 
 abbrev pub facet_view : ReplyFacet → PutFacet
-facet_view = fold-ReplyFacet PutBody definition.Bucket definition.Row PutFacet body_step bucket_step buckets_step facet_step
+facet_view = fold-ReplyFacet PutBody definition.Bucket PutBody PutFacet body_step bucket_step buckets_step facet_step
 
 abbrev pub body_view : ReplyBody → PutBody
-body_view = fold-ReplyBody PutBody definition.Bucket definition.Row PutFacet body_step bucket_step buckets_step facet_step
+body_view = fold-ReplyBody PutBody definition.Bucket PutBody PutFacet body_step bucket_step buckets_step facet_step
 
-abbrev pub buckets_view : ReplyBuckets → definition.Row
-buckets_view = fold-ReplyBuckets PutBody definition.Bucket definition.Row PutFacet body_step bucket_step buckets_step facet_step
+abbrev pub buckets_view : ReplyBuckets → PutBody
+buckets_view = fold-ReplyBuckets PutBody definition.Bucket PutBody PutFacet body_step bucket_step buckets_step facet_step
 
 abbrev pub facets_view : List ReplyFacet → definition.Facets
 facets_view fs = facets_over (map facet_view fs) definition.no_facets

@@ -1,13 +1,13 @@
 // Writing buckets, a token at a time.
-ghost use Rattle.std.specs.Prelude.{map, codes, option_map, OnOk};
-ghost use Rattle.serde_json.specs.Data.{array, object, no_members, put};
+ghost use Rattle.std.specs.Prelude.{map, option_map, OnOk};
+ghost use Rattle.serde_json.specs.Data.{array, object};
 ghost use Rattle.serde_json.specs.View.{items_of};
-ghost use Rattle.fc_spec.specs.replies.Json.{bucket_data, listed_items, put_row};
+ghost use Rattle.fc_spec.specs.replies.Json.{bucket_data};
 ghost use Rattle.fc_reply.specs.ReplyView.{bucket_view, body_view, buckets_view};
 ghost use Rattle.fc_reply.specs.Slots.{body_data, slot_data, slot_members};
 ghost use Rattle.fc_reply.specs.Tokens.{WritesData, WritesMember};
 
-use crate::leaf::{write_leaf, write_val};
+use crate::leaf::{write_leaf, write_number, write_val};
 use crate::slots::{Slot, slots_of};
 use crate::{ReplyBody, ReplyBucket, ReplyBuckets};
 use fc_base::WantMemory;
@@ -82,11 +82,10 @@ fn write_body(alloc: Global, body: &ReplyBody, out: &mut Writer) -> Result<(), W
     }
 }
 
-// The buckets of a facet and those beside them, in the order of their names.
+// The buckets of a facet, those beside them, and their number, in the order of their names.
 #[cycle(write)]
 fn write_buckets(alloc: Global, buckets: &ReplyBuckets, out: &mut Writer) -> Result<(), WantMemory>
-    ensures { OnOk result (WritesData out.old out.new (object (put_row (buckets_view buckets.now)
-        (put (codes "buckets") (array (listed_items (buckets_view buckets.now))) no_members)))) }
+    ensures { OnOk result (WritesData out.old out.new (body_data (buckets_view buckets.now))) }
 {
     out.begin_object()?;
     write_beside(alloc, &buckets.after, "after", out)?;
@@ -95,6 +94,7 @@ fn write_buckets(alloc: Global, buckets: &ReplyBuckets, out: &mut Writer) -> Res
     out.key("buckets")?;
     write_list(alloc, &buckets.list, out)?;
     write_beside(alloc, &buckets.missing, "missing", out)?;
+    write_number(buckets.number, out)?;
     Ok(out.end_object()?)
 }
 

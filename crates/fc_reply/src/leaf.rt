@@ -1,4 +1,4 @@
-// Writing values, and buckets with no facets.
+// Writing values, numbers of buckets, and buckets with no facets.
 ghost use Rattle.std.specs.Prelude.{codes, option_map, OnOk};
 ghost use Rattle.serde_json.specs.Data.{object, no_members, put};
 ghost use Rattle.fc_base.specs.View.{val_view};
@@ -27,6 +27,20 @@ fn write_own_val(val: &Option<Val>, out: &mut Writer) -> Result<(), WantMemory>
         Some(val) => {
             out.key("val")?;
             write_val(val, out)
+        }
+        None => Ok(()),
+    }
+}
+
+/// The member `numBuckets`, where there is one.
+pub(crate) fn write_number(number: Option<u64>, out: &mut Writer) -> Result<(), WantMemory>
+    ensures { OnOk result (WritesMember out.old out.new (codes "numBuckets")
+        (option_map natural_data number)) }
+{
+    match number {
+        Some(number) => {
+            out.key("numBuckets")?;
+            Ok(out.u64(number)?)
         }
         None => Ok(()),
     }

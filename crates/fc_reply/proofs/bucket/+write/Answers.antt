@@ -1,7 +1,7 @@
 use Rattle.std.proofs.Common.{◌++◌, ℕ, List, [], ◌∷◌, Bor, map, option_map, codes, refl, sym, ap, ◌∙◌}
 use Rattle.json.specs.Token.{Token, begin_array, begin_object, end_object, key}
 use Rattle.json.specs.Tree.{items_tokens, members_tokens}
-use Rattle.serde_json.specs.Data.{array, object}
+use Rattle.serde_json.specs.Data.{array}
 use Rattle.serde_json.specs.View.{items_of}
 use Rattle.serde_json.specs.Written.{items_outline, members_outline}
 use Rattle.fc_spec.specs.replies.Json.{bucket_data}
@@ -12,8 +12,8 @@ use Rattle.fc_reply.specs.ReplyView.{bucket_view}
 use Rattle.fc_reply.specs.Slots.{slot_data, slot_members}
 use Rattle.fc_reply.specs.Tokens.{tokens_of, WritesTokens}
 use Rattle.fc_reply.proofs.Appending.{appends_more, left_after, item_written, list_written}
-use Rattle.fc_reply.proofs.PutMembers.{row_is}
-use Rattle.fc_reply.proofs.ReplyTokens.{beside_tokens, row_tokens}
+use Rattle.fc_reply.proofs.PutMembers.{body_is}
+use Rattle.fc_reply.proofs.ReplyTokens.{beside_tokens, number_tokens, row_tokens}
 use Rattle.fc_reply.proofs.bucket.+write.Goals as goal
 
 -- the tokens of a list of buckets behind its bracket
@@ -78,12 +78,13 @@ write_buckets-returns depth c =
       c.in_ok-write_list.ensures.0,
       c.in_ok-write_list.ensures.1 ∙ ap (λ bs. c.key.new.self.tokens ++ tokens_of (array (items_of (map bucket_data (map bucket_view bs))))) c.deref.ensures.value,
     ) in
-    let last = appends_more c.write_list.new.out c.write_beside-4.new.out end (beside_tokens (codes "missing") m) (end_object ∷ []) c.in_ok-write_beside-4.ensures (closed.room.0, closed.ok) in
-    let behind = appends_more c.key.new.self c.write_list.new.out end (tokens_of (array list)) _ listed last in
+    let last = appends_more c.write_beside-4.new.out c.write_number.new.out end (number_tokens row.number) (end_object ∷ []) c.in_ok-write_number.ensures (closed.room.0, closed.ok) in
+    let from_missing = appends_more c.write_list.new.out c.write_beside-4.new.out end (beside_tokens (codes "missing") m) _ c.in_ok-write_beside-4.ensures last in
+    let behind = appends_more c.key.new.self c.write_list.new.out end (tokens_of (array list)) _ listed from_missing in
     let inside = appends_more c.write_beside-3.new.out c.key.new.self end (key (codes "buckets") ∷ []) _ (named.room.0, named.ok) behind in
     let from_between = appends_more c.write_beside-2.new.out c.write_beside-3.new.out end (beside_tokens (codes "between") t) _ c.in_ok-write_beside-3.ensures inside in
     let from_before = appends_more c.write_beside.new.out c.write_beside-2.new.out end (beside_tokens (codes "before") b) _ c.in_ok-write_beside-2.ensures from_between in
     let from_after = appends_more c.begin_object.new.self c.write_beside.new.out end (beside_tokens (codes "after") a) _ c.in_ok-write_beside.ensures from_before in
     let whole = appends_more c.args.out.now c.begin_object.new.self end (begin_object ∷ []) _ (opened.room.0, opened.ok) from_after in
-    let same = ap (λ ms. tokens_of (object ms)) (row_is c.args.buckets.now) ∙ row_tokens m b t a list in
+    let same = ap tokens_of (body_is c.args.buckets.now) ∙ row_tokens m b t a row.number list in
     (whole.0, whole.1 ∙ ap (λ ts. c.args.out.now.tokens ++ ts) (sym same))
