@@ -6,15 +6,15 @@ use Rattle.fc_spec.specs.documents.Val.{Text}
 use Rattle.fc_spec.specs.replies.Reply as definition
 use Rattle.fc_spec.specs.replies.Json.{put_facets}
 use Rattle.fc_reply.specs.declared.reply.ReplyBody.{ReplyBody, out-ReplyBody}
-use Rattle.fc_reply.specs.declared.reply.ReplyBody.TheFolds.{fold_out-ReplyBody, fold_out-ReplyFacet, map-ReplyBody}
+use Rattle.fc_reply.specs.declared.reply.ReplyBody.TheFolds.{fold_out-ReplyBody, map-ReplyBody}
 use Rattle.fc_reply.specs.declared.reply.ReplyBody.TheOpen.{ReplyBody-F, Number, Many, One}
 use Rattle.fc_reply.specs.declared.reply.ReplyBucket.{ReplyBucket, out-ReplyBucket}
 use Rattle.fc_reply.specs.declared.reply.ReplyBuckets.{ReplyBuckets, out-ReplyBuckets}
 use Rattle.fc_reply.specs.declared.reply.ReplyFacet.{ReplyFacet, out-ReplyFacet}
 use Rattle.fc_reply.specs.declared.slots.Slot.TheVariants.{Facet}
-use Rattle.fc_reply.specs.ReplyView.{PutBody, PutFacet, body_step, bucket_step, buckets_step, facet_step, bucket_view, facet_view, body_view, buckets_view, facets_view, row_body}
+use Rattle.fc_reply.specs.ReplyView.{PutBody, PutFacet, body_step, bucket_step, buckets_step, facet_step, bucket_view, facet_view, body_view, buckets_view, facets_view, row_body, row_view}
 use Rattle.fc_reply.specs.Slots.{body_data, facet_data, slot_data}
-use Rattle.fc_reply.proofs.ReplyViews.{row_of_fields, view_of_buckets}
+use Rattle.fc_reply.proofs.ReplyViews.{view_of_buckets, view_of_facet}
 
 abbrev Open : Type 0
 Open = ReplyBody-F ReplyBody ReplyBucket ReplyBuckets ReplyFacet
@@ -31,7 +31,7 @@ row_puts None row = λ name more ms. refl
 row_puts (Some n) row = λ name more ms. refl
 
 buckets_put : (bs : ReplyBuckets) → IsBody (body_data (buckets_view bs)) (buckets_view bs)
-buckets_put bs = subst (λ (body : PutBody). IsBody (body_data body) body) (sym (view_of_buckets bs)) (row_puts (out-ReplyBuckets bs).number (row_of_fields (out-ReplyBuckets bs)))
+buckets_put bs = subst (λ (body : PutBody). IsBody (body_data body) body) (sym (view_of_buckets bs)) (row_puts (out-ReplyBuckets bs).number (row_view bs))
 
 seen_puts : (x : Open) → IsBody (body_data (seen x)) (seen x)
 seen_puts (Number n) = λ name more ms. refl
@@ -47,7 +47,7 @@ body_puts r =
 pub facet_puts : (f : ReplyFacet) (more : definition.Facets) (ms : Members)
     → put_facets (facet_view f more) ms ≡ put_facets more (put (out-ReplyFacet f).name (body_data (body_view (out-ReplyFacet f).body)) ms)
 facet_puts f more ms =
-    ap (λ (g : PutFacet). put_facets (g more) ms) (fold_out-ReplyFacet PutBody definition.Bucket PutBody PutFacet body_step bucket_step buckets_step facet_step f)
+    ap (λ facets. put_facets facets ms) (view_of_facet f more)
     ∙ body_puts (out-ReplyFacet f).body (out-ReplyFacet f).name more ms
 
 -- the same by the slot of its place

@@ -8,7 +8,7 @@ use Rattle.fc_reply.specs.declared.reply.Reply.{Reply}
 use Rattle.fc_reply.specs.declared.reply.ReplyBucket.{ReplyBucket}
 use Rattle.fc_reply.specs.declared.reply.ReplyFacet.{ReplyFacet}
 use Rattle.fc_reply.specs.declared.reply.ReplyBody.{ReplyBody}
-use Rattle.fc_reply.specs.declared.reply.ReplyBuckets.{ReplyBuckets}
+use Rattle.fc_reply.specs.declared.reply.ReplyBuckets.{ReplyBuckets, out-ReplyBuckets}
 use Rattle.fc_reply.specs.declared.reply.ReplyBody.TheOpen.{ReplyBucket-F, ReplyFacet-F, ReplyBody-F, Number, Many, One, ReplyBuckets-F}
 use Rattle.fc_reply.specs.declared.reply.ReplyBody.TheFolds.{fold-ReplyBucket, fold-ReplyFacet, fold-ReplyBody, fold-ReplyBuckets}
 
@@ -68,6 +68,15 @@ body_view = fold-ReplyBody PutBody definition.Bucket PutBody PutFacet body_step 
 
 abbrev pub buckets_view : ReplyBuckets → PutBody
 buckets_view = fold-ReplyBuckets PutBody definition.Bucket PutBody PutFacet body_step bucket_step buckets_step facet_step
+
+-- the row of these fields, and that of a facet's buckets, without their number
+abbrev pub row_of : ReplyBuckets-F ReplyBody ReplyBucket ReplyBuckets ReplyFacet → definition.Row
+row_of x =
+    parts_over definition.listed (map bucket_view x.list.items) (part_over definition.as_missing (option_map bucket_view x.missing) (part_over definition.as_before (option_map bucket_view x.before)
+    (part_over definition.as_between (option_map bucket_view x.between) (part_over definition.as_after (option_map bucket_view x.after) definition.no_parts))))
+
+abbrev pub row_view : ReplyBuckets → definition.Row
+row_view bs = row_of (out-ReplyBuckets bs)
 
 abbrev pub facets_view : List ReplyFacet → definition.Facets
 facets_view fs = facets_over (map facet_view fs) definition.no_facets
