@@ -16,6 +16,7 @@ pub mod Written
 pub mod SomeLines
 pub mod Going
 pub mod SameReplies
+pub mod SpreadSearches
 pub mod Printed
 pub mod Statuses
 pub mod Leaving

@@ -1,7 +1,8 @@
 -- The laws that the promises of a run stand on.
+use Rattle.fc_spec.specs.laws.FoldedNumbers.{FoldsIntoNumbers, FoldsSingleIndex}
+use Rattle.fc_spec.specs.laws.NumberedPaths.{AreNumberedPathsExact, AreNumberedTopsExact}
 use Rattle.fc_spec.specs.laws.PhaseLaws.{BookedAreOutputs, PhasesAddUp}
 use Rattle.fc_spec.specs.laws.ScriptLaws.{AddedAreWithin, SearchesAreFew, IsOnlyOutput, StandByPhase}
-use Rattle.fc_spec.specs.laws.TopsLaw.{AreTopPathsExact, AreTopsExact, IsSingleWithTops}
 
 pub record AreRunLaws : Type 0 where
   pub phases : PhasesAddUp
@@ -10,6 +11,7 @@ pub record AreRunLaws : Type 0 where
   pub few : SearchesAreFew
   pub only : IsOnlyOutput
   pub added : AddedAreWithin
-  pub single : IsSingleWithTops
-  pub refined : AreTopPathsExact
-  pub tops : AreTopsExact
+  pub single : FoldsSingleIndex
+  pub numbers : FoldsIntoNumbers
+  pub refined : AreNumberedPathsExact
+  pub tops : AreNumberedTopsExact

@@ -33,9 +33,11 @@ use std::thread::Threads;
 /// was sent for each search that has a reply, before the lines of its phase are written; searches are numbered from 0 over the whole
 /// script, those whose requests have faults too.
 ///
-/// A reply is the defined distributed reply over the generations that its line shows. In it an outermost facet that is refined exactly
-/// prints what a single index with all their blocks prints of its domain: the same values in the same order, with their counts and
-/// statistics; facets nested in its buckets are refined as elsewhere. So does an outermost facet without a limit.
+/// A reply is the defined distributed reply over the generations that its line shows, with the numbers of values and of buckets
+/// that are asked for, each counted from the documents that the bucket around it counts. In it an outermost facet that is refined
+/// exactly prints what a single index with all their blocks prints of its domain: the same values in the same order, with their
+/// counts, statistics and numbers; facets nested in its buckets are refined as elsewhere. So does an outermost facet without a
+/// limit.
 ///
 /// The clauses on bytes hold where the source tells the bytes that it has left, and the sink those that were
 /// written; `booked` where, beside both, the book tells what it was told.

@@ -2,8 +2,8 @@
 ghost use Rattle.fc_run.specs.RunLaws.{AreRunLaws};
 
 use fc_spec::{
-    added_are_within_limits, phase_ends_are_outputs, phases_write_outputs, scripts_have_one_output,
-    searches_are_few, tops_are_exact,
+    added_are_within_limits, folds_into_numbers, phase_ends_are_outputs, phases_write_outputs,
+    scripts_have_one_output, searches_are_few,
 };
 
 /// All of them.
@@ -15,5 +15,5 @@ pub(crate) fn run_laws()
     searches_are_few();
     scripts_have_one_output();
     added_are_within_limits();
-    tops_are_exact();
+    folds_into_numbers();
 }

@@ -8,3 +8,4 @@ pub mod Replied
 pub mod Heard
 pub mod ResponsesHeard
 pub mod Replaced
+pub mod Spread

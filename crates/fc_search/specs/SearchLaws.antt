@@ -2,14 +2,16 @@
 use Rattle.fc_spec.specs.documents.Schema.{Schema}
 use Rattle.fc_spec.specs.requests.Request.{Request}
 use Rattle.fc_spec.specs.requests.ValidRequests.{IsSearchable}
+use Rattle.fc_spec.specs.laws.FoldedNumbers.{FoldsIntoNumbers, FoldsSingleIndex}
 use Rattle.fc_spec.specs.laws.Merging.{MergesIntoReply}
+use Rattle.fc_spec.specs.laws.NumberedPaths.{AreNumberedPathsExact, AreNumberedTopsExact}
 use Rattle.fc_spec.specs.laws.ReplacedLaw.{ReplacedAreSearchable, RestoresReply}
 use Rattle.fc_spec.specs.laws.RequestLaws.{OnlyExactAreSearchable, ValidAreNamedApart, ValidHaveFewDepths, ValidSortExactByCount}
 use Rattle.fc_spec.specs.laws.ShapedAnswers.{AnswersAreShaped}
 use Rattle.fc_spec.specs.laws.SpellingLaw.{HasOneSpelling}
 use Rattle.fc_spec.specs.laws.SumsLaw.{AnswersFit}
 use Rattle.fc_spec.specs.laws.TopRoundsLaw.{OnlyExactHasTops}
-use Rattle.fc_spec.specs.laws.TopsLaw.{AreByOffers, AreTopPathsExact, AreTopsExact, IsSingleWithTops}
+use Rattle.fc_spec.specs.laws.TopsLaw.{AreByOffers}
 use Rattle.fc_refine.specs.CountableRanges.{AreCountable}
 use Rattle.fc_told.specs.Telling.{FitsExactly, TellsMore}
 
@@ -37,9 +39,10 @@ pub record AreReplacingLaws : Type 0 where
   pub searchable : ReplacedAreSearchable
   pub restored : RestoresReply
 
--- of replies with top buckets
+-- of replies with top buckets, and of folded ones
 pub record AreReplyLaws : Type 0 where
-  pub tops : AreTopsExact
-  pub paths : AreTopPathsExact
   pub offers : AreByOffers
-  pub single : IsSingleWithTops
+  pub numbers : FoldsIntoNumbers
+  pub paths : AreNumberedPathsExact
+  pub tops : AreNumberedTopsExact
+  pub single : FoldsSingleIndex

@@ -3,7 +3,7 @@ ghost use Rattle.fc_search.specs.SearchLaws.{AreMergingLaws, AreReplacingLaws, A
 
 use fc_reading::valid_requests_are_countable;
 use fc_spec::{
-    answers_are_shaped, answers_fit, answers_merge, exact_facets_are_replaced,
+    answers_are_shaped, answers_fit, answers_merge, exact_facets_are_replaced, folds_into_numbers,
     messages_have_one_spelling, rounds_tell_tops, tops_are_exact, valid_requests_have_few_rounds,
     valid_requests_sort_exact_by_count,
 };
@@ -38,9 +38,10 @@ pub(crate) fn replacing_laws()
     exact_facets_are_replaced();
 }
 
-/// Of replies with top buckets.
+/// Of replies with top buckets, and of folded ones.
 pub(crate) fn reply_laws()
     ensures { AreReplyLaws }
 {
     tops_are_exact();
+    folds_into_numbers();
 }

@@ -2,12 +2,15 @@
 ghost use Rattle.std.specs.Prelude.{◌≡◌, ◌≤◌, All, IfOk, IsTrue, None, OnOk, length, map, option_map};
 ghost use Rattle.std.specs.Arc.{arc_value};
 ghost use Rattle.fc_spec.specs.documents.World.{single};
-ghost use Rattle.fc_spec.specs.laws.RefinedPaths.{AreFacetsOf, IsBucketOf, val_in};
-ghost use Rattle.fc_spec.specs.laws.TopsLaw.{HasTopsOf};
+ghost use Rattle.fc_spec.specs.laws.NumberedPaths.{AreNumberedFacetsOf, HasNumberedTopsOf};
+ghost use Rattle.fc_spec.specs.laws.RefinedPaths.{IsBucketOf, val_in};
 ghost use Rattle.fc_spec.specs.messages.Lengths.{put_all};
 ghost use Rattle.fc_spec.specs.messages.WholeTrace.{whole_trace};
 ghost use Rattle.fc_spec.specs.replies.Exact.{exact};
+ghost use Rattle.fc_spec.specs.replies.Folded.{folded};
+ghost use Rattle.fc_spec.specs.replies.Numbers.{numbered};
 ghost use Rattle.fc_spec.specs.replies.Replied.{replied};
+ghost use Rattle.fc_spec.specs.replies.WithTops.{with_tops};
 ghost use Rattle.fc_spec.specs.requests.Paths.{at_root};
 ghost use Rattle.fc_spec.specs.requests.Shape.{no_limits};
 ghost use Rattle.fc_spec.specs.requests.ValidRequests.{IsValidRequest};
@@ -28,19 +31,22 @@ use fc_replaced::has_exact;
 use fc_reply::Reply;
 use fc_request::Request;
 use fc_store::Generation;
+use fc_unique::fold;
 use std::alloc::Global;
 use std::sync::Arc;
 use std::thread::Threads;
 
-/// The distributed reply to a request over the generations of 1 to 64 shards of one schema, in the order of the shards, whatever
-/// `turns` answers. With one worker `turns` is asked once before each turn of a future which of the shards that are not done does it.
-/// With more it is never asked: the shards that are asked in a round are cut into at most so many runs of neighbours, and each
-/// run, where there are more than one, has a thread of its own where one can be made. Each shard's message comes as bytes, and
-/// `probe` is told of each once it is there: its round, its shard and its length. Rounds count from 1: what exact facets print is
-/// found in the first two or three, and the reply is made of those behind them, nine at most. After want of memory the probe has
-/// been told of some messages. The buckets on refined paths are exact over all shards; outermost facets that are exact or have no
-/// limit print the values of a single index over their domains, in their order, with their counts and statistics; and without limits
-/// the reply is that of a single index with all the blocks.
+/// The reply to a request over the generations of 1 to 64 shards of one schema, in the order of the shards, whatever `turns`
+/// answers: the distributed one, folded, so that numbers of values and of buckets stand where they are asked for. With one worker
+/// `turns` is asked once before each turn of a future which of the shards that are not done does it. With more it is never asked:
+/// the shards that are asked in a round are cut into at most so many runs of neighbours, and each run, where there are more than
+/// one, has a thread of its own where one can be made. Each shard's message comes as bytes, and `probe` is told of each once it is
+/// there: its round, its shard and its length. Rounds count from 1: what exact facets print is found in the first two or three, and
+/// the reply is made of those behind them, nine at most. After want of memory the probe has been told of some messages. Each number
+/// is counted from the documents that the bucket around it counts. The buckets on refined paths are exact over all shards, with
+/// their numbers; outermost facets that are exact or have no limit print the values of a single index over their domains, in their
+/// order, with their counts, statistics and numbers; and without limits the reply is that of a single index with all the blocks,
+/// folded too.
 pub fn search<R: Threads + Sync, T: Turns, P: Probe>(
     rt: &R,
     alloc: Global,
@@ -61,13 +67,16 @@ pub fn search<R: Threads + Sync, T: Turns, P: Probe>(
     ensures reply { IfOk result (λ reply. reply_view reply
         ≡ replied (request_view request.now) (world_of (map arc_value generations.now))) }
     ensures root { IfOk result (λ reply. val_in (reply_view reply) ≡ None) }
+    ensures numbers { IfOk result (λ reply. reply_view reply
+        ≡ numbered (request_view request.now) (world_of (map arc_value generations.now))) }
     ensures refined { IfOk result (λ reply. IsBucketOf (request_view request.now) (world_of (map arc_value generations.now)) at_root
-        (AreFacetsOf (request_view request.now) (world_of (map arc_value generations.now)) (request_view request.now).nodes at_root)
+        (AreNumberedFacetsOf (request_view request.now) (world_of (map arc_value generations.now)) (request_view request.now).nodes at_root)
         (reply_view reply)) }
-    ensures tops { IfOk result (λ reply. HasTopsOf (request_view request.now) (world_of (map arc_value generations.now))
+    ensures tops { IfOk result (λ reply. HasNumberedTopsOf (request_view request.now) (world_of (map arc_value generations.now))
         (reply_view reply)) }
     ensures single_index { IfOk result (λ reply. IsTrue (no_limits (request_view request.now).nodes)
-        → reply_view reply ≡ exact (request_view request.now) (single (world_of (map arc_value generations.now)))) }
+        → reply_view reply ≡ folded (request_view request.now)
+        (exact (request_view request.now) (single (world_of (map arc_value generations.now))))) }
     ensures trace { OnOk result (P.lengths probe.new
         ≡ option_map (put_all (whole_trace (request_view request.now) (world_of (map arc_value generations.now)))) (P.lengths probe.old)) }
 {
@@ -82,10 +91,11 @@ pub fn search<R: Threads + Sync, T: Turns, P: Probe>(
         workers,
         probe,
     )?;
-    Ok(reply)
+    let printed = fold(alloc, request, reply)?;
+    Ok(printed)
 }
 
-// The reply, of the distributed reply alone where no facet is exact.
+// The reply before it is folded, of the distributed reply alone where no facet is exact.
 fn reply_of<R: Threads + Sync, T: Turns, P: Probe>(
     rt: &R,
     alloc: Global,
@@ -104,7 +114,7 @@ fn reply_of<R: Threads + Sync, T: Turns, P: Probe>(
     requires schema { AreSame (map (λ generation. generation.schema) (map arc_value generations.now)) }
     requires limits { IsWithinLimits (world_of (map arc_value generations.now)) }
     ensures reply { IfOk result (λ reply. reply_view reply
-        ≡ replied (request_view request.now) (world_of (map arc_value generations.now))) }
+        ≡ with_tops (request_view request.now) (world_of (map arc_value generations.now))) }
     ensures trace { OnOk result (P.lengths probe.new
         ≡ option_map (put_all (whole_trace (request_view request.now) (world_of (map arc_value generations.now)))) (P.lengths probe.old)) }
 {

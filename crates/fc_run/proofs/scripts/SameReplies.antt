@@ -4,9 +4,10 @@ use Rattle.std.specs.Prelude.{if◌then◌else◌}
 use Rattle.fc_spec.specs.documents.Document.{Batch}
 use Rattle.fc_spec.specs.documents.Val.{Text}
 use Rattle.fc_spec.specs.documents.World.{World, single}
-use Rattle.fc_spec.specs.laws.TopsLaw.{IsSingleWithTops}
+use Rattle.fc_spec.specs.laws.FoldedNumbers.{FoldsSingleIndex}
 use Rattle.fc_spec.specs.replies.Replied.{replied}
 use Rattle.fc_spec.specs.replies.Exact.{exact}
+use Rattle.fc_spec.specs.replies.Folded.{folded}
 use Rattle.fc_spec.specs.requests.Request as definition
 use Rattle.fc_spec.specs.requests.Shape.{no_limits}
 use Rattle.fc_spec.specs.scripts.AskedScripts.{Asked}
@@ -22,9 +23,9 @@ if_so : {X : Type 0} (b : Bool) (x y : X) → (IsTrue b → x ≡ y) → x ≡ (
 if_so true x y same = same refl
 if_so false x y same = refl
 
-module _ (single_index : IsSingleWithTops) (shards : List (List Batch)) where
+module _ (single_index : FoldsSingleIndex) (shards : List (List Batch)) where
   same_reply : (r : definition.Request) (W : World) → replied r W ≡ single_without_limits r W
-  same_reply r W = if_so (no_limits r.nodes) (replied r W) (exact r (single W)) (λ unlimited. single_index r W unlimited)
+  same_reply r W = if_so (no_limits r.nodes) (replied r W) (folded r (exact r (single W))) (λ unlimited. single_index r W unlimited)
 
   same_line : (low high : List ℕ) (session : Text) (a : Asked) (Then Later : List ℕ → Type 0) (l : SearchLine) → ((g : List ℕ) → Then g → Later g)
       → IsLineOver replied shards low high session a Then l → IsLineOver single_without_limits shards low high session a Later l
@@ -46,5 +47,5 @@ module _ (single_index : IsSingleWithTops) (shards : List (List Batch)) where
   same_phases before [] ls are = are
   same_phases before (p ∷ ps) ls (own, rest, is, lines, more) = (own, rest, is, same_lines p.commits (λ session. before) p.searches own lines, same_phases p.commits ps rest more)
 
-pub same_parts : IsSingleWithTops → (s : Script) (ls : List SearchLine) → AreLinesOfParts replied (parts_view s) ls → AreLinesOfParts single_without_limits (parts_view s) ls
+pub same_parts : FoldsSingleIndex → (s : Script) (ls : List SearchLine) → AreLinesOfParts replied (parts_view s) ls → AreLinesOfParts single_without_limits (parts_view s) ls
 same_parts single_index s ls are = same_phases single_index (parts_view s).batches _ (parts_view s).phases ls are

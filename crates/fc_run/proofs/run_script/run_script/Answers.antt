@@ -21,7 +21,7 @@ returns-in-Ok-clause-left g c =
     let ended = c.write_script-written.result in
     subst (λ status. Wrote old new (IsLeft status before after (asked_script c.args.bytes.items))) (sym c.status_of.ensures)
     (subst (λ bs. Wrote old new (IsLeft (status_after ended Done) before after (asked_script bs))) c.deref.ensures.value
-    (left_lines c.run_laws.ensures (asked_script c.deref.result.now) c.in-Ok.script ended old new before after c.in-Ok.ensures.answer c.write_script-written.ensures.written))
+    (left_lines c.run_laws.ensures (asked_script c.deref.result.now) c.in-Ok.script c.in-Ok.ensures.sound ended old new before after c.in-Ok.ensures.answer c.write_script-written.ensures.written))
 
 pub returns-in-Err-clause-left : goal.returns-in-Err-clause-left
 returns-in-Err-clause-left g c =
