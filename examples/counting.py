@@ -173,6 +173,8 @@ class Search:
         result = {"buckets": [bucket_of(lambda p: has(p, v), known[v], val=printed(v)) for v in page]}
         if facet.get("missing"):
             result["missing"] = bucket_of(lambda p: not p.document[field], shards)
+        if facet.get("numBuckets"):
+            result["numBuckets"] = sum(sum(has(p, v) for p in places) >= facet.get("mincount", 1) for v in values(places))
         return result
 
     def range(self, facet, shards, bucket_of):
@@ -249,6 +251,8 @@ def statistic(text, places):
         return sum(pairs)
     if name == "countvals":
         return len(pairs)
+    if name == "unique":
+        return len(set(pairs))
     if name == "missing":
         return sum(not p.document[field] for p in places)
     return {"min": min, "max": max}[name](pairs) if pairs else None
