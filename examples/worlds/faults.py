@@ -3,10 +3,12 @@ is of a facet inside that one, the names that lead there."""
 EXCLUDING = {"type": "terms", "field": "brand", "domain": {"excludeTags": "A"}}
 DAYS = {"type": "range", "field": "day", "start": "2024-01-31T00:00:00Z", "end": "2024-03-01T00:00:00Z", "gap": "+1DAY"}
 BAD_FACETS = [
+    (2, "unknown-key", {"type": "query", "q": "*:*", "numBuckets": True}),
     (3, "query-syntax", {"type": "query", "q": "red"}),
     (4, "mixed-operators", {"type": "query", "q": "kind:p AND n:5 OR n:12"}),
     (5, "unknown-field", {"type": "terms", "field": "brands"}),
     (5, "unknown-field", "sum(cost)"),
+    (5, "unknown-field", {"type": "func", "func": "unique(cost)"}),
     (6, "bad-value", {"type": "terms", "field": "brand", "domain": {"filter": "n:five"}}),
     (6, "bad-value", {"type": "query", "q": "day:[2024-02-30T00:00:00Z TO *]"}),
     (8, "unknown-type", {"type": "heatmap", "field": "brand"}),
@@ -14,6 +16,7 @@ BAD_FACETS = [
     (9, "missing-parameter", {"type": "range", "field": "day", "start": "2024-01-31T00:00:00Z", "gap": "+1DAY"}),
     (10, "bad-parameter", {"type": "terms", "field": "brand", "limit": -2}),
     (10, "bad-parameter", {"type": "terms", "field": "brand", "refine": "exactly"}),
+    (10, "bad-parameter", {"type": "terms", "field": "brand", "numBuckets": "true", "domain": {"filter": "n:five"}}),
     (10, "bad-parameter", {"type": "terms", "field": "brand", "refine": "exact", "sort": "count asc"}),
     (10, "bad-parameter", {"type": "query", "q": "*:*", "facet": {"x": {"type": "terms", "field": "brand", "refine": "exact"}}}, "x"),
     (10, "bad-parameter", {**DAYS, "gap": "+01DAY"}),
@@ -21,7 +24,9 @@ BAD_FACETS = [
     (10, "bad-parameter", {**DAYS, "start": "9999-12-31T00:00:00Z", "end": "9999-12-31T00:00:00.001Z"}),
     (11, "unknown-sort", {"type": "terms", "field": "brand", "sort": "total desc"}),
     (11, "unknown-sort", {"type": "terms", "field": "brand", "refine": "exact", "sort": "total asc"}),
+    (11, "unknown-sort", {"type": "terms", "field": "brand", "numBuckets": True, "sort": "u desc", "facet": {"u": "unique(n)"}}),
     (12, "bad-statistic", "avg(n)"),
+    (12, "bad-statistic", "unique(n, ns)"),
     (13, "wrong-field-type", {"type": "terms", "field": "n", "prefix": "1"}),
     (13, "wrong-field-type", "sum(brand)"),
     (13, "wrong-field-type", "max(days)"),

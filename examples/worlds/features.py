@@ -4,8 +4,9 @@ import collections
 import counting
 from worlds.shrinking import without
 
-PARAMETERS = ["limit", "offset", "mincount", "missing", "prefix", "refine", "overrequest", "overrefine", "sort", "hardend",
-              "other", "include"]
+PARAMETERS = ["limit", "offset", "mincount", "missing", "prefix", "refine", "overrequest", "overrefine", "numBuckets", "sort",
+              "hardend", "other", "include"]
+STATISTICS = ["sum", "min", "max", "countvals", "missing", "unique"]
 CHANGES = ["excludeTags", "blockChildren", "blockParent", "filter"]
 INSIDE = "excludeTags in facets inside others"
 
@@ -20,12 +21,27 @@ def changed_facet(facet, depth, change):
     return {**made, "facet": changed(facet["facet"], depth + 1, change)} if "facet" in facet else made
 
 
+def without_statistic(facets, kind):
+    """The facets without the statistics of a kind; what stands in a facet with a sort stays."""
+    left = {}
+    for name, facet in facets.items():
+        text = counting.statistic_text(facet)
+        if text is None and "facet" in facet:
+            left[name] = facet if "sort" in facet else {**facet, "facet": without_statistic(facet["facet"], kind)}
+        elif text is None or text.strip().partition("(")[0].strip() != kind:
+            left[name] = facet
+    return left
+
+
 def removals():
     """Each parameter's name and what takes it away from a request."""
     for name in ("query", "filter"):
         yield name, lambda request, name=name: without(request, name)
     for name in PARAMETERS:
         yield name, in_facets(lambda facet, depth, name=name: without(facet, name))
+    for kind in STATISTICS:
+        yield "statistic: " + kind, lambda request, kind=kind: (
+            {**request, "facet": without_statistic(request["facet"], kind)} if "facet" in request else request)
     for name in CHANGES:
         yield "domain: " + name, in_facets(lambda facet, depth, name=name: without_change(facet, name))
     for at in range(1, 8):

@@ -1,4 +1,5 @@
 """Requests by chance: a query, filters with tags, facets nested in facets."""
+from counting import statistic_text
 from worlds.documents import DATES, NUMBERS, TEXTS, VALUES
 
 NAMES = ["a", "b", "m", "low", "é", "buckets", "missing", "", 'a\n"b"']
@@ -64,6 +65,7 @@ class Requests:
         self.choose(facet, 80, "refine", [True])
         self.choose(facet, 90, "overrequest", [0, 0, 0, 1])
         self.choose(facet, 80, "overrefine", [0, 0, 1])
+        self.choose(facet, 30, "numBuckets", [True])
         if self.chance.happens(10):
             facet["domain"] = {"excludeTags": self.tags(depth)}
         nested = {"low": self.statistic()} if self.chance.happens(40) and depth < DEEPEST else {}
@@ -123,6 +125,7 @@ class Requests:
         field = self.chance.one(NUMBERS)
         texts = [f"{name}({field})" for name in ("sum", "min", "max")]
         texts += [f"{name}({self.chance.one(NUMBERS + TEXTS + DATES)})" for name in ("countvals", "missing")]
+        texts += [f"unique({self.chance.one(NUMBERS + TEXTS + DATES + ['id'])})"] * 2
         text = self.chance.one(texts)
         return self.chance.one([text, text, " " + text.replace("(", " ( "), {"type": "func", "func": text}])
 
@@ -149,6 +152,7 @@ class Requests:
         self.choose(facet, 25, "mincount", [1, 2, 2, 3, 5])
         self.choose(facet, 35, "missing", [True, True, False])
         self.choose(facet, 5, "method", ["enum", "uif", "é"])
+        self.choose(facet, 35, "numBuckets", [True, True, True, False])
         if field in TEXTS:
             self.choose(facet, 15, "prefix", ["", "t", "t1", "m", "f", "fo", "x"] + VALUES["brand"])
         elif field in DATES:
@@ -173,7 +177,7 @@ class Requests:
 
     def sort(self, nested):
         """By count, by index, or by a statistic right under the facet."""
-        sorts = [name for name in statistics_in(nested) if name]
+        sorts = [name for name in sortable(nested) if name]
         name = self.chance.one(sorts if sorts and self.chance.happens(80) else ["count", "index"])
         way = self.chance.one(["asc", "desc"])
         return self.chance.one([f"{name} {way}", f" \t{name}  {way}\n", f" {name} ", {name: way}])
@@ -225,6 +229,7 @@ class Requests:
         return self.chance.one([self.queries.text(), [self.queries.text() for _ in range(self.chance.below(3))]])
 
 
-def statistics_in(facets):
-    """The names of the statistics among some facets."""
-    return [name for name, command in facets.items() if isinstance(command, str) or command["type"] == "func"]
+def sortable(facets):
+    """The names of the statistics among some facets by which the facet around them may be sorted: by no `unique`."""
+    texts = {name: statistic_text(command) for name, command in facets.items()}
+    return [name for name, text in texts.items() if text is not None and "unique" not in text]

@@ -1,7 +1,7 @@
 """A failing script made smaller: what can be taken away is, while the script still fails in the same way. Each step leaves a
 script without a fault, so that the counting can read it."""
 from counting import ordered
-from worlds.requests import statistics_in
+from worlds.requests import sortable
 
 NEEDED = {"add", "doc", "id", "delete", "commit", "sync", "search", "request", "type", "field", "q", "func", "start", "end", "gap"}
 QUERIES = {"q", "blockChildren", "blockParent"}
@@ -25,7 +25,7 @@ def smaller(value, name, needed=NEEDED):
                 yield without(value, key, "sort") if key == "facet" else without(value, key)
             if name == "facet" and isinstance(item, dict) and item.get("facet"):
                 yield {**item["facet"], **without(value, key)}
-            sorts_by = set(statistics_in(item)) if key == "facet" and "sort" in value else set()
+            sorts_by = set(sortable(item)) if key == "facet" and "sort" in value else set()
             yield from ({**value, key: less} for less in smaller(item, key, NEEDED | sorts_by))
 
 
