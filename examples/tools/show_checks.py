@@ -58,6 +58,7 @@ WRONG = [
     ('{"facets":{"count":1,"f":{"buckets":[{"count":1,"val":1.5}]}},"session":"s","generations":[]}',
      "val is neither a text nor a whole number"),
     ('{"facets":{"count":1,"f":{"buckets":[],"more":{"count":1}}},"session":"s","generations":[]}', "more stands beside the buckets of f"),
+    ('{"facets":{"count":1,"f":{"buckets":[],"numBuckets":{"count":1}}},"session":"s","generations":[]}', "numBuckets is no whole number"),
     ('{"error":7,"facet":[],"number":1,"session":"s"}', "error is no text"),
     ('{"error":"x","facet":[7],"number":1,"session":"s"}', "facet is not the list that it is to be"),
     ('{"error":"x","line":"1","number":1}', "line is no whole number"),
@@ -210,6 +211,10 @@ def of_many_buckets():
         yield f"rows of {many:,} buckets", many + fewer + 3, len(page.rows)
         yield f"nothing of {many:,} buckets", 2 * (many == 0), page.texts.count("no buckets")
         yield f"bars of {many:,} buckets in the histogram", {0: 0, 13: 13, 10000: 120}[many], page.elements.count("rect")
+    steps = [bucket(1, 0), bucket(2, 5), bucket(3, 10)]
+    page = page_of([reply(a={"buckets": steps, "numBuckets": 1234567}, b={"buckets": [], "numBuckets": 1}, numBuckets={"buckets": steps})])
+    told = [text for text in page.texts if text.endswith(("bucket", "buckets"))]
+    yield "how many buckets there are in all", ([], ["3 of 1,234,567 buckets", "0 of 1 bucket"], 1), (page.wrong, told, page.elements.count("svg"))
     deep = {"low": 5}
     for i in range(8):
         deep = {f"f{i}": {"buckets": [bucket(1, f"v{i}", **deep)]}}

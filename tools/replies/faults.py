@@ -34,7 +34,7 @@ REQUEST = {
     "unknown-type": "the type of the facet is none of terms, range, query and func",
     "missing-parameter": "the type, or a parameter that has to be there, is not",
     "bad-parameter": "a parameter is not of its form, or its number is outside its limits",
-    "unknown-sort": "the sort names neither count nor index nor a statistic directly under the facet",
+    "unknown-sort": "the sort names neither count nor index nor a statistic directly under the facet; a unique sorts nothing",
     "bad-statistic": "the text is no statistic",
     "wrong-field-type": "a field stands where one of another type has to: of integers, of dates, or of other texts",
     "reserved-name": "a facet or a statistic is named count or val",

@@ -4,7 +4,7 @@ import html
 from . import faults, reading
 from .histogram import histogram
 from .style import STYLE
-from .text import BESIDE, documents, label, value, visible
+from .text import BESIDE, documents, how_many, label, value, visible
 
 # So many buckets stand in the open; the others unfold. A histogram's buckets unfold where there are more than so many.
 OPEN, OPEN_BELOW_HISTOGRAM = 20, 6
@@ -90,9 +90,10 @@ def facets(bucket, kind, level, most):
 def of_buckets(facet, most):
     most = max([most, *(one.count for one in facet.buckets)])
     shown = len(facet.buckets) if len(facet.buckets) <= OPEN + 1 else OPEN
-    if not facet.buckets:
-        yield '<p class="none">no buckets</p>'
-    elif reading.is_range(facet):
+    told = how_many(facet)
+    if told:
+        yield f'<p class="none">{told}</p>'
+    if facet.buckets and reading.is_range(facet):
         yield from histogram(facet.buckets)
         shown = shown if len(facet.buckets) <= OPEN_BELOW_HISTOGRAM else 0
     yield from listed(facet.buckets[:shown], most, "<ol>", "</ol>")

@@ -13,11 +13,13 @@ Sent = namedtuple("Sent", "search rounds")
 # A value is an integer, a text, or None where there is none. Statistics are pairs of a name and a number, facets pairs of a
 # name and a Facet or, for a query facet, a Bucket.
 Bucket = namedtuple("Bucket", "value count statistics facets")
-# Beside the buckets stand, by their names: missing, before, after, between.
-Facet = namedtuple("Facet", "buckets beside")
+# Beside the buckets stand, by their names: missing, before, after, between. The number is how many buckets there are in all, None
+# where that is not told.
+Facet = namedtuple("Facet", "buckets beside number")
 
 DATE = re.compile(r"\d{4}-\d\d-\d\dT\d\d:\d\d:\d\d\.\d{3}Z", re.ASCII)
 BESIDE = ("missing", "before", "between", "after")
+NUMBER = "numBuckets"
 SENT_HEADS = ("round", "shards", "bytes", "most by one")
 
 
@@ -124,16 +126,17 @@ def facet(name, said):
         return bucket(said)
     buckets = a_list(said, "buckets", lambda one: isinstance(one, dict))
     for other in said:
-        if other != "buckets" and other not in BESIDE:
+        if other not in ("buckets", NUMBER, *BESIDE):
             raise Wrong(f"{other} stands beside the buckets of {name}")
     return Facet([bucket(one, has_value=True) for one in buckets],
-                 [(other, bucket(said[other])) for other in BESIDE if other in said])
+                 [(other, bucket(said[other])) for other in BESIDE if other in said],
+                 a_number(said, NUMBER) if NUMBER in said else None)
 
 
 def is_range(facet):
     """Whether the buckets go up by equal steps, as those of a range facet. A reply does not say of which kind a facet is."""
     values = [one.value for one in facet.buckets]
-    if any(name == "missing" for name, _ in facet.beside):
+    if facet.number is not None or any(name == "missing" for name, _ in facet.beside):
         return False
     if all(map(is_number, values)):
         return is_even(values)

@@ -2,7 +2,7 @@
 import textwrap
 
 from . import faults, reading
-from .text import BESIDE, cut, documents, label, value, visible, width
+from .text import BESIDE, cut, documents, how_many, label, value, visible, width
 
 STEP, GAP = "  ", "  "
 LONGEST_BAR, SHORTEST_BAR, SHORTEST_LABEL = 30, 4, 8
@@ -70,7 +70,8 @@ class Terminal:
                 yield f"{indent}{self.bold(self.label(name))}: {documents(facet.count)}"
                 yield from self.inside(facet, indent + STEP, most)
             else:
-                yield indent + self.bold(self.label(name)) + ("" if facet.buckets else ": no buckets")
+                told = how_many(facet)
+                yield indent + self.bold(self.label(name)) + (f": {told}" if told else "")
                 yield from self.rows(facet, indent + STEP, most)
 
     def rows(self, facet, indent, most):

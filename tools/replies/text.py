@@ -28,6 +28,13 @@ def documents(count):
     return "1 document" if count == 1 else f"{count:,} documents"
 
 
+def how_many(facet):
+    """How many buckets a facet has, where there are none here or where it is told how many there are in all; else nothing."""
+    if facet.number is not None:
+        return f"{len(facet.buckets):,} of {facet.number:,} bucket{'s' * (facet.number != 1)}"
+    return "" if facet.buckets else "no buckets"
+
+
 def width(text):
     """How many columns of a terminal a text takes."""
     return sum(columns(character) for character in text)
