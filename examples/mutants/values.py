@@ -7,12 +7,12 @@ NUMBERS = [b"0", b"-1", b"-0", b"0.5", b"1.0", b"1e2", b"01", b"65", b"1000001",
            b"-9223372036854775808", b"18446744073709551616", b"1e400", b"-1e400", b"1" * 400]
 # Texts beside those of the lines: none, a NUL, half a pair of surrogates, a whole pair, a long one, a number, queries, dates, gaps.
 TEXTS = [b'""', b'"\\u0000"', b'"\\ud83d"', b'"\\ud83d\\ude00"', b'"' + b"long " * 30 + b'"', b'"-07"', b'"*:*"', b'"-("',
-         b'"{!tag=A}"',
+         b'"{!tag=A}"', b'"unique(id)"',
          b'"1900-02-29T00:00:00Z"', b'"2024-02-29T23:59:59.9999Z"', b'"9999-12-31T23:59:59.999Z"', b'"+1SECOND"', b'"+9999YEARS"']
 # What queries, tags, sorts and statistics are made of, as it stands in a text.
 SIGNS = [b"+", b"-", b"!", b"(", b")", b":", b"^", b"[", b"]", b"{", b"}", b"~", b"*", b"?", b"/", b"#", b",", b" ", b"0", b"\\\\",
          b'\\"', b" AND ", b" OR ", b" NOT ", b" TO ", b" asc", b" desc"]
-NAMES = [b'"count"', b'"val"', b'"_x_"', b'""', b'"id"', b'"_childDocuments_"', b'"\\u0073earch"']
+NAMES = [b'"count"', b'"val"', b'"numBuckets"', b'"_x_"', b'""', b'"id"', b'"_childDocuments_"', b'"\\u0073earch"']
 # A value is put into so many arrays or objects; JSON may be nested 127 deep.
 NESTED = [1, 2, 118, 119, 120, 121, 122, 123, 124, 125, 126, 127, 128, 5000]
 
