@@ -1,7 +1,7 @@
 #!/usr/bin/env python3
 """Measures how many different values there are: `unique` beside a terms facet of all values of its field, and terms facets with `numBuckets`
-beside the same without it. Prints the table in docs/performance.md, and on standard error how far it is; with --sent a second table, of
-the bytes that all shards send. Each reply is compared with one that is counted in one pass over the documents."""
+beside the same without it. Prints a table of times and ratios, and on standard error how far it is; with --sent a second table, of the bytes
+that all shards send. Each reply is compared with one that is counted in one pass over the documents."""
 import argparse
 import collections
 import json
