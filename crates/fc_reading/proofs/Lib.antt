@@ -7,7 +7,6 @@ pub mod Printing
 pub mod RangeParts
 pub mod Ranges
 pub mod Rows
-pub mod RowsMade
 pub mod Sizes
 pub mod Steps
 pub mod ValidRanges

@@ -10,7 +10,7 @@ ghost use Rattle.fc_spec.specs.words.Lists.{is_empty};
 ghost use Rattle.fc_spec.specs.replies.Reply as reply;
 ghost use Rattle.fc_partial.specs.StatsView.{stats_view};
 ghost use Rattle.fc_partial.specs.View.{stat_value_view};
-ghost use Rattle.fc_reply.specs.ReplyView.{body_view, bucket_view, buckets_view, facet_view as printed_facet_view, facets_view};
+ghost use Rattle.fc_reply.specs.ReplyView.{body_view, bucket_view, buckets_view, facet_view as printed_facet_view, facets_view, row_body};
 ghost use Rattle.fc_request.specs.NodeStatistics.{statistic_of_node};
 ghost use Rattle.fc_request.specs.NodeView.{inner_view, node_view};
 ghost use Rattle.fc_request.specs.FacetNode.{facet_view, has_buckets, kind_of, kind_view};
@@ -138,7 +138,7 @@ fn bucket_beside<R: BucketReading>(
     }
 }
 
-// The row of a terms or range facet.
+// The row of a terms or range facet, without a number beside it.
 #[cycle(replying)]
 fn row<R: BucketReading>(
     alloc: Global,
@@ -148,8 +148,8 @@ fn row<R: BucketReading>(
 ) -> Result<ReplyBuckets, WantMemory>
     requires countable { AreCountable (inner_view node.now) }
     requires counted { AreCounted (R.reading reading.now) R.held (request.stats_of (inner_view node.now)) parts }
-    ensures { IfOk result (λ row. buckets_view row ≡ row_with (count_in (R.reading reading.now))
-        (inside (R.reading reading.now) (inner_view node.now)) (parts_view R.held parts.entry)) }
+    ensures { IfOk result (λ row. buckets_view row ≡ row_body None (row_with (count_in (R.reading reading.now))
+        (inside (R.reading reading.now) (inner_view node.now)) (parts_view R.held parts.entry))) }
 {
     let list = buckets(alloc, reading, node, parts.list)?;
     let missing = bucket_beside(alloc, reading, node, parts.missing)?;
@@ -162,6 +162,7 @@ fn row<R: BucketReading>(
         before,
         between,
         after,
+        number: None,
     })
 }
 

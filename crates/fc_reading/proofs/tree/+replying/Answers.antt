@@ -1,4 +1,4 @@
-use Rattle.std.proofs.Common.{◌≡◌, ◌∙◌, ◌+◌, ◌++◌, ◌∷◌, suc, drop, drop-cons, add-one, ap, sym, subst, map, option_map, cond, false, ◌==◌, ◌&&◌, rules, arith}
+use Rattle.std.proofs.Common.{◌≡◌, ◌∙◌, ◌+◌, ◌++◌, ◌∷◌, suc, drop, drop-cons, add-one, ap, sym, subst, map, option_map, None, cond, false, ◌==◌, ◌&&◌, rules, arith}
 use Rattle.std.proofs.lemmas.Bool.{ne_eqb}
 use Rattle.std.proofs.lemmas.List.Elements.{All-rest}
 use Rattle.fc_base.specs.StatisticView.{stat_view}
@@ -6,14 +6,13 @@ use Rattle.fc_request.proofs.Nodes.{has_buckets_by, statistic_of}
 use Rattle.fc_spec.specs.requests.Request.{stats_of}
 use Rattle.std.specs.List.{enumerate_from}
 use Rattle.fc_spec.specs.words.Lists.{is_empty}
-use Rattle.fc_spec.specs.replies.Reply.{Bucket, Row, listed}
+use Rattle.fc_spec.specs.replies.Reply.{listed}
 use Rattle.fc_spec.specs.replies.Distributed.{dist_buckets, dist_facets}
 use Rattle.fc_request.specs.FacetNode.{facet_view as asked_facet, kind_of, kind_view}
 use Rattle.fc_refine.specs.CountableRanges.{AreCountable}
-use Rattle.fc_reply.specs.declared.reply.ReplyBody.TheFolds.{fold-roll-ReplyFacet}
 use Rattle.fc_partial.specs.StatsView.{stats_view}
-use Rattle.fc_reply.proofs.ReplyViews.{view_of_made_buckets}
-use Rattle.fc_reply.specs.ReplyView.{PutBody, PutFacet, body_step, bucket_step, buckets_step, facet_step, body_view, bucket_view, facet_view, facets_over}
+use Rattle.fc_reply.proofs.ReplyViews.{view_of_made_buckets, view_of_made_facet}
+use Rattle.fc_reply.specs.ReplyView.{body_view, bucket_view, facet_view, facets_over, row_body}
 use Rattle.fc_request.specs.NodeStatistics.{statistic_of_node}
 use Rattle.fc_request.specs.NodeView.{inner_view, node_view, nodes_view}
 use Rattle.fc_request.specs.declared.node.Node.{out-Node}
@@ -30,9 +29,10 @@ pub row-returns : goal.row-returns
 row-returns g t c =
     let R = g.R.BucketReading.reading c.args.reading.now in
     view_of_made_buckets _
-    ∙ row_of_parts g.R.BucketReading.held (count_in R) (inside R (inner_view c.args.node.now)) c.args.parts (map bucket_view c.in_ok-list.list.items) (option_map bucket_view c.in_ok-missing.missing)
+    ∙ ap (row_body None)
+    (row_of_parts g.R.BucketReading.held (count_in R) (inside R (inner_view c.args.node.now)) c.args.parts (map bucket_view c.in_ok-list.list.items) (option_map bucket_view c.in_ok-missing.missing)
     (option_map bucket_view c.in_ok-before.before) (option_map bucket_view c.in_ok-between.between) (option_map bucket_view c.in_ok-after.after)
-    c.in_ok-list.ensures c.in_ok-missing.ensures c.in_ok-before.ensures c.in_ok-between.ensures c.in_ok-after.ensures
+    c.in_ok-list.ensures c.in_ok-missing.ensures c.in_ok-before.ensures c.in_ok-between.ensures c.in_ok-after.ensures)
 
 pub buckets-loop-part-preserved : goal.buckets-loop-part-preserved
 buckets-loop-part-preserved g t c =
@@ -78,7 +78,7 @@ facet-returns-in_ok-copy-in-Some g t c = λ rest.
       | facet-in_default+in_ok-body-in_default w ↦ facet_prints R H X node c.args.number c.args.statistic rest (option_map (λ b. body_view b name) c.match-node.body) c.args.stats.now.count (has_buckets_by (kind_of node) w.in_default.not-Stat) c.requires.count
           (λ more'. ap (λ o. facet_over (option_map (λ b. body_view b name) o) more') w.body-is ∙ w.in_ok-body-in_default.ensures more')
     ] in
-    ap (λ f. f more) (fold-roll-ReplyFacet PutBody Bucket Row PutFacet body_step bucket_step buckets_step facet_step (record { name = c.in_ok-copy-in-Some.field-0; body = c.in-Some.body }))
+    view_of_made_facet _ more
     ∙ ap (λ n. body_view c.in-Some.body n more) c.in_ok-copy-in-Some.ensures
     ∙ ap (λ o. facet_over (option_map (λ b. body_view b name) o) more) (sym c.in-Some.is)
     ∙ branch
