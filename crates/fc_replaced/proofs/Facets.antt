@@ -1,49 +1,51 @@
 -- The facets of a reply, the first and those behind it.
-use Rattle.std.proofs.Common.{◌≡◌, ℤ, ◌<◌, ◌≤◌, List, [], ◌∷◌, ◌++◌, map, drop, get_or, length, Option, None, Some, option_map, refl, ap, sym, ◌∙◌, arith}
+use Rattle.std.proofs.Common.{◌≡◌, ℕ, ℤ, ◌<◌, ◌≤◌, List, [], ◌∷◌, ◌++◌, drop, get_or, length, Option, None, Some, option_map, refl, ap, sym, subst, ◌∙◌, arith}
 use Rattle.std.specs.Option.{option_to_list}
 use Rattle.fc_spec.specs.documents.Val.{Text, same_text}
 use Rattle.fc_spec.specs.replies.Reply as definition
 use Rattle.fc_spec.specs.replies.Reply.{Facets, no_facets}
 use Rattle.fc_spec.specs.replies.Restored.{after_first, with_first, is_number_of}
-use Rattle.fc_reply.specs.declared.reply.ReplyBody as reply
-use Rattle.fc_reply.specs.declared.reply.ReplyBody.{ReplyBody, Number, Many, One, out-ReplyBody}
-use Rattle.fc_reply.specs.declared.reply.ReplyBody.TheFolds.{fold-roll-ReplyBody, fold-roll-ReplyFacet, fold_out-ReplyBody, fold_out-ReplyFacet, map-ReplyBody}
-use Rattle.fc_reply.specs.declared.reply.ReplyBody.TheOpen.{ReplyBody-F, ReplyFacet-F}
+use Rattle.fc_reply.specs.declared.reply.ReplyBody.{ReplyBody, Number, One, out-ReplyBody}
+use Rattle.fc_reply.specs.declared.reply.ReplyBody.TheFolds.{fold_out-ReplyBody, map-ReplyBody}
+use Rattle.fc_reply.specs.declared.reply.ReplyBody.TheOpen.{ReplyBody-F}
 use Rattle.fc_reply.specs.declared.reply.ReplyBody.TheOpen as opened
 use Rattle.fc_reply.specs.declared.reply.ReplyBucket.{ReplyBucket}
-use Rattle.fc_reply.specs.declared.reply.ReplyBuckets.{ReplyBuckets}
-use Rattle.fc_reply.specs.declared.reply.ReplyFacet.{ReplyFacet, out-ReplyFacet, roll-ReplyFacet}
-use Rattle.fc_reply.specs.ReplyView.{PutBody, PutFacet, body_step, bucket_step, buckets_step, facet_step, bucket_view, facet_view, facets_over, facets_view, body_view, buckets_view}
+use Rattle.fc_reply.specs.declared.reply.ReplyBuckets.{ReplyBuckets, out-ReplyBuckets}
+use Rattle.fc_reply.specs.declared.reply.ReplyFacet.{ReplyFacet, out-ReplyFacet}
+use Rattle.fc_reply.specs.ReplyView.{PutBody, PutFacet, body_step, bucket_step, buckets_step, facet_step, bucket_view, facet_view, facets_view, body_view, buckets_view, row_body, row_view}
+use Rattle.fc_reply.proofs.ReplyViews.{view_of_buckets, view_of_facet, view_of_number, view_of_one}
 use Rattle.fc_replaced.specs.Fronts.{facet_over, first_bucket}
 
-abbrev pub Open : Type 0
+-- ---- one facet before others
+
+abbrev Open : Type 0
 Open = ReplyBody-F ReplyBody ReplyBucket ReplyBuckets ReplyFacet
 
-abbrev pub seen : Open → PutBody
-seen x = body_step (map-ReplyBody ReplyBody ReplyBucket ReplyBuckets ReplyFacet PutBody definition.Bucket definition.Row PutFacet body_view bucket_view buckets_view facet_view x)
+abbrev seen : Open → PutBody
+seen x = body_step (map-ReplyBody ReplyBody ReplyBucket ReplyBuckets ReplyFacet PutBody definition.Bucket PutBody PutFacet body_view bucket_view buckets_view facet_view x)
 
--- a facet by its name and its body
-pub facet_is : (f : ReplyFacet) (more : Facets) → facet_view f more ≡ seen (out-ReplyBody (out-ReplyFacet f).body) (out-ReplyFacet f).name more
-facet_is f more =
-    ap (λ (put : PutFacet). put more) (fold_out-ReplyFacet PutBody definition.Bucket definition.Row PutFacet body_step bucket_step buckets_step facet_step f)
-    ∙ ap (λ (body : PutBody). body (out-ReplyFacet f).name more) (fold_out-ReplyBody PutBody definition.Bucket definition.Row PutFacet body_step bucket_step buckets_step facet_step (out-ReplyFacet f).body)
+-- it is the first, and those behind it are behind the first
+abbrev IsFirst : PutBody → Type 0
+IsFirst put = (name : Text) (rest more : Facets) → (after_first (put name more) ≡ more) × (with_first (put name rest) more ≡ put name more)
 
-after_seen : (x : Open) (name : Text) (more : Facets) → after_first (seen x name more) ≡ more
-after_seen (opened.Number n) name more = refl
-after_seen (opened.Many row) name more = refl
-after_seen (opened.One b) name more = refl
+row_first : (n : Option ℕ) (row : definition.Row) → IsFirst (row_body n row)
+row_first None row = λ name rest more. (refl, refl)
+row_first (Some n) row = λ name rest more. (refl, refl)
 
-with_seen : (x : Open) (name : Text) (rest more : Facets) → with_first (seen x name rest) more ≡ seen x name more
-with_seen (opened.Number n) name rest more = refl
-with_seen (opened.Many row) name rest more = refl
-with_seen (opened.One b) name rest more = refl
+seen_first : (x : Open) → IsFirst (seen x)
+seen_first (opened.Number n) = λ name rest more. (refl, refl)
+seen_first (opened.Many bs) = subst IsFirst (sym (view_of_buckets bs)) (row_first (out-ReplyBuckets bs).number (row_view bs))
+seen_first (opened.One b) = λ name rest more. (refl, refl)
+
+body_first : (body : ReplyBody) → IsFirst (body_view body)
+body_first body = subst IsFirst (sym (fold_out-ReplyBody PutBody definition.Bucket PutBody PutFacet body_step bucket_step buckets_step facet_step body)) (seen_first (out-ReplyBody body))
 
 pub after_facet : (f : ReplyFacet) (more : Facets) → after_first (facet_view f more) ≡ more
-after_facet f more = ap after_first (facet_is f more) ∙ after_seen (out-ReplyBody (out-ReplyFacet f).body) (out-ReplyFacet f).name more
+after_facet f more = ap after_first (view_of_facet f more) ∙ (body_first (out-ReplyFacet f).body (out-ReplyFacet f).name more more).0
 
 pub with_facet : (f : ReplyFacet) (rest more : Facets) → with_first (facet_view f rest) more ≡ facet_view f more
 with_facet f rest more =
-    ap (λ F. with_first F more) (facet_is f rest) ∙ with_seen (out-ReplyBody (out-ReplyFacet f).body) (out-ReplyFacet f).name rest more ∙ sym (facet_is f more)
+    ap (λ F. with_first F more) (view_of_facet f rest) ∙ (body_first (out-ReplyFacet f).body (out-ReplyFacet f).name rest more).1 ∙ sym (view_of_facet f more)
 
 -- ---- what is taken from the front of a list
 
@@ -76,42 +78,13 @@ pub none_first : (fs : List ReplyFacet) → length fs ≤ 0 → facets_view fs �
 none_first [] h = refl
 none_first (f ∷ fs) h = absurd (omega arith)
 
--- ---- what is printed so far
-
-pub facets_over-pushed : (done made : List ReplyFacet) (f : ReplyFacet) (more : Facets) → made ≡ done ++ f ∷ [] → facets_over (map facet_view made) more ≡ facets_over (map facet_view done) (facet_view f more)
-facets_over-pushed done made f more h = ap (λ fs. facets_over (map facet_view fs) more) h ∙ go done where
-  go : (ds : List ReplyFacet) → facets_over (map facet_view (ds ++ f ∷ [])) more ≡ facets_over (map facet_view ds) (facet_view f more)
-  go [] = refl
-  go (d ∷ ds) = ap (facet_view d) (go ds)
-
--- ---- facets by their bodies
-
-facet_by_body : (f : ReplyFacet) (more : Facets) → facet_view f more ≡ body_view (out-ReplyFacet f).body (out-ReplyFacet f).name more
-facet_by_body f more = ap (λ (put : PutFacet). put more) (fold_out-ReplyFacet PutBody definition.Bucket definition.Row PutFacet body_step bucket_step buckets_step facet_step f)
-
-view_of_number : (n : ℤ) (name : Text) (more : Facets) → body_view (Number n) name more ≡ definition.number name n more
-unfolding reply.roll-ReplyBody denote.Hole.Carrier.roll
-view_of_number n name more =
-    ap (λ (body : PutBody). body name more) (fold-roll-ReplyBody PutBody definition.Bucket definition.Row PutFacet body_step bucket_step buckets_step facet_step (opened.Number n))
-
-view_of_one : (b : ReplyBucket) (name : Text) (more : Facets) → body_view (One b) name more ≡ definition.one name (bucket_view b) more
-unfolding reply.roll-ReplyBody denote.Hole.Carrier.roll
-view_of_one b name more =
-    ap (λ (body : PutBody). body name more) (fold-roll-ReplyBody PutBody definition.Bucket definition.Row PutFacet body_step bucket_step buckets_step facet_step (opened.One b))
-
-pub view_of_many : (row : ReplyBuckets) (name : Text) (more : Facets) → body_view (Many row) name more ≡ definition.many name (buckets_view row) more
-unfolding reply.roll-ReplyBody denote.Hole.Carrier.roll
-view_of_many row name more =
-    ap (λ (body : PutBody). body name more) (fold-roll-ReplyBody PutBody definition.Bucket definition.Row PutFacet body_step bucket_step buckets_step facet_step (opened.Many row))
+-- ---- what a facet is by its body
 
 pub one_bucket : (f : ReplyFacet) (b : ReplyBucket) (more : Facets) → (out-ReplyFacet f).body ≡ One b → first_bucket (facet_view f more) ≡ Some (bucket_view b)
 one_bucket f b more h =
-    ap first_bucket (facet_by_body f more) ∙ ap (λ (body : ReplyBody). first_bucket (body_view body (out-ReplyFacet f).name more)) h ∙ ap first_bucket (view_of_one b (out-ReplyFacet f).name more)
+    ap first_bucket (view_of_facet f more) ∙ ap (λ (body : ReplyBody). first_bucket (body_view body (out-ReplyFacet f).name more)) h ∙ ap first_bucket (view_of_one b (out-ReplyFacet f).name more)
 
 pub is_number : (f : ReplyFacet) (n : ℤ) (wanted : Text) (more : Facets) → (out-ReplyFacet f).body ≡ Number n → is_number_of wanted (facet_view f more) ≡ same_text wanted (out-ReplyFacet f).name
 is_number f n wanted more h =
-    ap (is_number_of wanted) (facet_by_body f more) ∙ ap (λ (body : ReplyBody). is_number_of wanted (body_view body (out-ReplyFacet f).name more)) h
+    ap (is_number_of wanted) (view_of_facet f more) ∙ ap (λ (body : ReplyBody). is_number_of wanted (body_view body (out-ReplyFacet f).name more)) h
     ∙ ap (is_number_of wanted) (view_of_number n (out-ReplyFacet f).name more)
-
-pub made_facet : (x : ReplyFacet-F ReplyBody ReplyBucket ReplyBuckets ReplyFacet) (more : Facets) → facet_view (roll-ReplyFacet x) more ≡ body_view x.body x.name more
-made_facet x more = ap (λ (put : PutFacet). put more) (fold-roll-ReplyFacet PutBody definition.Bucket definition.Row PutFacet body_step bucket_step buckets_step facet_step x)

@@ -4,6 +4,5 @@ pub mod NodesOver
 pub mod OnlyExact
 pub mod ReplacedNodes
 pub mod Facets
-pub mod Buckets
 pub mod Rows
 pub mod RestoredNodes

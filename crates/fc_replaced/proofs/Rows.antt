@@ -2,7 +2,7 @@
 use Rattle.std.proofs.Common.{◌≡◌, List, [], ◌∷◌, ◌++◌, Bool, true, false, Option, None, option_map, is_some, if◌then◌else◌, refl, ap, sym, ◌∙◌}
 use Rattle.fc_spec.specs.requests.Request.{Terms, terms}
 use Rattle.fc_spec.specs.requests.Buckets.{Key, missing}
-use Rattle.fc_spec.specs.replies.Reply.{Bucket, Facets, no_facets, number, one, many, Row, no_parts, part, spot_of, val_of, listed, as_missing}
+use Rattle.fc_spec.specs.replies.Reply.{Bucket, Facets, no_facets, number, one, many, counted, Row, no_parts, part, spot_of, val_of, listed, as_missing}
 use Rattle.fc_spec.specs.replies.Restored.{after_first, after_keys, row_from, with_val}
 use Rattle.fc_reply.specs.ReplyView.{parts_over, part_over}
 use Rattle.fc_replaced.specs.Fronts.{first_bucket, row_if}
@@ -17,6 +17,7 @@ row_from-key t k ks no_facets = refl
 row_from-key t k ks (number name n more) = refl
 row_from-key t k ks (one name b more) = refl
 row_from-key t k ks (many name row more) = refl
+row_from-key t k ks (counted name n row more) = refl
 
 abbrev chosen_if : Bool → Option Bucket → Option Bucket
 chosen_if whole o = if whole then o else None

@@ -1,5 +1,5 @@
 // The row of an exact facet, from the facets of the replaced request.
-ghost use Rattle.std.specs.Prelude.{◌≡◌, ◌++◌, IfOk, List, OnOk, if◌then◌else◌, map, option_map};
+ghost use Rattle.std.specs.Prelude.{◌≡◌, ◌++◌, IfOk, List, None, OnOk, if◌then◌else◌, map, option_map};
 ghost use Rattle.fc_spec.specs.requests.Buckets as buckets;
 ghost use Rattle.fc_spec.specs.requests.Request as requests;
 ghost use Rattle.fc_spec.specs.replies.Printed.{asked};
@@ -8,7 +8,7 @@ ghost use Rattle.fc_spec.specs.replies.Restored as definition;
 ghost use Rattle.fc_spec.specs.replies.Tops.{top_keys};
 ghost use Rattle.fc_base.specs.View.{val_view};
 ghost use Rattle.fc_facet.specs.KindView.{terms_view};
-ghost use Rattle.fc_reply.specs.ReplyView.{bucket_view, buckets_view, facet_view, facets_view, part_over, parts_over};
+ghost use Rattle.fc_reply.specs.ReplyView.{bucket_view, buckets_view, facet_view, facets_view, part_over, parts_over, row_body};
 ghost use Rattle.fc_replaced.specs.Fronts.{first_bucket, row_if};
 ghost use Rattle.fc_replaced.specs.TopsView.{vals_view};
 
@@ -127,15 +127,16 @@ fn missing_bucket(
     }
 }
 
-/// Takes the facets of an exact facet's buckets, where these are its top values, and gives the row of these buckets.
+/// Takes the facets of an exact facet's buckets, where these are its top values, and gives the row of these buckets; their
+/// number is not printed.
 pub(crate) fn row(
     alloc: Global,
     terms: &Terms,
     vals: &[Val],
     left: &mut VecDeque<ReplyFacet>,
 ) -> Result<ReplyBuckets, WantMemory>
-    ensures row { IfOk result (λ row. buckets_view row ≡ definition.row_from (terms_view terms.now)
-        (top_keys (terms_view terms.now) (vals_view vals.now)) (facets_view left.old.items)) }
+    ensures row { IfOk result (λ row. buckets_view row ≡ row_body None (definition.row_from (terms_view terms.now)
+        (top_keys (terms_view terms.now) (vals_view vals.now)) (facets_view left.old.items))) }
     ensures left { OnOk result (facets_view left.new.items ≡ definition.after_keys
         (top_keys (terms_view terms.now) (vals_view vals.now)) (facets_view left.old.items)) }
 {
@@ -147,5 +148,6 @@ pub(crate) fn row(
         before: None,
         between: None,
         after: None,
+        number: None,
     })
 }

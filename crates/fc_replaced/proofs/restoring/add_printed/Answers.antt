@@ -5,7 +5,7 @@ use Rattle.fc_spec.specs.replies.Tops.{lists_after}
 use Rattle.fc_request.specs.NodeView.{node_view}
 use Rattle.fc_replaced.specs.ExactParts.{is_exact}
 use Rattle.fc_replaced.specs.Fronts.{facet_over}
-use Rattle.fc_replaced.proofs.Facets.{facets_over-pushed}
+use Rattle.fc_reply.proofs.ReplyViews.{facets_over-pushed}
 use Rattle.fc_replaced.proofs.restoring.add_printed.Goals as goal
 
 pub returns-in_ok-push-in-Some : goal.returns-in_ok-push-in-Some
