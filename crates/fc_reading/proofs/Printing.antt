@@ -11,7 +11,8 @@ use Rattle.fc_facet.specs.declared.kind.Kind.TheVariants as k
 use Rattle.fc_request.specs.declared.node.Node.{Node, out-Node}
 use Rattle.fc_request.specs.NodeView.{node_view, inner_view}
 use Rattle.fc_request.specs.FacetNode.{has_buckets, kind_of, facet_view}
-use Rattle.fc_reading.specs.Tree.{node_before, one_more_if, statistics_after, inside, facet_over}
+use Rattle.fc_reply.specs.ReplyView.{facet_over}
+use Rattle.fc_reading.specs.Tree.{node_before, one_more_if, statistics_after, inside}
 use Rattle.fc_request.proofs.Nodes.{facet_is, facet_is_no_statistic, statistic_is, statistic_of}
 
 module _ {B D : Type 0} (R : Reading B D) (H : List ℕ) (X : B) (n : Node) (at m : ℕ) (rest : Nodes) where

@@ -12,9 +12,9 @@ use Rattle.fc_spec.specs.replies.Reading.{Reading}
 use Rattle.fc_request.specs.NodeView.{Part}
 use Rattle.fc_reply.specs.declared.reply.ReplyFacet.{ReplyFacet}
 use Rattle.fc_reply.specs.declared.reply.ReplyBucket.{ReplyBucket}
-use Rattle.fc_reply.specs.ReplyView.{facet_view, facets_over, bucket_view}
+use Rattle.fc_reply.specs.ReplyView.{facet_view, facets_over, bucket_view, facet_over}
 use Rattle.fc_refine.specs.CountableRanges.{AreCountable}
-use Rattle.fc_reading.specs.Tree.{facet_over, HasValue, node_before, one_more_if, statistics_after}
+use Rattle.fc_reading.specs.Tree.{HasValue, node_before, one_more_if, statistics_after}
 use Rattle.fc_reading.proofs.Rows.{facets_more}
 
 -- ---- what is left of a list

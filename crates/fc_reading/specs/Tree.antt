@@ -20,11 +20,6 @@ count_in R H X = R.count_on H X
 abbrev pub inside : {B D : Type 0} → Reading B D → Nodes → List ℕ → B → Facets
 inside R inner H X = dist_facets R inner 0 0 H X
 
--- a facet before others, where it is there
-abbrev pub facet_over : Option (Facets → Facets) → Facets → Facets
-facet_over None more = more
-facet_over (Some put) more = put more
-
 -- what a facet prints, before others
 abbrev pub put_printed : {B H : Type 0} → (List ℕ → H → ℕ) → (List ℕ → H → Facets) → (B → H) → Text → Printed B → Facets → Facets
 put_printed count inside held name (Many ps) more = many name (row_with count inside (parts_view held ps)) more

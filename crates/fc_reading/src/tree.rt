@@ -10,14 +10,14 @@ ghost use Rattle.fc_spec.specs.words.Lists.{is_empty};
 ghost use Rattle.fc_spec.specs.replies.Reply as reply;
 ghost use Rattle.fc_partial.specs.StatsView.{stats_view};
 ghost use Rattle.fc_partial.specs.View.{stat_value_view};
-ghost use Rattle.fc_reply.specs.ReplyView.{body_view, bucket_view, buckets_view, facet_view as printed_facet_view, facets_view, row_body};
+ghost use Rattle.fc_reply.specs.ReplyView.{body_view, bucket_view, buckets_view, facet_over, facet_view as printed_facet_view, facets_view, row_body};
 ghost use Rattle.fc_request.specs.NodeStatistics.{statistic_of_node};
 ghost use Rattle.fc_request.specs.NodeView.{inner_view, node_view};
 ghost use Rattle.fc_request.specs.FacetNode.{facet_view, has_buckets, kind_of, kind_view};
 ghost use Rattle.fc_refine.specs.CountableRanges.{AreCountable, IsCountable};
 ghost use Rattle.fc_reading.specs.Distinct.{AreDistinct};
 ghost use Rattle.fc_reading.specs.Parts.{AreCounted, bucket_with, IsCounted, part_view, parts_view, row_with};
-ghost use Rattle.fc_reading.specs.Tree.{AreCountedIn, count_in, facet_over, HasValue, inside, node_before, put_printed, statistics_after};
+ghost use Rattle.fc_reading.specs.Tree.{AreCountedIn, count_in, HasValue, inside, node_before, put_printed, statistics_after};
 
 use crate::BucketReading;
 use crate::kinds::printed;

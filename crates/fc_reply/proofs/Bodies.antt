@@ -6,21 +6,14 @@ use Rattle.fc_spec.specs.documents.Val.{Text}
 use Rattle.fc_spec.specs.replies.Reply as definition
 use Rattle.fc_spec.specs.replies.Json.{put_facets}
 use Rattle.fc_reply.specs.declared.reply.ReplyBody.{ReplyBody, out-ReplyBody}
-use Rattle.fc_reply.specs.declared.reply.ReplyBody.TheFolds.{fold_out-ReplyBody, map-ReplyBody}
-use Rattle.fc_reply.specs.declared.reply.ReplyBody.TheOpen.{ReplyBody-F, Number, Many, One}
+use Rattle.fc_reply.specs.declared.reply.ReplyBody.TheOpen.{Number, Many, One}
 use Rattle.fc_reply.specs.declared.reply.ReplyBucket.{ReplyBucket, out-ReplyBucket}
 use Rattle.fc_reply.specs.declared.reply.ReplyBuckets.{ReplyBuckets, out-ReplyBuckets}
 use Rattle.fc_reply.specs.declared.reply.ReplyFacet.{ReplyFacet, out-ReplyFacet}
 use Rattle.fc_reply.specs.declared.slots.Slot.TheVariants.{Facet}
-use Rattle.fc_reply.specs.ReplyView.{PutBody, PutFacet, body_step, bucket_step, buckets_step, facet_step, bucket_view, facet_view, body_view, buckets_view, facets_view, row_body, row_view}
+use Rattle.fc_reply.specs.ReplyView.{PutBody, facet_view, body_view, buckets_view, facets_view, row_body, row_view}
 use Rattle.fc_reply.specs.Slots.{body_data, facet_data, slot_data}
-use Rattle.fc_reply.proofs.ReplyViews.{view_of_buckets, view_of_facet}
-
-abbrev Open : Type 0
-Open = ReplyBody-F ReplyBody ReplyBucket ReplyBuckets ReplyFacet
-
-abbrev seen : Open → PutBody
-seen x = body_step (map-ReplyBody ReplyBody ReplyBucket ReplyBuckets ReplyFacet PutBody definition.Bucket PutBody PutFacet body_view bucket_view buckets_view facet_view x)
+use Rattle.fc_reply.proofs.ReplyViews.{Open, seen, view_of_body, view_of_buckets, view_of_facet}
 
 -- a facet with this body puts this at its name, before the facets after it
 abbrev IsBody : Data → PutBody → Type 0
@@ -40,8 +33,7 @@ seen_puts (One b) = λ name more ms. refl
 
 body_puts : (r : ReplyBody) → IsBody (body_data (body_view r)) (body_view r)
 body_puts r =
-    subst (λ (b : PutBody). IsBody (body_data b) b)
-    (sym (fold_out-ReplyBody PutBody definition.Bucket PutBody PutFacet body_step bucket_step buckets_step facet_step r)) (seen_puts (out-ReplyBody r))
+    subst (λ (b : PutBody). IsBody (body_data b) b) (sym (view_of_body r)) (seen_puts (out-ReplyBody r))
 
 -- a facet puts its data at its name, before the facets after it
 pub facet_puts : (f : ReplyFacet) (more : definition.Facets) (ms : Members)

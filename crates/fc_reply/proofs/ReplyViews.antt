@@ -4,9 +4,9 @@ use Rattle.fc_spec.specs.documents.Val.{Text}
 use Rattle.fc_spec.specs.replies.Reply as definition
 use Rattle.fc_base.specs.View.{val_view}
 use Rattle.fc_reply.specs.declared.reply.ReplyBody as reply
-use Rattle.fc_reply.specs.declared.reply.ReplyBody.{ReplyBody, Number, Many, One}
-use Rattle.fc_reply.specs.declared.reply.ReplyBody.TheFolds.{fold-roll-ReplyBody, fold-roll-ReplyBucket, fold-roll-ReplyBuckets, fold-roll-ReplyFacet, fold_out-ReplyBucket, fold_out-ReplyBuckets, fold_out-ReplyFacet, map-ReplyBuckets}
-use Rattle.fc_reply.specs.declared.reply.ReplyBody.TheOpen.{ReplyBucket-F, ReplyBuckets-F, ReplyFacet-F}
+use Rattle.fc_reply.specs.declared.reply.ReplyBody.{ReplyBody, Number, Many, One, out-ReplyBody}
+use Rattle.fc_reply.specs.declared.reply.ReplyBody.TheFolds.{fold-roll-ReplyBody, fold-roll-ReplyBucket, fold-roll-ReplyBuckets, fold-roll-ReplyFacet, fold_out-ReplyBody, fold_out-ReplyBucket, fold_out-ReplyBuckets, fold_out-ReplyFacet, map-ReplyBody, map-ReplyBuckets}
+use Rattle.fc_reply.specs.declared.reply.ReplyBody.TheOpen.{ReplyBody-F, ReplyBucket-F, ReplyBuckets-F, ReplyFacet-F}
 use Rattle.fc_reply.specs.declared.reply.ReplyBody.TheOpen as opened
 use Rattle.fc_reply.specs.declared.reply.ReplyBody.TheShapes.{former-ReplyBuckets-missing}
 use Rattle.fc_reply.specs.declared.reply.ReplyBucket.{ReplyBucket, out-ReplyBucket, roll-ReplyBucket}
@@ -60,6 +60,17 @@ view_of_facet f more = ap (λ (put : PutFacet). put more) (fold_out-ReplyFacet P
 
 pub view_of_made_facet : (x : ReplyFacet-F ReplyBody ReplyBucket ReplyBuckets ReplyFacet) (more : definition.Facets) → facet_view (roll-ReplyFacet x) more ≡ body_view x.body x.name more
 view_of_made_facet x more = ap (λ (put : PutFacet). put more) (fold-roll-ReplyFacet PutBody definition.Bucket PutBody PutFacet body_step bucket_step buckets_step facet_step x)
+
+-- ---- a body, as it is read and as it is made
+
+abbrev pub Open : Type 0
+Open = ReplyBody-F ReplyBody ReplyBucket ReplyBuckets ReplyFacet
+
+abbrev pub seen : Open → PutBody
+seen x = body_step (map-ReplyBody ReplyBody ReplyBucket ReplyBuckets ReplyFacet PutBody definition.Bucket PutBody PutFacet body_view bucket_view buckets_view facet_view x)
+
+pub view_of_body : (r : ReplyBody) → body_view r ≡ seen (out-ReplyBody r)
+view_of_body r = fold_out-ReplyBody PutBody definition.Bucket PutBody PutFacet body_step bucket_step buckets_step facet_step r
 
 pub view_of_number : (n : ℤ) (name : Text) (more : definition.Facets) → body_view (Number n) name more ≡ definition.number name n more
 unfolding reply.roll-ReplyBody denote.Hole.Carrier.roll

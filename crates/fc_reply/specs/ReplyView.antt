@@ -24,6 +24,11 @@ abbrev pub facets_over : List PutFacet → definition.Facets → definition.Face
 facets_over [] more = more
 facets_over (f ∷ fs) more = f (facets_over fs more)
 
+-- a facet before others, where it is there
+abbrev pub facet_over : Option PutFacet → definition.Facets → definition.Facets
+facet_over None more = more
+facet_over (Some put) more = put more
+
 -- buckets of one spot before others
 abbrev pub parts_over : definition.Spot → List definition.Bucket → definition.Row → definition.Row
 parts_over spot [] more = more

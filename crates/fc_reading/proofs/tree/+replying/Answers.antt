@@ -12,12 +12,12 @@ use Rattle.fc_request.specs.FacetNode.{facet_view as asked_facet, kind_of, kind_
 use Rattle.fc_refine.specs.CountableRanges.{AreCountable}
 use Rattle.fc_partial.specs.StatsView.{stats_view}
 use Rattle.fc_reply.proofs.ReplyViews.{view_of_made_buckets, view_of_made_facet}
-use Rattle.fc_reply.specs.ReplyView.{body_view, bucket_view, facet_view, facets_over, row_body}
+use Rattle.fc_reply.specs.ReplyView.{body_view, bucket_view, facet_over, facet_view, facets_over, row_body}
 use Rattle.fc_request.specs.NodeStatistics.{statistic_of_node}
 use Rattle.fc_request.specs.NodeView.{inner_view, node_view, nodes_view}
 use Rattle.fc_request.specs.declared.node.Node.{out-Node}
 use Rattle.fc_reading.specs.Parts.{bucket_with, IsCounted, part_view}
-use Rattle.fc_reading.specs.Tree.{count_in, facet_over, inside, node_before, statistics_after}
+use Rattle.fc_reading.specs.Tree.{count_in, inside, node_before, statistics_after}
 use Rattle.fc_reading.proofs.Sizes.{node_total, single_below, left_below}
 use Rattle.fc_reading.proofs.Rows.{put_as_defined, row_of_parts}
 use Rattle.fc_reading.proofs.Printing.{facet_prints, statistic_prints}

@@ -1,0 +1,4 @@
+pub mod Asked
+pub mod Sizes
+pub mod Rows
+pub mod Unasked
