@@ -1,8 +1,8 @@
 -- Fewer nodes are left, and fewer are nested.
-use Rattle.std.proofs.Common.{◌≡◌, ℕ, ◌+◌, ◌-◌, ◌≤◌, ◌==◌, List, [], ◌∷◌, length, refl, Bool, true, false, cond, ◌&&◌, arith}
+use Rattle.std.proofs.Common.{◌≡◌, ◌+◌, ◌-◌, ◌≤◌, ◌==◌, List, [], ◌∷◌, length, refl, Bool, true, false, cond, ◌&&◌, arith}
 use Rattle.std.proofs.lemmas.Bool.{eqb-false}
 use Rattle.fc_spec.specs.words.Lists.{is_empty}
-use Rattle.fc_spec.specs.requests.Request.{Facet, Nodes, no_nodes, statistic, facet}
+use Rattle.fc_spec.specs.requests.Request.{Nodes, no_nodes, statistic, facet}
 use Rattle.fc_spec.specs.requests.RequestReading.{of_statistic, of_facet, with_node}
 use Rattle.fc_spec.specs.replies.Folded.{from_printed, inner_of, rest_of}
 use Rattle.fc_request.specs.declared.node.Node.{Node}

@@ -1,5 +1,5 @@
 -- What is printed of the first facet of a reply, with what it shows and the nodes nested in it at hand.
-use Rattle.std.specs.Prelude.{ℕ, Bool, true, false, not, ◌&&◌, Option, None, Some}
+use Rattle.std.specs.Prelude.{ℕ, Bool, true, false, not, ◌&&◌, Option}
 use Rattle.fc_spec.specs.words.Lists.{is_empty}
 use Rattle.fc_spec.specs.requests.Request.{Show, number_beside, Nodes}
 use Rattle.fc_spec.specs.requests.RequestReading.{of_statistic, of_facet}

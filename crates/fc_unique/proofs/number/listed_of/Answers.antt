@@ -1,8 +1,7 @@
-use Rattle.std.proofs.Common.{◌≡◌, ◌∙◌, ℕ, Option, None, Some, ap, sym}
+use Rattle.std.proofs.Common.{◌∙◌, Some, ap, sym}
 use Rattle.fc_spec.specs.requests.Request.{number_beside}
 use Rattle.fc_spec.specs.replies.Folded.{number_for}
 use Rattle.fc_reply.specs.declared.reply.ReplyBody.{ReplyBody}
-use Rattle.fc_reply.specs.declared.reply.ReplyBuckets.{out-ReplyBuckets}
 use Rattle.fc_reply.specs.declared.reply.ReplyFacet.{out-ReplyFacet}
 use Rattle.fc_reply.specs.ReplyView.{PutBody, body_view, row_body, row_view}
 use Rattle.fc_reply.proofs.ReplyViews.{view_of_buckets, view_of_facet, view_of_many}

@@ -1,4 +1,4 @@
-use Rattle.std.proofs.Common.{◌≡◌, ◌≤◌, ◌-◌, ℕ, sym, subst}
+use Rattle.std.proofs.Common.{◌≤◌, ◌-◌, sym, subst}
 use Rattle.fc_spec.specs.requests.Request.{Nodes}
 use Rattle.fc_request.specs.NodeView.{nodes_view}
 use Rattle.fc_unique.specs.Sizes.{node_total}
