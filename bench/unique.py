@@ -80,21 +80,25 @@ def reply_of(asked, documents):
     return (counting.ordered({"facets": facets, "generations": [1] * SHARDS, "session": "demo"}) + "\n").encode("utf-8")
 
 
-def seconds_of(options, folder, whole, asked, reply):
-    """Of one more search: the difference between one and some, each the least of several runs."""
-    more = max(options.searches // 20, 1) if asked.field == "id" or asked.around else options.searches
-    one, many = (kinds.least(options, Case(folder, whole, request_of(asked), count, reply)).seconds for count in (1, 1 + more))
-    return (many - one) / more
+def more_of(options, asked):
+    """Over how many more searches one is timed: a dear one over few, one of brands over many."""
+    if asked.field == "id":
+        return max(options.searches // 40, 1)
+    return max(options.searches // 4, 1) if asked.around else options.searches * (10 if asked.field == "brand" else 1)
 
 
-def rows(options, whole, documents):
-    steps, seconds = kinds.Steps(len(SEARCHED)), {}
+def seconds_of(options, folder, whole, documents):
+    """Of one more search of each kind: the difference between one and some, each the least of several runs, which take turns."""
+    cases = {}
     for asked in SEARCHED:
-        steps.say(text_of(asked))
-        with tempfile.TemporaryDirectory() as folder:
-            seconds[asked] = seconds_of(options, folder, whole, asked, reply_of(asked, documents))
-    for pair in PAIRS:
-        yield row(pair, seconds[pair.asked], seconds[pair.beside])
+        reply = reply_of(asked, documents)
+        cases[asked] = [Case(folder, whole, request_of(asked), count, reply) for count in (1, 1 + more_of(options, asked))]
+    for number in range(options.runs):
+        for asked, both in cases.items():
+            print(f"run {number + 1} of {options.runs}: {text_of(asked)}", file=sys.stderr, flush=True)
+            for case in both:
+                case.run(options.program)
+    return {asked: (many.least.seconds - one.least.seconds) / more_of(options, asked) for asked, (one, many) in cases.items()}
 
 
 def row(pair, seconds, beside):
@@ -121,15 +125,16 @@ def main():
     words.add_argument("--program", default=os.path.join(run.TOP, "crates", "fc_main", "out", "fc_main"))
     words.add_argument("--documents", type=int, default=200_000)
     words.add_argument("--runs", type=int, default=3, help="each figure is the least of so many runs")
-    words.add_argument("--searches", type=int, default=200, help="a search is timed over so many, a dear one over a twentieth")
+    words.add_argument("--searches", type=int, default=200, help="one search is timed over so many, of brands over ten times as many, a dear one over few")
     words.add_argument("--sent", action="store_true", help="tell what is sent too, by the book, which is made first: that takes minutes")
     words.add_argument("--book", default=os.path.join(run.TOP, "tools", "book"), help="what tells what is sent (default: tools/book)")
     options = words.parse_args()
     documents = [document(i) for i in range(options.documents)]
     whole = run.opening(options.documents, SHARDS, None, fields=FIELDS, made=document)
     print("| What | Measured | Beside it | Ratio | Target |\n|---|---|---|---|---|")
-    for line in rows(options, whole, documents):
-        print(line, flush=True)
+    with tempfile.TemporaryDirectory() as folder:
+        seconds = seconds_of(options, folder, whole, documents)
+    print("\n".join(row(pair, seconds[pair.asked], seconds[pair.beside]) for pair in PAIRS))
     if options.sent:
         print("what is sent", file=sys.stderr, flush=True)
         print("\n| Search | Rounds | Bytes of all shards |\n|---|---|---|")
