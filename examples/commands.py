@@ -33,6 +33,7 @@ NOT_RUN = (
     ("bench/run.py --inside", "measures for some minutes", "bench/run.py --inside --documents 200 --runs 1 --searches 1"),
     ("bench/kinds.py", "measures for some minutes", "bench/kinds.py --documents 1000 --runs 1 --searches 1"),
     ("bench/dates.py", "measures for some minutes", "bench/dates.py --documents 1000 --runs 1 --searches 1"),
+    ("bench/unique.py", "measures for some minutes", "bench/unique.py --documents 1000 --runs 1 --searches 1"),
     ("bench/threads.py", "measures for some minutes", "bench/threads.py --documents 2000 --phases 50 --runs 1 --searches 4"),
     ("bench/cliffs.py", "measures for some minutes", "bench/cliffs.py --only faulty-requests small-commits --runs 1"),
     ("bench/lanes.py", "proves a program where this machine has not kept it, and measures: some minutes", "bench/lanes.py --help"),
